@@ -1,0 +1,7 @@
+-- The laws of lists of octets that the layers above cite.
+pub mod Bounds
+pub mod Every
+pub mod Only
+pub mod Rest
+pub mod Stores
+pub mod Words

@@ -1,0 +1,55 @@
+-- A word looked for in a list that a loop goes through by an index i, and the last one of a list. Assumes nothing.
+use mathlib.Core.Path.{_≡_, refl}
+use mathlib.Core.Bool.{Bool, true, false}
+use mathlib.Core.List.{List, [], _∷_}
+use Prim.Native.Nat.{ℕ, zero, suc, _+_, _-_, _<_, _≤_}
+use native.Mathlib.Nat.{le-of-suc-le-suc, not-suc-le-zero}
+use native.Mathlib.Omega.{arith}
+use borrow.Author.Tests.{eq-eqb, ne-eqb}
+use lib.ListN.{length, getD, drop, drop-of-length-le}
+use Rattle.octets.specs.Octets.{holds, lastOf}
+use Rattle.octets.proofs.Rest.{rest}
+
+pub true-not-false : true ≡ false → ⊥
+true-not-false e = let z : _≡_ {A = ℕ} 0 1 = cc in omega arith
+
+module _ (x : ℕ) (s : List ℕ) (i : ℕ) {w : Bool} (v : holds x (drop i s) ≡ w) where
+  pub holds-here : i < length s → getD s i 0 ≡ x → true ≡ w
+  unfolding holds
+  holds-here h e = rw (rest s i h, eq-eqb (getD s i 0) x e) at v
+
+  pub holds-more : i < length s → (getD s i 0 ≡ x → ⊥) → holds x (drop (i + 1) s) ≡ w
+  unfolding holds
+  holds-more h n = rw (rest s i h, ne-eqb (getD s i 0) x n) at v
+
+  pub holds-done : length s ≤ i → false ≡ w
+  unfolding holds
+  holds-done h = rw (drop-of-length-le s h) at v
+
+module _ (x y : ℕ) (ys : List ℕ) (h : holds x (y ∷ ys) ≡ false) where
+  pub holds-head : y ≡ x → ⊥
+  unfolding holds
+  holds-head e = true-not-false (rw (eq-eqb y x e) at h)
+
+  pub holds-tail : holds x ys ≡ false
+  unfolding holds
+  holds-tail = rw (ne-eqb y x holds-head) at h
+
+pub holds-not : (x y : ℕ) (ys : List ℕ) → (y ≡ x → ⊥) → holds x ys ≡ false → holds x (y ∷ ys) ≡ false
+unfolding holds
+holds-not x y ys n h = rw (ne-eqb y x n) h
+
+-- what a list does not hold stands at none of its places
+pub holds-nowhere : (x : ℕ) (s : List ℕ) → holds x s ≡ false → (i : ℕ) → i < length s → getD s i 0 ≡ x → ⊥
+holds-nowhere x [] h i b e = absurd (not-suc-le-zero b)
+holds-nowhere x (y ∷ ys) h zero b e = holds-head x y ys h e
+holds-nowhere x (y ∷ ys) h (suc i) b e = holds-nowhere x ys (holds-tail x y ys h) i (le-of-suc-le-suc b) e
+
+pub last-cons : (d x : ℕ) (xs : List ℕ) (e : ℕ) → lastOf d (x ∷ xs) ≡ getD (x ∷ xs) (length xs) e
+unfolding lastOf
+last-cons d x [] e = refl
+last-cons d x (y ∷ ys) e = last-cons x y ys e
+
+pub last-at : (d : ℕ) (s : List ℕ) (e : ℕ) → 0 < length s → lastOf d s ≡ getD s (length s - 1) e
+last-at d [] e h = absurd (not-suc-le-zero h)
+last-at d (x ∷ xs) e h = let n : suc (length xs) - 1 ≡ length xs = omega arith in rw n (last-cons d x xs e)

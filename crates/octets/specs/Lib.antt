@@ -1,0 +1,2 @@
+-- What the other crates cite of lists of octets.
+pub mod Octets

@@ -1,0 +1,75 @@
+-- What a call answers, in the words of 01: what is asked for, or the number alone.
+--   gives a           == the call does what it is asked, and a is what it gives
+--   refuses k         == the number k for "no"
+--   k when t          == a row of the table of numbers: k is to be given where t holds
+--   answered rows a   == the number of the first row that holds, in the order of the rows; where none does, a
+--   Given k rows      == the row of k holds, and none before it
+--   Clear rows        == no row holds
+--   handedOut b room  == the octets b, into a lent output of so many octets
+--   Hands x o r o'    == the code's answer r, and the output o' that was o, are the answer x
+-- Assumes nothing.
+use mathlib.Core.Path.{_≡_}
+use mathlib.Core.Bool.{Bool, true, false, cond}
+use mathlib.Core.List.{List, [], _∷_}
+use Prim.Native.Nat.{ℕ}
+use lib.Dec.{ltb, eqb}
+use lib.ListN.{length}
+use Rattle.octets.specs.Octets.{holds, _atStartOf_}
+use Rattle.refusal.specs.Numbers.{numberOf}
+use Rattle.refusal.specs.declared.Handed.{Handed}
+use Rattle.refusal.specs.declared.Handed.the-variants.{Octets, Refused}
+
+infix 70 _when_
+pub data Answer (A : Type 0) : Type 0 where
+  gives : A → Answer A
+  refuses : ℕ → Answer A
+
+pub data Row : Type 0 where
+  _when_ : ℕ → Bool → Row
+
+-- 01: "Each is given exactly then", and the order in which a call tests
+unfoldable pub answered : {A : Type 0} → List Row → A → Answer A
+answered [] a = gives a
+answered (k when t ∷ rows) a = cond t (refuses k) (answered rows a)
+
+unfoldable pub Given : ℕ → List Row → Type 0
+Given k [] = ⊥
+Given k (n when t ∷ rows) = cond (eqb n k) (t ≡ true) ((t ≡ false) × Given k rows)
+
+unfoldable pub Clear : List Row → Type 0
+Clear [] = Unit {0}
+Clear (n when t ∷ rows) = (t ≡ false) × Clear rows
+
+-- the numbers of the rows, and that no two are the same
+unfoldable pub numbersOf : List Row → List ℕ
+numbersOf [] = []
+numbersOf (n when t ∷ rows) = n ∷ numbersOf rows
+
+unfoldable pub apart : List ℕ → Bool
+apart [] = true
+apart (n ∷ ns) = cond (holds n ns) false (apart ns)
+
+-- 01: "refusal 5 if it is shorter than they are"
+abbrev pub roomRow : List ℕ → ℕ → Row
+roomRow b room = 5 when ltb room (length b)
+
+unfoldable pub handedOut : List ℕ → ℕ → Answer (List ℕ)
+handedOut b room = answered (roomRow b room ∷ []) b
+
+-- the paper's number, or how many octets, for each case of the code's answer
+unfoldable pub answerOf : Handed → Answer ℕ
+answerOf (Octets n) = gives n
+answerOf (Refused r) = refuses (numberOf r)
+
+unfoldable pub counted : Answer (List ℕ) → Answer ℕ
+counted (gives b) = gives (length b)
+counted (refuses k) = refuses k
+
+-- 01: "at the start of the lent output, the rest unchanged"; a refusal: "every octet lent stay as they were"
+unfoldable pub outAfter : Answer (List ℕ) → List ℕ → List ℕ
+outAfter (gives b) o = b atStartOf o
+outAfter (refuses k) o = o
+
+pub record Hands (right : Answer (List ℕ)) (o : List ℕ) (r : Handed) (o' : List ℕ) : Type 0 where
+  pub answer : answerOf r ≡ counted right
+  pub octets : o' ≡ outAfter right o
