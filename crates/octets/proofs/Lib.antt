@@ -3,5 +3,6 @@ pub mod Bounds
 pub mod Every
 pub mod Only
 pub mod Rest
+pub mod Runs
 pub mod Stores
 pub mod Words

@@ -1,6 +1,7 @@
 -- What a promise by `Hands` is shown from, and what its caller learns. Assumes nothing.
 use mathlib.Core.Path.{_≡_, refl, sym, ap, _∙_}
-use mathlib.Core.List.{List}
+use mathlib.Core.Bool.{Bool, true, false}
+use mathlib.Core.List.{List, [], _∷_}
 use Prim.Native.Nat.{ℕ, _<_, _≤_}
 use native.Mathlib.Omega.{arith}
 use borrow.Author.Tests.{lt-ltb, le-ltb}
@@ -9,7 +10,8 @@ use lib.Seq.{sets}
 use Rattle.octets.specs.Octets.{_atStartOf_}
 use Rattle.octets.proofs.Stores.{sets-start, take-start}
 use Rattle.refusal.specs.Numbers.{numberOf}
-use Rattle.refusal.specs.Answer.{Answer, gives, refuses, answered, handedOut, answerOf, counted, outAfter, Hands}
+use Rattle.refusal.specs.Answer.{Answer, gives, refuses, Row, _when_, answered, handedOut}
+use Rattle.refusal.specs.Answer.{answerOf, counted, outAfter, Hands}
 use Rattle.refusal.specs.declared.Refusal.{Refusal}
 use Rattle.refusal.specs.declared.Handed.{Handed}
 use Rattle.refusal.specs.declared.Handed.the-variants.{Octets, Refused}
@@ -69,3 +71,14 @@ module _ (b : List ℕ) (room : ℕ) where
   pub in-room : length b ≤ room → handedOut b room ≡ gives b
   unfolding handedOut answered
   in-room h = simp (le-ltb room (length b) h)
+
+module _ {A : Type 0} (k : ℕ) (rows : List Row) (a : A) {t : Bool} where
+  -- the first row holds
+  pub answered-here : t ≡ true → answered (k when t ∷ rows) a ≡ refuses k
+  unfolding answered
+  answered-here e = rw e
+
+  -- the first row does not hold
+  pub answered-later : t ≡ false → answered (k when t ∷ rows) a ≡ answered rows a
+  unfolding answered
+  answered-later e = rw e
