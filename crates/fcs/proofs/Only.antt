@@ -5,7 +5,8 @@ use Prim.Native.Nat.{ℕ}
 use Rattle.octets.proofs.Only.{only}
 use Rattle.fcs.specs.Check.{registerAfter, checkOf}
 
-pub go-on-only : (register : ℕ) (s : List ℕ) {r q : ℕ} → r ≡ registerAfter register s → q ≡ registerAfter register s → r ≡ q
+pub go-on-only : (register : ℕ) (s : List ℕ) {r q : ℕ}
+    → r ≡ registerAfter register s → q ≡ registerAfter register s → r ≡ q
 go-on-only register s = only
 
 pub check-only : (s : List ℕ) {r q : ℕ} → r ≡ checkOf s → q ≡ checkOf s → r ≡ q

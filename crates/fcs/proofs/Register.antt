@@ -1,4 +1,5 @@
--- The register through a list of octets: one more, the end, two lists, and that it stays below 2 ^ 16. Assumes nothing.
+-- The register through a list of octets: one more, the end, two lists, and that it stays below 2 ^ 16.
+-- Assumes nothing.
 use mathlib.Core.Path.{_≡_, refl, sym, ap, _∙_}
 use mathlib.Core.List.{List, [], _∷_, _++_}
 use Prim.Native.Nat.{ℕ, zero, suc, _+_, _*_, _/_, _%_, _^_, _<_, _≤_}
@@ -8,13 +9,13 @@ use lib.Dec.{lit<}
 use lib.ListN.{length, getD, drop, drop-of-length-le}
 use Rattle.octets.specs.Octets.{Octets, lowOf, highOf}
 use Rattle.octets.proofs.Rest.{rest}
-use Rattle.fcs.specs.Check.{polynomial, bitStep, bitSteps, octetStep, registerAfter, checkOf}
+use Rattle.fcs.specs.Check.{polynomial, bitStep, bitSteps, octetStep, registerAfter, checkOf, Remainders}
 use Rattle.fcs.proofs.Rule.{by-entry}
-use Rattle.fcs.specs.Check.{Remainders}
 
 -- a loop that goes through s by i: one octet more, and the end
 pub register-more : (t s : List ℕ) (i r : ℕ) {w : ℕ} → Remainders 8 t → i < length s → registerAfter r (drop i s) ≡ w
-    → registerAfter (bitXor (bitXor r (getD s i 0) / 256) (getD t (bitXor r (getD s i 0) % 256) 0)) (drop (i + 1) s) ≡ w
+    → registerAfter (bitXor (bitXor r (getD s i 0) / 256) (getD t (bitXor r (getD s i 0) % 256) 0)) (drop (i + 1) s)
+    ≡ w
 unfolding registerAfter octetStep
 register-more t s i r m h v =
     rw (by-entry 8 t m (bitXor r (getD s i 0))) (sym (ap (registerAfter r) (rest s i h)) ∙ v)

@@ -1,5 +1,5 @@
--- The good-frame residue of RFC 1662: after any octets and two more, the register is 0xF0B8 exactly if these two are the
--- check of the others, low one first. Assumes nothing.
+-- The good-frame residue of RFC 1662: after any octets and two more, the register is 0xF0B8 exactly if these two are
+-- the check of the others, low one first. Assumes nothing.
 use mathlib.Core.Path.{_≡_, refl, sym, ap, ap₂, _∙_}
 use mathlib.Core.List.{List, [], _∷_, _++_}
 use mathlib.Core.Logic.{_↔_}
@@ -57,7 +57,8 @@ unfolding bitSteps bitStep
 all-ones = refl
 
 module _ (s : List ℕ) (low high : ℕ) (os : Octets s) (l : low < 256) (h : high < 256) where
-  after-two : registerAfter 0xFFFF (s ++ low ∷ high ∷ []) ≡ bitSteps 16 (bitXor (registerAfter 0xFFFF s) (pairOf low high))
+  after-two : registerAfter 0xFFFF (s ++ low ∷ high ∷ [])
+      ≡ bitSteps 16 (bitXor (registerAfter 0xFFFF s) (pairOf low high))
   unfolding registerAfter
   after-two = register-append s (low ∷ high ∷ []) 0xFFFF ∙ two (registerAfter 0xFFFF s) low high l
 
@@ -69,7 +70,8 @@ module _ (s : List ℕ) (low high : ℕ) (os : Octets s) (l : low < 256) (h : hi
       xor-lt 16 r (pairOf low high) (register-lt s 0xFFFF (lit< tt) os) (omega arith) in (
         λ e.
             ap (bitXor r)
-            (sym (steps-apart 16 (bitXor r (pairOf low high)) 0xFFFF small (lit< tt) (sym after-two ∙ e ∙ sym all-ones)))
+            (sym
+            (steps-apart 16 (bitXor r (pairOf low high)) 0xFFFF small (lit< tt) (sym after-two ∙ e ∙ sym all-ones)))
             ∙ xor-cancel-left r (pairOf low high),
         λ e.
             after-two

@@ -23,6 +23,7 @@ rule k t n passed =
     (n, λ x h. eqb→eq (getD t x 0) (bitSteps k x) (at (right k) t passed x (rw n h)))
 
 -- k bits on: a shift, and the entry of the k low bits
-pub by-entry : (k : ℕ) (t : List ℕ) → Remainders k t → (x : ℕ) → bitXor (x / 2 ^ k) (getD t (x % 2 ^ k) 0) ≡ bitSteps k x
+pub by-entry : (k : ℕ) (t : List ℕ) → Remainders k t
+    → (x : ℕ) → bitXor (x / 2 ^ k) (getD t (x % 2 ^ k) 0) ≡ bitSteps k x
 unfolding Remainders
 by-entry k t r x = ap (bitXor (x / 2 ^ k)) (r .1 (x % 2 ^ k) (mod-lt x (pow-pos k))) ∙ sym (by-table k x)

@@ -1,5 +1,5 @@
--- The frame check: "the 16-bit one of ISO/IEC 13239 (also RFC 1662): x^16 + x^12 + x^5 + 1, least significant bit first,
--- start 0xFFFF, complemented", by bitwise polynomial division.
+-- The frame check: "the 16-bit one of ISO/IEC 13239 (also RFC 1662): x^16 + x^12 + x^5 + 1, least significant bit
+-- first, start 0xFFFF, complemented", by bitwise polynomial division.
 --   bitStep r         == the register one bit on; bitSteps k r == k bits on; octetStep r o == one octet on
 --   registerAfter r s == the register after the octets s, from r on
 --   checkOf s         == the check of the octets s

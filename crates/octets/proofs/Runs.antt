@@ -1,5 +1,5 @@
--- A run of stores: what is left to store, into the buffer as it is, comes to the same as all of it, into the buffer as it
--- was. The one relation for every loop that fills a buffer. Assumes nothing.
+-- A run of stores: what is left to store, into the buffer as it is, comes to the same as all of it, into the buffer
+-- as it was. The one relation for every loop that fills a buffer. Assumes nothing.
 use mathlib.Core.Path.{_≡_, refl, sym, ap, _∙_}
 use mathlib.Core.List.{List, [], _∷_, _++_}
 use Prim.Native.Nat.{ℕ, suc, _+_, _≤_}
@@ -26,6 +26,13 @@ run-one {o} {k = k} x s e r =
       count = omega (arith, r .count, ap length e);
       octets = rw (s, add-one) (sym (ap (sets o k) e) ∙ r .octets);
     }
+
+-- two are stored
+pub run-two : {o o' o'' o₀ xs ys xs₀ : List ℕ} {k k₀ : ℕ} (x y : ℕ)
+    → o' ≡ set o k x → o'' ≡ set o' (k + 1) y → xs ≡ x ∷ y ∷ ys → Run o k xs o₀ k₀ xs₀ → Run o'' (k + 2) ys o₀ k₀ xs₀
+run-two {k = k} x y s t e r =
+    let n : k + 1 + 1 ≡ k + 2 = omega arith in
+    rw n at (run-one y t refl (run-one x s e r))
 
 -- a list of them is stored
 pub run-some : {o o' o₀ xs ys xs₀ : List ℕ} {k k₀ q : ℕ} (vs : List ℕ)

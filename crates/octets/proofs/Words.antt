@@ -53,3 +53,8 @@ last-cons d x (y ∷ ys) e = last-cons x y ys e
 pub last-at : (d : ℕ) (s : List ℕ) (e : ℕ) → 0 < length s → lastOf d s ≡ getD s (length s - 1) e
 last-at d [] e h = absurd (not-suc-le-zero h)
 last-at d (x ∷ xs) e h = let n : suc (length xs) - 1 ≡ length xs = omega arith in rw n (last-cons d x xs e)
+
+pub last-empty : (d : ℕ) (s : List ℕ) → length s ≡ 0 → lastOf d s ≡ d
+unfolding lastOf
+last-empty d [] e = refl
+last-empty d (x ∷ xs) e = let none : ⊥ = omega (arith, e) in absurd none

@@ -1,5 +1,5 @@
--- `fcs::run` meets its promise: the octets that are left, from the register as it is, give what all gave from the start.
--- Assumes nothing.
+-- `fcs::run` meets its promise: the octets that are left, from the register as it is, give what all gave from the
+-- start. Assumes nothing.
 use borrow.Author.Needs.{needs}
 use mathlib.Core.Path.{_≡_}
 use Prim.Native.Nat.{_≤_, _-_}
