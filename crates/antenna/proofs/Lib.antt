@@ -1,0 +1,4 @@
+-- The laws of a drive that the layers above cite.
+pub mod Happenings
+pub mod Movements
+pub mod Only
