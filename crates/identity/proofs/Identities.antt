@@ -1,4 +1,4 @@
--- Which octets are an identity, and its padding: nothing is lost by it, since the last octet of an identity is no blank.
+-- Which octets are an identity, and its padding: nothing is lost by it, since the last octet is no blank.
 -- Assumes nothing.
 use mathlib.Core.Path.{_≡_, refl, sym, ap, _∙_}
 use mathlib.Core.Bool.{Bool, true, false, cond, not, _&&_, and-false, and-true, false≢true}

@@ -8,7 +8,8 @@ use Rattle.octets.proofs.Only.{only}
 use Rattle.identity.specs.Bits.{Bits, ones}
 use Rattle.identity.specs.Identity.{allowedIdentity, octetsOf}
 
-pub allowed-only : (identity : List ℕ) {r q : Bool} → r ≡ allowedIdentity identity → q ≡ allowedIdentity identity → r ≡ q
+pub allowed-only : (identity : List ℕ) {r q : Bool}
+    → r ≡ allowedIdentity identity → q ≡ allowedIdentity identity → r ≡ q
 allowed-only identity = only
 
 pub octets-of-only : (beginning : Bits) (bits : ℕ) {r q : List ℕ}

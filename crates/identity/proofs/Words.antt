@@ -1,4 +1,5 @@
--- Words of bits and rows of octets made of them: their size, their elements, and when two are the same. Assumes nothing.
+-- Words of bits and rows of octets made of them: their size, their elements, when two are the same.
+-- Assumes nothing.
 use mathlib.Core.Path.{_≡_, refl, sym, ap, ap₂, _∙_}
 use mathlib.Core.Bool.{Bool, true, false}
 use mathlib.Core.List.{List, [], _∷_, _++_, append-nil}
@@ -96,7 +97,8 @@ ones-take (suc n) zero h = absurd (omega arith)
 ones-take (suc n) (suc k) h = ap (λ (x : Bits). true ∷ x) (ones-take n k (omega arith))
 
 -- a bit of a beginning that is the first n of a row
-pub bit-in : (l : Bits) (n at : ℕ) (b : Bool) → at < n → getD l at false ≡ b → digit b ≡ digit (getD (take n l) at false)
+pub bit-in : (l : Bits) (n at : ℕ) (b : Bool) → at < n → getD l at false ≡ b
+    → digit b ≡ digit (getD (take n l) at false)
 bit-in l n at b h e = ap digit (sym e ∙ sym (getD-take n l at false h))
 
 pub bit-past : (l : Bits) (n at : ℕ) → n ≤ at → 0 ≡ digit (getD (take n l) at false)
