@@ -1,0 +1,8 @@
+-- The laws of identities and beginnings that the layers above cite.
+pub mod Words
+pub mod Packed
+pub mod Masks
+pub mod Orders
+pub mod Identities
+pub mod Scans
+pub mod Only

@@ -1,0 +1,69 @@
+-- Who the device is, and what a scan compares with it.
+--   vendor, leastSerial, mostSerial == how many octets the vendor and the serial number have
+--   width, depth       == the octets of a padded identity (19), and its bits (152)
+--   allowedIdentity i  == the octets i are an identity
+--   padded i           == i with 0x20 behind it to 19 octets
+--   octetsOf p         == the beginning p as 19 octets, zeros behind it; maskOf p == ones over it, zeros behind
+--   answersScan i m v  == the identity i answers a scan whose mask is m and whose value is v
+-- A beginning p is 19 octets and a number of bits: `octetsOf p` and `length p`. Assumes nothing.
+use mathlib.Core.Bool.{Bool, true, false, not, _&&_}
+use mathlib.Core.List.{List, [], _∷_, _++_}
+use Prim.Native.Nat.{ℕ, _+_, _*_, _-_}
+use lib.Dec.{leb, eqb}
+use lib.ListN.{length, replicate}
+use Rattle.octets.specs.Octets.{lastOf}
+use Rattle.identity.specs.Bits.{Bits, packed, ones, masked}
+
+-- 01: "2 vendor octets and 1 to 17 serial octets"
+abbrev pub vendor : ℕ
+vendor = 2
+
+abbrev pub leastSerial : ℕ
+leastSerial = 1
+
+abbrev pub mostSerial : ℕ
+mostSerial = 17
+
+-- 01: "padded with 0x20 to 19", and "identities are 152 bits"
+abbrev pub width : ℕ
+width = vendor + mostSerial
+
+abbrev pub depth : ℕ
+depth = 8 * width
+
+-- 01: "all 0x20 to 0x7E"
+abbrev pub blank : ℕ
+blank = 0x20
+
+unfoldable pub printable : ℕ → Bool
+printable x = leb blank x && leb x 0x7E
+
+unfoldable pub allPrintable : List ℕ → Bool
+allPrintable [] = true
+allPrintable (x ∷ xs) = printable x && allPrintable xs
+
+-- 01: "the last not 0x20"
+unfoldable pub allowedIdentity : List ℕ → Bool
+allowedIdentity i =
+    leb (vendor + leastSerial) (length i)
+    && (leb (length i) (vendor + mostSerial) && (allPrintable i && not (eqb (lastOf blank i) blank)))
+
+unfoldable pub padded : List ℕ → List ℕ
+padded i = i ++ replicate (width - length i) blank
+
+-- 01: "a beginning in 1, ones over it in 3, zeros elsewhere"
+abbrev pub octetsOf : Bits → List ℕ
+octetsOf p = packed width p
+
+abbrev pub maskOf : Bits → List ℕ
+maskOf p = packed width (ones (length p))
+
+-- 01: "its left-most octets are masked and must equal the value of 1, which isn't masked"
+unfoldable pub same : List ℕ → List ℕ → Bool
+same [] [] = true
+same [] (y ∷ ys) = false
+same (x ∷ xs) [] = false
+same (x ∷ xs) (y ∷ ys) = eqb x y && same xs ys
+
+unfoldable pub answersScan : List ℕ → List ℕ → List ℕ → Bool
+answersScan i m v = same (masked (padded i) m) v

@@ -1,0 +1,101 @@
+// Identities, and beginnings as octets. Assumes nothing of its caller.
+ghost use mathlib.Core.Path.{_≡_};
+ghost use mathlib.Core.Bool.{true, false};
+ghost use Prim.Native.Nat.{_+_, _*_, _≤_, min};
+ghost use lib.ListN.{length, take, drop, getD};
+ghost use Rattle.identity.specs.Bits.{word, digit, packed, ones};
+ghost use Rattle.identity.specs.Identity.{allPrintable, allowedIdentity, octetsOf};
+
+// The octets of a padded identity, and its bits.
+pub const OCTETS: usize = 19;
+
+pub const BITS: usize = 152;
+
+// Whether every octet is 0x20 to 0x7E.
+fn all_printable(s: &[u8]) -> bool
+    ensures { λ r. ⌜ r ≡ allPrintable (now (s .entry)) ⌝ }
+{
+    let mut i = 0;
+    while i < s.len() {
+        let x = s[i];
+        i += 1;
+        if x < 0x20 {
+            return false;
+        }
+        if 0x7E < x {
+            return false;
+        }
+    }
+    true
+}
+
+// Whether these octets are an identity: 2 of the vendor, 1 to 17 of the serial number, the last not 0x20.
+pub fn allowed(identity: &[u8]) -> bool
+    ensures { λ r. ⌜ r ≡ allowedIdentity (now (identity .entry)) ⌝ }
+{
+    if identity.len() < 3 {
+        return false;
+    }
+    if OCTETS < identity.len() {
+        return false;
+    }
+    if identity[identity.len() - 1] == 0x20 {
+        return false;
+    }
+    all_printable(identity)
+}
+
+// A bit of the beginning as a number; one past its end is a zero.
+fn bit(beginning: &[bool; BITS], bits: usize, at: usize) -> u8
+    requires { ⌜ bits ≤ 152 ⌝ }
+    ensures { λ r. ⌜ r ≡ digit (getD (take bits (now (beginning .entry))) at false) ⌝ }
+{
+    if at < bits {
+        if beginning[at] {
+            return 1;
+        }
+    }
+    0
+}
+
+// Eight bits of the beginning as an octet, the most significant first.
+fn octet(beginning: &[bool; BITS], bits: usize, from: usize) -> u8
+    requires { ⌜ (bits ≤ 152) × (from ≤ 152) ⌝ }
+    ensures { λ r. ⌜ r ≡ word (drop from (take bits (now (beginning .entry)))) 8 ⌝ }
+{
+    let mut x: u8 = 0;
+    let mut i = 0;
+    while i < 8 {
+        x = 2 * x + bit(beginning, bits, from + i);
+        i += 1;
+    }
+    x
+}
+
+// So many bits, but no more than a row has.
+fn within(bits: usize) -> usize
+    ensures { λ r. ⌜ r ≡ min bits 152 ⌝ }
+{
+    if bits < BITS { bits } else { BITS }
+}
+
+// The beginning, so many bits of a row, as octets, zeros behind it.
+pub fn octets_of(beginning: [bool; BITS], bits: usize) -> [u8; OCTETS]
+    ensures { λ r. ⌜ r ≡ octetsOf (take bits beginning) ⌝ }
+{
+    let count = within(bits);
+    let mut octets = [0u8; OCTETS];
+    let mut j = 0;
+    while j < OCTETS {
+        octets[j] = octet(&beginning, count, 8 * j);
+        j += 1;
+    }
+    octets
+}
+
+// Ones over a beginning of so many bits, zeros behind it.
+pub fn mask_of(bits: usize) -> [u8; OCTETS]
+    ensures { λ r. ⌜ r ≡ octetsOf (ones bits) ⌝ }
+{
+    octets_of([true; BITS], bits)
+}

@@ -1,0 +1,1 @@
+-- Demand 3, in octets. Assumes nothing.

@@ -1,0 +1,94 @@
+-- The scanner's three calls: a new scan, the probe that is next, an answer reported.
+--   fresh limit      == a scan that has asked nothing
+--   probeOf p        == the probe of the beginning p: address, control and payload, 47 octets
+--   over s           == the row of the number 7: the record s takes no probe and no answer
+--   probed s room    == what a probe asked of s gives, into a lent output of so many octets
+--   reported s heard == what an answer reported to s gives: the scan one step on
+--   Reports x s r    == the code's answer r, with the scan that was s, is the answer x
+--   reportedAll s answers == the scan s after the answers, reported one after the other
+--   driven heard n s == the scan s after n answers, each as `heard` says of the beginning that is asked
+-- Assumes nothing.
+use mathlib.Core.Path.{_≡_}
+use mathlib.Core.Bool.{Bool, true, false, cond, not, _||_}
+use mathlib.Core.List.{List, [], _∷_, _++_}
+use Prim.Native.Nat.{ℕ, zero, suc, _*_}
+use lib.Dec.{ltb}
+use lib.ListN.{length, replicate}
+use Rattle.identity.specs.Bits.{Bits}
+use Rattle.identity.specs.Identity.{width, depth, octetsOf, maskOf}
+use Rattle.refusal.specs.Numbers.{numberOf}
+use Rattle.refusal.specs.Answer.{Answer, gives, refuses, _when_, answered, roomRow}
+use Rattle.walk.specs.Machine.{step}
+use Rattle.scan.specs.Record.{room, beginningOf, walkOf, recordOf}
+use Rattle.scan.specs.Steps.{standsAt}
+use Rattle.scan.specs.declared.Scan.{Scan}
+use Rattle.scan.specs.declared.State.{State}
+use Rattle.scan.specs.declared.State.the-variants.{Asking, Complete, Doubtful, Limit, Full}
+use Rattle.scan.specs.declared.Verdict.{Verdict}
+use Rattle.scan.specs.declared.Verdict.the-variants.{Taken, Refused}
+use Rattle.scan.specs.declared.Reported.{Reported}
+
+-- 01: "The first probe is the empty beginning", and a limit of 0 is "limit" with 0 probes
+unfoldable pub fresh : ℕ → Scan
+fresh limit =
+    record {
+      limit = limit;
+      count = 0;
+      listed = 0;
+      list = replicate (width * room) 0;
+      bits = 0;
+      beginning = replicate depth false;
+      state = standsAt 0 limit false false;
+    }
+
+-- 01: "the XID scan from 0xFF with 19-octet values: a beginning in 1, ones over it in 3, zeros elsewhere;
+-- length field 0x2A"
+unfoldable pub probeOf : Bits → List ℕ
+probeOf p = (0xFF ∷ 0xBF ∷ 0x81 ∷ 0xF0 ∷ 0x2A ∷ 1 ∷ width ∷ []) ++ (octetsOf p ++ ((3 ∷ width ∷ []) ++ maskOf p))
+
+unfoldable pub ended : State → Bool
+ended (Asking quiet doubt) = false
+ended Complete = true
+ended Doubtful = true
+ended Limit = true
+ended Full = true
+
+-- 01: "a scan that has ended or a record whose count isn't below its limit, whose list passes 32 or whose beginning
+-- passes 152 bits"
+unfoldable pub over : Scan → Bool
+over s = ended (s .state) || (not (ltb (s .count) (s .limit)) || (ltb room (s .listed) || ltb depth (s .bits)))
+
+-- 01: "the scanner 7, then 5"
+unfoldable pub probed : Scan → ℕ → Answer (List ℕ)
+probed s lent =
+    let b = probeOf (beginningOf s) in
+    answered (7 when over s ∷ roomRow b lent ∷ []) b
+
+unfoldable pub reported : Scan → Bool → Answer Scan
+reported s heard = answered (7 when over s ∷ []) (recordOf s (step octetsOf depth room (walkOf s) heard))
+
+-- the paper's number, or that the answer was taken, for each case of the code's answer
+unfoldable pub verdictOf : Verdict → Answer (Unit {0})
+verdictOf Taken = gives tt
+verdictOf (Refused k) = refuses (numberOf k)
+
+unfoldable pub verdict : Answer Scan → Answer (Unit {0})
+verdict (gives s) = gives tt
+verdict (refuses k) = refuses k
+
+-- a refusal: "the scan .. stay as they were"
+unfoldable pub scanAfter : Answer Scan → Scan → Scan
+scanAfter (gives t) s = t
+scanAfter (refuses k) s = s
+
+pub record Reports (right : Answer Scan) (s : Scan) (r : Reported) : Type 0 where
+  pub answer : verdictOf (r .answer) ≡ verdict right
+  pub scan : r .scan ≡ scanAfter right s
+
+unfoldable pub reportedAll : Scan → List Bool → Scan
+reportedAll s [] = s
+reportedAll s (a ∷ answers) = reportedAll (scanAfter (reported s a) s) answers
+
+unfoldable pub driven : (Bits → Bool) → ℕ → Scan → Scan
+driven heard zero s = s
+driven heard (suc n) s = driven heard n (scanAfter (reported s (heard (beginningOf s))) s)
