@@ -1,6 +1,7 @@
 -- Alarms: "only alarms named below", and they are these six.
 --   alarmCodes      == the codes, ascending
 --   codesOf f       == the codes whose flags are set in f, ascending
+--   anyDiffer f g   == the flags f and g differ somewhere
 --   changesOf now was == pairs of a code and 1 (raised) or 0, ascending, where the flags now and the flags then differ
 --   noAlarms        == no flag is set
 -- Assumes nothing.
@@ -31,6 +32,12 @@ stateOf false = 0
 
 abbrev pub differs : Bool → Bool → Bool
 differs a b = cond a (not b) b
+
+-- some flag differs: there is something to tell
+unfoldable pub anyDiffer : List Bool → List Bool → Bool
+anyDiffer [] gs = false
+anyDiffer (a ∷ fs) [] = false
+anyDiffer (a ∷ fs) (b ∷ gs) = cond (differs a b) true (anyDiffer fs gs)
 
 -- "pairs alarm and 1 (raised) or 0, ascending, for alarms whose present state differs from what was told"
 unfoldable pub changesAmong : List ℕ → List Bool → List Bool → List ℕ

@@ -1,5 +1,7 @@
 -- What happens to a drive: the motor stops, an alarm rises or falls.
 --   restedOf m t     == the motion after a stop at t
+--   canStop n t      == the motor can stop at t; at n t == the antenna then
+--   isAlarm k        == k is the code of an alarm; withAlarm n k on == the antenna with that alarm raised or cleared
 --   stoppedAt n t    == the event "stopped at t"
 --   alarmedOf n k on == the event "alarm k raised" (on) or "cleared"
 -- Assumes nothing.
@@ -30,8 +32,11 @@ at n t =
     record { lowest = n .lowest; highest = n .highest; tilt = t; motion = restedOf (n .motion) t; raised = n .raised }
 
 -- "Refusal 8: a stop with no movement, t outside lowest to highest"
+unfoldable pub canStop : Antenna → Angle → Bool
+canStop n t = runs (n .motion) && inRange n t
+
 unfoldable pub stoppedAt : Antenna → Angle → Answer Antenna
-stoppedAt n t = answered (8 when not (runs (n .motion) && inRange n t) ∷ []) (at n t)
+stoppedAt n t = answered (8 when not (canStop n t) ∷ []) (at n t)
 
 -- "Alarm events raise or clear one"
 unfoldable pub withAlarm : Antenna → ℕ → Bool → Antenna
@@ -45,5 +50,8 @@ withAlarm n k on =
     }
 
 -- "an alarm not among .."
+unfoldable pub isAlarm : ℕ → Bool
+isAlarm k = holds k alarmCodes
+
 unfoldable pub alarmedOf : Antenna → ℕ → Bool → Answer Antenna
-alarmedOf n k on = answered (8 when not (holds k alarmCodes) ∷ []) (withAlarm n k on)
+alarmedOf n k on = answered (8 when not (isAlarm k) ∷ []) (withAlarm n k on)

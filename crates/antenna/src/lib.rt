@@ -1,11 +1,11 @@
 // One drive: its range, its tilt, its movement and its alarms. Assumes nothing of its caller.
 // Headline: a movement starts only where nothing moves or waits and the tilt asked is in range (proofs/Motions.antt).
 ghost use mathlib.Core.Path.{_≡_};
-ghost use mathlib.Core.Bool.{Bool, true, false, _&&_};
-ghost use lib.ListN.{set};
 ghost use Rattle.refusal.specs.Answer.{Changes};
 ghost use Rattle.antenna.specs.Angles.{atMost, sameAs};
-ghost use Rattle.antenna.specs.Motions.{inRange, busyOf, owesOf, waitingOf, moves, unowedOf, aimOf, started, runs};
+ghost use Rattle.antenna.specs.Alarms.{differs, anyDiffer};
+ghost use Rattle.antenna.specs.Motions.{inRange, busyOf, owesOf, waitingOf, moves, unowedOf, runs};
+ghost use Rattle.antenna.specs.Motions.{aimOf, started};
 ghost use Rattle.antenna.specs.Events.{restedOf, stoppedAt, alarmedOf};
 use refusal::Outcome;
 use refusal::Refusal;
@@ -60,6 +60,26 @@ pub struct Aimed {
 pub struct Changed {
     pub outcome: Outcome,
     pub antenna: Antenna,
+}
+
+fn differs(a: bool, b: bool) -> bool
+    ensures { λ r. ⌜ r ≡ differs a b ⌝ }
+{
+    if a { !b } else { b }
+}
+
+// Whether two rows of alarm flags differ somewhere.
+pub fn differ(a: [bool; 6], b: [bool; 6]) -> bool
+    ensures { λ r. ⌜ r ≡ anyDiffer a b ⌝ }
+{
+    let mut i = 0;
+    while i < 6 {
+        if differs(a[i], b[i]) {
+            return true;
+        }
+        i += 1;
+    }
+    false
 }
 
 fn at_most(a: Angle, b: Angle) -> bool
