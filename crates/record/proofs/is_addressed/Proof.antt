@@ -1,0 +1,19 @@
+use Rattle.record.specs.Allowed.{addressed}
+use Rattle.octets.proofs.Rules.{tests}
+use Rattle.record.proofs.is_addressed.Statement.{statement}
+use Rattle.record.proofs.is_addressed.Tie as tie
+use Rattle.record.proofs.is_addressed.Reads as reads
+use Rattle.record.proofs.is_addressed.Lts as lts
+
+-- src/lib.rt:157:1
+returns : tie.Need-returns
+unfolding addressed
+returns c = search tests
+
+-- src/lib.rt:157:1
+returns-2 : tie.Need-returns-2
+unfolding addressed
+returns-2 c = search tests
+
+pub is-addressed-spec : {M : Type 1} → statement M
+is-addressed-spec = tie.close (tie.spec returns returns-2)
