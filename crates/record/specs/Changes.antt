@@ -2,7 +2,7 @@
 --   unsaid t a l    == the station t at the address a in the link state l, with nothing pending
 --   endedAs d a l   == the device d after its session's end, at the address a in the link state l
 --   canBe n e       == the event e can happen to the antenna n; afterEvent n e == the antenna then
---   happened d e    == the event e, of a device
+--   antennaHappened n e == the event e, of an antenna; happened d e == of a device
 -- Assumes nothing.
 use mathlib.Core.Bool.{Bool, true, false, not}
 use mathlib.Core.List.{List, [], _∷_}
@@ -19,7 +19,8 @@ use Rattle.record.specs.declared.Device.{Device}
 use Rattle.record.specs.declared.Event.{Event}
 use Rattle.record.specs.declared.Event.the-variants.{Stopped, Raised, Cleared}
 
--- "Ending a session drops the pending answer and any tilt result owed; alarms, subscription and a running movement stay."
+-- "Ending a session drops the pending answer and any tilt result owed; alarms, subscription and a running movement
+-- stay."
 unfoldable pub unsaid : Station → ℕ → Link → Station
 unsaid t a l =
     record { address = a; link = l; subscribed = t .subscribed; told = t .told; said = calm; reply = noReply }
@@ -41,6 +42,9 @@ unfoldable pub afterEvent : Antenna → Event → Antenna
 afterEvent n (Stopped t) = at n t
 afterEvent n (Raised k) = withAlarm n k true
 afterEvent n (Cleared k) = withAlarm n k false
+
+unfoldable pub antennaHappened : Antenna → Event → Answer Antenna
+antennaHappened n e = answered (8 when not (canBe n e) ∷ []) (afterEvent n e)
 
 abbrev pub withAntenna : Device → Antenna → Device
 withAntenna d n = record { plate = d .plate; station = d .station; antenna = n }

@@ -1,5 +1,6 @@
 -- A fresh device. 01: "A fresh device has address 0 and no alarms, subscription or movement."
 --   dataAllowed ..     == the device data is as "Who the device is" says
+--   identityFrom s, productFrom s, versionFrom s == a text with zeros behind it
 --   plateFrom i p h s  == the plate with these texts, zeros behind each
 --   freshStation       == address 0, no session, nothing told, nothing subscribed
 --   freshFrom ..       == the fresh device; freshOf .. == what is answered
@@ -19,9 +20,13 @@ use Rattle.antenna.specs.declared.Angle.{Angle}
 use Rattle.antenna.specs.declared.Antenna.{Antenna}
 use Rattle.antenna.specs.declared.Motion.the-variants.{Still}
 use Rattle.antenna.specs.Alarms.{noAlarms}
-use Rattle.antenna.specs.Angles.{atMost}
+use Rattle.antenna.specs.Motions.{inRange}
 use Rattle.record.specs.Allowed.{productMost, versionMost, replyMost}
+use Rattle.record.specs.declared.Identity.{Identity}
+use Rattle.record.specs.declared.Product.{Product}
+use Rattle.record.specs.declared.Version.{Version}
 use Rattle.record.specs.declared.Payload.{Payload}
+use Rattle.record.specs.declared.Span.{Span}
 use Rattle.record.specs.declared.Plate.{Plate}
 use Rattle.record.specs.declared.Link.the-variants.{NoAddress}
 use Rattle.record.specs.declared.Station.{Station}
@@ -34,13 +39,22 @@ calm = record { flags = noAlarms }
 abbrev pub noReply : Payload
 noReply = record { octets = replicate replyMost 0; len = 0 }
 
+unfoldable pub identityFrom : List ℕ → Identity
+identityFrom s = record { octets = s atStartOf replicate width 0; len = length s }
+
+unfoldable pub productFrom : List ℕ → Product
+productFrom s = record { octets = s atStartOf replicate productMost 0; len = length s }
+
+unfoldable pub versionFrom : List ℕ → Version
+versionFrom s = record { octets = s atStartOf replicate versionMost 0; len = length s }
+
 unfoldable pub plateFrom : List ℕ → List ℕ → List ℕ → List ℕ → Plate
 plateFrom i p h s =
     record {
-      identity = record { octets = i atStartOf replicate width 0; len = length i };
-      product = record { octets = p atStartOf replicate productMost 0; len = length p };
-      hardware = record { octets = h atStartOf replicate versionMost 0; len = length h };
-      software = record { octets = s atStartOf replicate versionMost 0; len = length s };
+      identity = identityFrom i;
+      product = productFrom p;
+      hardware = versionFrom h;
+      software = versionFrom s;
     }
 
 abbrev pub freshStation : Station
@@ -51,9 +65,8 @@ abbrev pub freshAntenna : Angle → Angle → Angle → Antenna
 freshAntenna lowest highest present =
     record { lowest = lowest; highest = highest; tilt = present; motion = Still; raised = calm }
 
-unfoldable pub freshFrom : Plate → Angle → Angle → Angle → Device
-freshFrom p lowest highest present =
-    record { plate = p; station = freshStation; antenna = freshAntenna lowest highest present }
+unfoldable pub freshFrom : Plate → Antenna → Device
+freshFrom p n = record { plate = p; station = freshStation; antenna = n }
 
 -- the device data: identity, texts, and lowest ≤ present ≤ highest
 unfoldable pub textsAllowed : List ℕ → List ℕ → List ℕ → List ℕ → Bool
@@ -61,18 +74,19 @@ textsAllowed i p h s =
     allowedIdentity i
     && (leb (length p) productMost && (leb (length h) versionMost && leb (length s) versionMost))
 
-unfoldable pub dataAllowed : List ℕ → List ℕ → List ℕ → List ℕ → Angle → Angle → Angle → Bool
-dataAllowed i p h s lowest highest present =
-    textsAllowed i p h s && (atMost lowest present && atMost present highest)
+unfoldable pub dataAllowed : List ℕ → List ℕ → List ℕ → List ℕ → Antenna → Bool
+dataAllowed i p h s n = textsAllowed i p h s && inRange n (n .tilt)
 
-unfoldable pub freshOf : List ℕ → List ℕ → List ℕ → List ℕ → Angle → Angle → Angle → Answer Device
-freshOf i p h s lowest highest present =
-    answered (6 when not (dataAllowed i p h s lowest highest present) ∷ [])
-    (freshFrom (plateFrom i p h s) lowest highest present)
+abbrev pub antennaFrom : Span → Antenna
+antennaFrom w = freshAntenna (w .lowest) (w .highest) (w .present)
+
+unfoldable pub freshOf : List ℕ → List ℕ → List ℕ → List ℕ → Span → Answer Device
+freshOf i p h s w =
+    answered (6 when not (dataAllowed i p h s (antennaFrom w)) ∷ []) (freshFrom (plateFrom i p h s) (antennaFrom w))
 
 -- the constant record that stands beside a refusal
 abbrev pub level : Angle
 level = record { tenths = pos 0 }
 
 unfoldable pub blankDevice : Device
-blankDevice = freshFrom (plateFrom [] [] [] []) level level level
+blankDevice = freshFrom (plateFrom [] [] [] []) (freshAntenna level level level)

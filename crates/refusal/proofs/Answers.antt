@@ -111,3 +111,13 @@ module _ {S : Type 0} {s : S} where
   unfolding outcomeOf settled stateAfter
   unchange-told (gives u) c = absurd (gives-not-refuses (sym (c .outcome)))
   unchange-told (refuses k) c = (sym (ap refuses (refuses-same (c .outcome))), c .state)
+
+-- a change of a part is the same change of the whole
+pub changes-through : {S T : Type 0} (f : S → T) (rows : List Row) (a : S) {s t : S} {r : Outcome}
+    → Changes (answered rows a) s r t → Changes (answered rows (f a)) (f s) r (f t)
+unfolding answered settled stateAfter
+changes-through f [] a c = record { outcome = c .outcome; state = ap f (c .state) }
+changes-through f (k when true ∷ rows) a c = record { outcome = c .outcome; state = ap f (c .state) }
+changes-through f (k when false ∷ rows) a c =
+    let d = changes-through f rows a (record { outcome = c .outcome; state = c .state }) in
+    record { outcome = d .outcome; state = d .state }

@@ -6,11 +6,6 @@ use Rattle.frame.proofs.Assembled.{assembled}
 use borrow.Author.Needs.{needs}
 use Rattle.frame.proofs.assemble.Statement.{statement}
 use Rattle.frame.proofs.assemble.Tie as tie
-use Rattle.frame.proofs.assemble.Reads as reads
-use Rattle.frame.proofs.assemble.Lts as lts
-use Rattle.fcs.proofs.check.Reads as check-reads
-use Rattle.octets.proofs.put.Reads as put-reads
-use Rattle.octets.proofs.put_all.Reads as put-all-reads
 
 put-requires : tie.Need-put-requires
 put-requires c κs = search needs

@@ -1,3 +1,4 @@
+-- `frame::decode` meets its promise: each way out, by the tests that lead to it. Assumes nothing.
 use borrow.Author.Needs.{needs}
 use mathlib.Core.Path.{sym, _∙_}
 use native.Mathlib.Omega.{arith}
@@ -11,11 +12,6 @@ use Rattle.frame.proofs.Judge.{when-broken, when-long, when-stored}
 use Rattle.frame.proofs.Lines.{broken-end, broken-flag, unbroken, flag-found, octets-found}
 use Rattle.frame.proofs.decode.Statement.{statement}
 use Rattle.frame.proofs.decode.Tie as tie
-use Rattle.frame.proofs.decode.Reads as reads
-use Rattle.frame.proofs.decode.Lts as lts
-use Rattle.frame.proofs.deliver.Reads as deliver-reads
-use Rattle.frame.proofs.ends_escaped.Reads as ends-escaped-reads
-use Rattle.frame.proofs.unescape.Reads as unescape-reads
 
 -- Assumes nothing.
 

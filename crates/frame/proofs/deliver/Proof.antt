@@ -9,11 +9,6 @@ use Rattle.frame.proofs.Judge.{short, wrong, right, check-differs, chec
 use borrow.Author.Needs.{needs}
 use Rattle.frame.proofs.deliver.Statement.{statement}
 use Rattle.frame.proofs.deliver.Tie as tie
-use Rattle.frame.proofs.deliver.Reads as reads
-use Rattle.frame.proofs.deliver.Lts as lts
-use Rattle.fcs.proofs.check.Reads as check-reads
-use Rattle.octets.proofs.pair.Reads as pair-reads
-use Rattle.refusal.proofs.hand_out.Reads as hand-out-reads
 
 returns : tie.Need-returns
 returns c = refused TooShort (short 78 _ _ (c .if1 .taken))

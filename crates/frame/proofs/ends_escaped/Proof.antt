@@ -1,6 +1,6 @@
 -- `frame::ends_escaped` meets its promise: the last octet stands at the length less 1. Assumes nothing.
 use borrow.Author.Needs.{needs}
-use mathlib.Core.Path.{_≡_, refl, sym, ap}
+use mathlib.Core.Path.{sym, ap}
 use Prim.Native.Nat.{ℕ, _<_}
 use native.Mathlib.Omega.{arith}
 use lib.Dec.{eqb}
@@ -8,8 +8,6 @@ use lib.ListN.{length}
 use Rattle.octets.proofs.Words.{last-at, last-empty}
 use Rattle.frame.proofs.ends_escaped.Statement.{statement}
 use Rattle.frame.proofs.ends_escaped.Tie as tie
-use Rattle.frame.proofs.ends_escaped.Reads as reads
-use Rattle.frame.proofs.ends_escaped.Lts as lts
 
 returns : tie.Need-returns
 returns c = sym (ap (λ (n : ℕ). eqb n 0x7D) (last-empty 0 (c .before .args .s .now) (c .if1 .taken)))

@@ -3,8 +3,6 @@ use borrow.Author.Tests.{eq-eqb, ne-eqb}
 use Rattle.frame.specs.Line.{special}
 use Rattle.frame.proofs.is_special.Statement.{statement}
 use Rattle.frame.proofs.is_special.Tie as tie
-use Rattle.frame.proofs.is_special.Reads as reads
-use Rattle.frame.proofs.is_special.Lts as lts
 
 returns : tie.Need-returns
 unfolding special

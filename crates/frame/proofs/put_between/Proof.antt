@@ -1,18 +1,14 @@
+-- `frame::put_between` meets its promise: each way out, by the tests that lead to it. Assumes nothing.
 use borrow.Author.Needs.{needs}
 use mathlib.Core.Path.{_≡_, refl, sym, _∙_}
 use mathlib.Core.List.{[], _∷_, _++_}
 use Prim.Native.Nat.{_+_, _*_, _-_, _≤_}
-use native.Mathlib.Omega.{arith}
 use lib.ListN.{length, drop}
 use Rattle.octets.proofs.Runs.{Run, run-all, run-one, run-two, run-done}
 use Rattle.frame.specs.Line.{flag, onLine}
 use Rattle.frame.proofs.Escapes.{line-special, line-other, line-done, between-filled}
 use Rattle.frame.proofs.put_between.Statement.{statement}
 use Rattle.frame.proofs.put_between.Tie as tie
-use Rattle.frame.proofs.put_between.Reads as reads
-use Rattle.frame.proofs.put_between.Lts as lts
-use Rattle.frame.proofs.is_special.Reads as is-special-reads
-use Rattle.octets.proofs.put.Reads as put-reads
 
 -- Assumes nothing.
 

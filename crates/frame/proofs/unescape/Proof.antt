@@ -12,9 +12,6 @@ use Rattle.frame.proofs.Filled.{fills-of}
 use Rattle.frame.proofs.Lines.{plain-done, plain-pair, plain-last, plain-octet}
 use Rattle.frame.proofs.unescape.Statement.{statement}
 use Rattle.frame.proofs.unescape.Tie as tie
-use Rattle.frame.proofs.unescape.Reads as reads
-use Rattle.frame.proofs.unescape.Lts as lts
-use Rattle.octets.proofs.put.Reads as put-reads
 
 -- of the line s, what is left at i is left to store
 record Left (s store₀ store : List ℕ) (n i : ℕ) : Type 0 where

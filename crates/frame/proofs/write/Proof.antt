@@ -10,11 +10,6 @@ use Rattle.frame.proofs.Escapes.{between-short}
 use Rattle.frame.proofs.Judge.{payload-long, when-lined}
 use Rattle.frame.proofs.write.Statement.{statement}
 use Rattle.frame.proofs.write.Tie as tie
-use Rattle.frame.proofs.write.Reads as reads
-use Rattle.frame.proofs.write.Lts as lts
-use Rattle.frame.proofs.assemble.Reads as assemble-reads
-use Rattle.frame.proofs.put_between.Reads as put-between-reads
-use Rattle.refusal.proofs.hand_out.Reads as hand-out-reads
 
 returns : tie.Need-returns
 returns c = refused PayloadTooLong (payload-long 78 _ _ _ _ (c .if1 .taken))

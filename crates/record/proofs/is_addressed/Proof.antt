@@ -1,16 +1,13 @@
+-- `record::is_addressed` meets its promise: each way out, by the tests that lead to it. Assumes nothing.
 use Rattle.record.specs.Allowed.{addressed}
 use Rattle.octets.proofs.Rules.{tests}
 use Rattle.record.proofs.is_addressed.Statement.{statement}
 use Rattle.record.proofs.is_addressed.Tie as tie
-use Rattle.record.proofs.is_addressed.Reads as reads
-use Rattle.record.proofs.is_addressed.Lts as lts
 
--- src/lib.rt:157:1
 returns : tie.Need-returns
 unfolding addressed
 returns c = search tests
 
--- src/lib.rt:157:1
 returns-2 : tie.Need-returns-2
 unfolding addressed
 returns-2 c = search tests

@@ -1,16 +1,13 @@
+-- `record::numbers_allowed` meets its promise: each way out, by the tests that lead to it. Assumes nothing.
 use Rattle.record.specs.Allowed.{numbersAllowed}
 use Rattle.octets.proofs.Rules.{tests}
 use Rattle.record.proofs.numbers_allowed.Statement.{statement}
 use Rattle.record.proofs.numbers_allowed.Tie as tie
-use Rattle.record.proofs.numbers_allowed.Reads as reads
-use Rattle.record.proofs.numbers_allowed.Lts as lts
 
--- src/lib.rt:126:1
 returns : tie.Need-returns
 unfolding numbersAllowed
 returns c = search tests
 
--- src/lib.rt:126:1
 returns-2 : tie.Need-returns-2
 unfolding numbersAllowed
 returns-2 c = search tests

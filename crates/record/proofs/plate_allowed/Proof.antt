@@ -1,33 +1,36 @@
+-- `record::plate_allowed` meets its promise: each way out, by the tests that lead to it. Assumes nothing.
 use Rattle.record.specs.Allowed.{platesAllowed}
 use mathlib.Core.Path.{sym, _∙_}
 use Rattle.octets.proofs.Rules.{tests}
 use borrow.Author.Needs.{needs}
 use Rattle.record.proofs.plate_allowed.Statement.{statement}
 use Rattle.record.proofs.plate_allowed.Tie as tie
-use Rattle.record.proofs.plate_allowed.Reads as reads
-use Rattle.record.proofs.plate_allowed.Lts as lts
-use Rattle.record.proofs.identity_allowed.Reads as identity-allowed-reads
 
--- src/lib.rt:113:8
 identity-allowed-requires : tie.Need-identity-allowed-requires
 identity-allowed-requires c κs = search needs
 
--- src/lib.rt:115:13
 returns : tie.Need-returns
 unfolding platesAllowed
 returns c = search (tests, sym (c .before .before .before .identity-allowed .ensures) ∙ c .before .before .if1 .taken)
 
--- src/lib.rt:118:13
 returns-2 : tie.Need-returns-2
 unfolding platesAllowed
-returns-2 c = search (tests, sym (c .before .before .before .before .before .identity-allowed .ensures) ∙ c .before .before .before .before .if1 .taken)
+returns-2 c =
+    search (
+      tests,
+      sym (c .before .before .before .before .before .identity-allowed .ensures)
+          ∙ c .before .before .before .before .if1 .taken,
+    )
 
--- src/lib.rt:120:9
 returns-3 : tie.Need-returns-3
 unfolding platesAllowed
-returns-3 c = search (tests, sym (c .before .before .before .before .before .before .identity-allowed .ensures) ∙ c .before .before .before .before .before .if1 .taken)
+returns-3 c =
+    search (
+      tests,
+      sym (c .before .before .before .before .before .before .identity-allowed .ensures)
+          ∙ c .before .before .before .before .before .if1 .taken,
+    )
 
--- src/lib.rt:105:1
 returns-4 : tie.Need-returns-4
 unfolding platesAllowed
 returns-4 c = search (tests, sym (c .before .identity-allowed .ensures) ∙ c .if1 .left)
