@@ -31,6 +31,16 @@ pub report-taken : (s : Scan) (heard : Bool) {t : Scan} → over s ≡ false
 unfolding reported answered verdictOf verdict scanAfter
 report-taken s heard e g = record { answer = rw e; scan = rw e g }
 
+-- the scan after a report: as it was, or one step on
+pub report-stays : (s : Scan) (a : Bool) → true ≡ over s → scanAfter (reported s a) s ≡ s
+unfolding reported answered scanAfter
+report-stays s a e = rw (← e)
+
+pub report-steps : (s : Scan) (a : Bool) → over s ≡ false
+    → scanAfter (reported s a) s ≡ recordOf s (step octetsOf depth room (walkOf s) a)
+unfolding reported answered scanAfter
+report-steps s a e = rw e
+
 verdict-apart : (r q : Verdict) → verdictOf r ≡ verdictOf q → r ≡ q
 unfolding verdictOf
 verdict-apart Taken Taken e = refl

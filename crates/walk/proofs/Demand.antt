@@ -170,6 +170,7 @@ module _ (d : ℕ) (ids : List Bits) (deep : Deep d ids) (apart : Different ids)
         ascending = sorted-ascending ms sorted;
         members = members;
         once = ascending-once all (sorted-ascending ms sorted);
+        number = heard-number;
       };
       counted = begins-shorter d ids;
       probes = probes-number;

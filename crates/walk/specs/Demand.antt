@@ -28,6 +28,7 @@ pub record Ordered (ids all : List Bits) : Type 0 where
   pub ascending : Ascending below all
   pub members : (x : Bits) → List·Memᴰ x all ↔ List·Memᴰ x ids
   pub once : Different all
+  pub number : length all ≡ length ids
 
 pub record Shorter (d : ℕ) (ids shorter : List Bits) : Type 0 where
   pub members : (x : Bits) → List·Memᴰ x shorter ↔ ((length x < d) × Matches x ids)
