@@ -19,6 +19,9 @@ const ROOM: usize = 32;
 
 const LIST: usize = 608;
 
+// The octets of a probe.
+const PROBE: usize = 47;
+
 // Asking: the 0 half just before was silent; some heard beginning had both halves silent. Or one of the four ends.
 pub enum State {
     Asking { quiet: bool, doubt: bool },
@@ -201,12 +204,11 @@ fn is_over(scan: Scan) -> bool
     BITS < scan.bits
 }
 
-// The 47 octets of the probe of a beginning.
-fn probe_of(beginning: [bool; BITS], bits: usize) -> [u8; 47]
-    requires { ⌜ bits ≤ 152 ⌝ }
+// The octets of the probe of a beginning.
+fn probe_of(beginning: [bool; BITS], bits: usize) -> [u8; PROBE]
     ensures { λ r. ⌜ r ≡ probeOf (take bits beginning) ⌝ }
 {
-    let mut probe = [0u8; 47];
+    let mut probe = [0u8; PROBE];
     octets::put_all(&mut probe, 0, &[0xFF, 0xBF, 0x81, 0xF0, 0x2A, 1, 19]);
     octets::put_all(&mut probe, 7, &identity::octets_of(beginning, bits));
     octets::put_all(&mut probe, 26, &[3, 19]);
