@@ -52,7 +52,8 @@ module _ {A B : Type 0} (f : A → B) where
   those-map t u [] same = refl
   those-map t u (x ∷ xs) same =
       rw (same x (List·Memᴰ·head refl))
-      (by-test (t x) ∙ ap (λ (l : List B). cond (t x) (f x ∷ l) l) (those-map t u xs (λ y m. same y (List·Memᴰ·tail m))))
+      (by-test (t x)
+      ∙ ap (λ (l : List B). cond (t x) (f x ∷ l) l) (those-map t u xs (λ y m. same y (List·Memᴰ·tail m))))
     where
       by-test : (b : Bool)
           → map f (cond b (x ∷ those t xs) (those t xs)) ≡ cond b (f x ∷ map f (those t xs)) (map f (those t xs))

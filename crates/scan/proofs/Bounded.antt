@@ -67,7 +67,8 @@ pub noted-bounded : (l c : ℕ) (f : List (List ℕ)) (p : Bits) (q w a : Bool) 
     → Bounded (noted octetsOf depth room l c f p q w a)
 unfolding noted named listing
 noted-bounded l c f p q w false h k =
-    settle-bounded l (suc c) f (zeroHalf p) (w || q) (next p) h (within-more (length p) depth (next p) k (next-within p))
+    settle-bounded l (suc c) f (zeroHalf p) (w || q) (next p) h
+    (within-more (length p) depth (next p) k (next-within p))
 noted-bounded l c f p q w true h k = by-tests (ltb (length p) depth) (ltb (length f) room) refl refl
   where
     by-tests : (t u : Bool) → ltb (length p) depth ≡ t → ltb (length f) room ≡ u

@@ -38,7 +38,8 @@ module _ (ids : List (List ℕ)) (heard : Bits → Bool) (b : OctetBus ids heard
   bit-bus = record {
     deep = bits-long;
     apart = map-different bitsOf ids
-        (λ x y m n. bits-apart x y (b .whole x m .1) (b .whole y n .1) (b .whole x m .0 ∙ sym (b .whole y n .0))) (b .apart);
+        (λ x y m n. bits-apart x y (b .whole x m .1) (b .whole y n .1) (b .whole x m .0 ∙ sym (b .whole y n .0)))
+        (b .apart);
     right = λ p h. (
       λ e.
           let (i, m, a) = b .right p h .0 e in
@@ -55,8 +56,10 @@ unfolding answersScan
 padded-bus ids heard b = record {
   whole = λ x m.
       let (i, n, e) = map-in padded ids x m in
-      let a = allowed-parts i (b .allowed i n) in
-      (ap length e ∙ length-padded i (a .most), subst Octets (sym e) (padded-octets i (printable-octets i (a .plain))));
+      let a = allowed-parts i (b .allowed i n) in (
+        ap length e ∙ length-padded i (a .most),
+        subst Octets (sym e) (padded-octets i (printable-octets i (a .plain))),
+      );
   apart = map-different padded ids (λ i j m n. padded-apart i j (b .allowed i m) (b .allowed j n)) (b .apart);
   right = λ p h. (
     λ e. let (i, m, a) = b .right p h .0 e in (padded i, map-out padded ids i m, same-is _ _ a),

@@ -121,5 +121,6 @@ module _ (limit : ℕ) (ids : List (List ℕ)) (heard : Bits → Bool) (b : Octe
 pub demand3-octets : Demand3
 unfolding under
 demand3-octets limit ids heard b =
-    let (all, shorter, e) = demand3 (List ℕ) octetsOf [] depth room limit (map bitsOf ids) heard (bit-bus ids heard b) in
+    let (all, shorter, e) =
+    demand3 (List ℕ) octetsOf [] depth room limit (map bitsOf ids) heard (bit-bus ids heard b) in
     (map octetsOf all, shorter, bus-scan limit ids heard b all shorter e)

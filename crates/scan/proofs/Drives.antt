@@ -38,7 +38,8 @@ pub walk-record : (s : Scan) (v : Walk (List ℕ)) → Wide (v .listed) → walk
 walk-record s v h =
     ap₂ (λ (x : List (List ℕ)) (y : Phase). record { limit = v .limit; count = v .count; listed = x; phase = y })
     (rows-flat (v .listed) (drop (length (flat (v .listed))) (s .list)) h)
-    (ap (phaseOf (stateOf (v .phase))) (take-append-seam (named (v .phase)) (drop (length (named (v .phase))) (s .beginning)))
+    (ap (phaseOf (stateOf (v .phase)))
+    (take-append-seam (named (v .phase)) (drop (length (named (v .phase))) (s .beginning)))
     ∙ phase-back (v .phase))
 
 noted-wide : (l c : ℕ) (f : List (List ℕ)) (p : Bits) (q w a : Bool) → Wide f

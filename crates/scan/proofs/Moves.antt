@@ -64,7 +64,8 @@ moved-is s l c listed list bits row st f zero q true a b e h = rw (a, b, e)
 moved-is s l c listed list bits row st f zero q false a b e h = rw (a, b, e)
 moved-is s l c listed list bits row st f (suc m) q w a b e h =
     let p : Bits = then (take m row) true in
-    let k : suc m ≡ length p = omega (arith, length-append (take m row) (true ∷ []), length-take-le m row (omega arith)) in
+    let k : suc m ≡ length p =
+    omega (arith, length-append (take m row) (true ∷ []), length-take-le m row (omega arith)) in
     placed-is s l c listed list (suc m) (set row m true) st f p q w a b k
     (rw (← k, ← e, append-snoc (take m row) true (drop (suc m) row)) (set-split row m true h))
 
@@ -113,7 +114,8 @@ module _ (s : Scan) (q w : Bool) where
   note-listed n {list} g h b e k i v =
       let y : List ℕ = octetsOf (beginningOf s) in
       let long : length (beginningOf s) ≡ s .bits = bits-are (omega arith) in
-      let fits : width * s .listed + length y ≤ length (s .list) = omega (arith, length-packed width (beginningOf s)) in
+      let fits : width * s .listed + length y ≤ length (s .list) =
+      omega (arith, length-packed width (beginningOf s)) in
       rw (
         le-ltb (length (beginningOf s)) depth (omega arith),
         lt-ltb (length (listOf s)) room (omega (arith, same-length)),

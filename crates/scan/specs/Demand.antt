@@ -1,6 +1,6 @@
 -- Demand 3, in octets and of the record that the code makes, from `fresh limit` on.
---   OctetBus ids heard    == demand 3's premises: padded identities, no two alike, and a probe is heard exactly when one
---                            of them, masked as a scan masks it, equals what the probe asks for
+--   OctetBus ids heard    == demand 3's premises: padded identities, no two alike, and a probe is heard exactly when
+--                            one of them, masked as a scan masks it, equals what the probe asks for
 --   IdentityBus ids heard == the same of allowed identities, not padded
 --   AnyScan               == what a scan comes to by any answers at all; BusScan == what it comes to on a bus
 --   RunsOut               == from any record that is not refused, limit - count answers reach an end

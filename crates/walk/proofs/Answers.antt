@@ -67,7 +67,8 @@ module _ {A : Type 0} (name : Bits → A) (d cap limit : ℕ) (heard : Bits → 
   unfolding hits
   found (all-asked a b r) =
       rw r (ap (map name)
-      (sym (ap (λ (x : List Mark). take cap (hits x)) (take-all (length ms) ms (omega arith)) ∙ take-all cap (hits ms) b)))
+      (sym (ap (λ (x : List Mark). take cap (hits x)) (take-all (length ms) ms (omega arith))
+      ∙ take-all cap (hits ms) b)))
   found (at-limit ys m zs e a b r) =
       rw r (ap (map name)
       (sym (ap (λ (x : List Mark). take cap (hits (take limit x))) e
@@ -126,7 +127,8 @@ module _ {A : Type 0} (name : Bits → A) (d cap limit : ℕ) (heard : Bits → 
   limit-is (all-asked a b r) p (x, y) = absurd (omega (arith, place-all cap ms b))
   limit-is (at-limit ys m zs e a b r) p (x, y) =
       ap (λ (s : Walk A). s .phase) r
-      ∙ ap limited (sym (asked-at ys m zs limit a) ∙ sym (ap (λ (x : List Mark). getD (beginningsOf x) limit []) e) ∙ y)
+      ∙ ap limited
+      (sym (asked-at ys m zs limit a) ∙ sym (ap (λ (x : List Mark). getD (beginningsOf x) limit []) e) ∙ y)
   limit-is (at-full ys q zs e a b r) p (x, y) = absurd (omega (arith, ap (place cap) e, place-hit cap ys q zs b))
 
   -- no probe remains, and the list was not full

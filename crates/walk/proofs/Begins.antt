@@ -1,5 +1,5 @@
--- `begins` has each beginning of an identity that is shorter than it, once; and whoever else lists them, once each, comes
--- to the same number. Assumes nothing.
+-- `begins` has each beginning of an identity that is shorter than it, once; and whoever else lists them, once each,
+-- comes to the same number. Assumes nothing.
 use mathlib.Core.Path.{_≡_, refl, sym, ap, _∙_, subst}
 use mathlib.Core.Bool.{Bool, true, false}
 use mathlib.Core.List.{List, [], _∷_, _++_, append-assoc, append-nil, Memᴰ·append-left, Memᴰ·append-right, Memᴰ·cast}

@@ -19,7 +19,8 @@ use Rattle.walk.proofs.Doubts.{silent, doubts, doubts-out}
 use Rattle.walk.proofs.Places.{place-all, place-bound}
 use Rattle.walk.proofs.Endings.{last, Ending, all-asked, at-limit, at-full, ending}
 use Rattle.walk.proofs.Answers.{tag, flag-tag, limited-same, full-same, any-answers}
-use Rattle.walk.proofs.Visit.{visit, begins, visit-length, begins-bound, hits-in, hits-out, hits-length, different-half}
+use Rattle.walk.proofs.Visit.{visit, begins, visit-length, begins-bound, hits-in, hits-out, hits-length}
+use Rattle.walk.proofs.Visit.{different-half}
 use Rattle.walk.proofs.Sorted.{Sorted, visit-sorted, heard-before, sorted-ascending, ascending-once}
 use Rattle.walk.proofs.Begins.{begins-shorter}
 

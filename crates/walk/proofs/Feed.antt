@@ -95,4 +95,5 @@ fate (suc cap) (suc k) (hit p ∷ ms) = more (fate cap k ms)
     more (whole a b) = whole (omega arith) (omega arith)
     more (stopped ys m zs e a b) =
         stopped (hit p ∷ ys) m zs (ap (λ (x : List Mark). hit p ∷ x) e) (omega arith) (omega arith)
-    more (over ys r zs e a b) = over (hit p ∷ ys) r zs (ap (λ (x : List Mark). hit p ∷ x) e) (omega arith) (omega arith)
+    more (over ys r zs e a b) =
+        over (hit p ∷ ys) r zs (ap (λ (x : List Mark). hit p ∷ x) e) (omega arith) (omega arith)

@@ -55,7 +55,8 @@ module _ {A : Type 0} (name : Bits → A) (depth cap : ℕ) where
     unfolding noted replied play step stepIn listing
     reply-eq l k c ih f q w p true =
         cond-both k (ltb (length p) depth) _ _ (ih f false w (some (then p false)))
-        (cond-both k (ltb (length f) cap) _ _ (ih (f ++ (name p ∷ [])) false w (next p)) (stays k (ended l (suc c) f (full p)) refl))
+        (cond-both k (ltb (length f) cap) _ _ (ih (f ++ (name p ∷ [])) false w (next p))
+        (stays k (ended l (suc c) f (full p)) refl))
     reply-eq l k c ih f q w p false = ih f (zeroHalf p) (w || q) (next p)
 
     pub run-play : (l k c : ℕ) → l ≡ c + k → (f : List A) (q w : Bool) (at : Option Bits)

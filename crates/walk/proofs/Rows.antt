@@ -7,7 +7,7 @@ use lib.ListN.{replicate}
 use Rattle.identity.specs.Bits.{Bits, bitsOf, unpacked}
 use Rattle.identity.specs.Identity.{width, depth}
 use Rattle.walk.specs.Beginnings.{under, half}
-use Rattle.walk.specs.Machine.{Walk, start, run, step, stepIn, noted, listing, goOn, next, carry, zeroHalf, named}
+use Rattle.walk.specs.Machine.{start, run, step, stepIn, noted, listing, goOn, next, carry, zeroHalf, named}
 use Rattle.walk.proofs.Halves.{anyone}
 use Rattle.walk.proofs.Answers.{tag}
 

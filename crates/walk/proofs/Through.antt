@@ -34,7 +34,8 @@ module _ {A : Type 0} (name : Bits → A) (depth cap l : ℕ) (W : Bool) (heard 
   abbrev Done : ℕ → Bits → List Mark → Bool → Bool → Type 0
   Done d p rest q w =
       (k c : ℕ) (f : List A)
-      → Play k c f (not (heard p) && zeroHalf p) (w || ((q && not (heard p)) || doubts heard d p)) (next p) ≡ Feed k c f rest
+      → Play k c f (not (heard p) && zeroHalf p) (w || ((q && not (heard p)) || doubts heard d p)) (next p)
+      ≡ Feed k c f rest
 
   -- at p, the walk goes through all below p and then through `rest`
   abbrev Goes : ℕ → Bits → List Mark → Bool → Bool → Type 0
@@ -57,7 +58,8 @@ module _ {A : Type 0} (name : Bits → A) (depth cap l : ℕ) (W : Bool) (heard 
       (ap (λ (x : Walk A). cond (ltb (length f) cap) x (ended l (suc c) f (full p)))
       (rw (e, h, or-false w) at (K k (suc c) (f ++ (name p ∷ [])))))
 
-  through : (d : ℕ) (p : Bits) → length p + d ≡ depth → (rest : List Mark) (q w : Bool) → Done d p rest q w → Goes d p rest q w
+  through : (d : ℕ) (p : Bits) → length p + d ≡ depth → (rest : List Mark) (q w : Bool)
+      → Done d p rest q w → Goes d p rest q w
   unfolding feed play order doubts Rattle.walk.proofs.Play.replied
   through zero p n rest q w K zero c f = by-said (heard p)
     where
@@ -71,7 +73,8 @@ module _ {A : Type 0} (name : Bits → A) (depth cap l : ℕ) (W : Bool) (heard 
           → Play (suc k) c f q w (some p) ≡ Feed (suc k) c f ((cond a (hit p) (pass p) ∷ []) ++ rest)
       by-said true e = hit-turn p rest q w (omega arith) e K k c f
       by-said false e = silent-turn zero p rest q w e refl K k c f
-  through (suc d) p n rest q w K (suc k) c f = by-said (heard p) refl (through d (then p false)) (through d (then p true))
+  through (suc d) p n rest q w K (suc k) c f =
+      by-said (heard p) refl (through d (then p false)) (through d (then p true))
     where
       by-said : (a : Bool) → heard p ≡ a
           → (length (then p false) + d ≡ depth → (rest : List Mark) (q w : Bool)

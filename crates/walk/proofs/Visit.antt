@@ -157,7 +157,8 @@ hits-length (suc d) p (i ∷ is) h n =
     (omega (
       arith,
       length-append (hits (left d p i is)) (hits (right d p i is)),
-      hits-length d (then p false) (half false (i ∷ is)) (deep-half d false (i ∷ is) h) (different-half false (i ∷ is) n),
+      hits-length d (then p false) (half false (i ∷ is)) (deep-half d false (i ∷ is) h)
+          (different-half false (i ∷ is) n),
       hits-length d (then p true) (half true (i ∷ is)) (deep-half d true (i ∷ is) h) (different-half true (i ∷ is) n),
       halves-whole d (i ∷ is) h,
     ))

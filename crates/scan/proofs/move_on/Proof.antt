@@ -15,7 +15,8 @@ returns : tie.Need-returns
 returns c =
     let start = c .before .before .before .args in
     c .in-state .ensures
-    ∙ moved-none (start .scan) (start .n) (start .quiet) (start .doubt) (c .before .before .if1 .taken) (c .before .finished .ensures)
+    ∙ moved-none (start .scan) (start .n) (start .quiet) (start .doubt) (c .before .before .if1 .taken)
+    (c .before .finished .ensures)
 
 sub-s : tie.Need-sub-s
 sub-s c = search needs

@@ -32,8 +32,8 @@ returns-2 c =
     let made = c .before .before .before .before .before in
     let asked = made .before .before .before in
     let start = asked .before .before .args in
-    hands-is
-    (probed-open (start .scan) _ (sym (asked .is-over .ensures) ∙ made .before .before .if1 .left) (made .probe-of .ensures))
+    let open-yet = sym (asked .is-over .ensures) ∙ made .before .before .if1 .left in
+    hands-is (probed-open (start .scan) _ open-yet (made .probe-of .ensures))
     (c .before .before .hand-out .ensures)
 
 pub probe-spec : {M : Type 1} → statement M
