@@ -13,3 +13,4 @@ pub mod Run
 pub mod Buses
 pub mod Demand
 pub mod Only
+pub mod Cases
