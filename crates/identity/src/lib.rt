@@ -2,8 +2,8 @@
 ghost use mathlib.Core.Path.{_≡_};
 ghost use mathlib.Core.Bool.{true, false};
 ghost use Prim.Native.Nat.{_+_, _*_, _≤_, min};
-ghost use lib.ListN.{length, take, drop, getD};
-ghost use Rattle.identity.specs.Bits.{word, digit, packed, ones};
+ghost use lib.ListN.{take, drop, getD};
+ghost use Rattle.identity.specs.Bits.{word, digit, ones};
 ghost use Rattle.identity.specs.Identity.{depth, allPrintable, allowedIdentity, octetsOf};
 
 // The octets of a padded identity, and its bits.

@@ -1,6 +1,6 @@
 -- What a scan comes to by any answers at all, of the record that the code makes. Assumes nothing.
 use mathlib.Core.Path.{_≡_, refl, sym, ap, _∙_}
-use mathlib.Core.Bool.{Bool, true, false}
+use mathlib.Core.Bool.{Bool}
 use mathlib.Core.List.{List, [], map}
 use Prim.Native.Nat.{ℕ, _<_}
 use native.Mathlib.Omega.{arith}
@@ -12,10 +12,9 @@ use Rattle.walk.specs.Probes.{Mark, order, beginningsOf, hits}
 use Rattle.walk.specs.Machine.{Walk, named, start, run}
 use Rattle.walk.specs.Demand.{AnyEnd}
 use Rattle.walk.proofs.Answers.{any-answers}
-use Rattle.scan.specs.Record.{room, stateOf, beginningOf, listOf}
+use Rattle.scan.specs.Record.{room, stateOf, beginningOf}
 use Rattle.scan.specs.Scan.{fresh, ended, probeOf, probed, driven}
 use Rattle.scan.specs.Demand.{AnyScan, AnyScans}
-use Rattle.scan.specs.declared.Scan.{Scan}
 use Rattle.scan.proofs.Probes.{probed-open}
 use Rattle.scan.proofs.Drives.{Driven, drives-new}
 use Rattle.scan.proofs.Ends.{full-of, limit-of, complete-of, doubtful-of, ended-of}

@@ -1,6 +1,6 @@
 -- The cases of 01 about scans, as rows of one statement about the record that the code makes: antt computes it.
 -- Assumes nothing.
-use mathlib.Core.Bool.{Bool, true, false, _&&_}
+use mathlib.Core.Bool.{Bool, _&&_}
 use mathlib.Core.List.{List, [], _∷_}
 use Prim.Native.Nat.{ℕ}
 use lib.Dec.{eqb, T}

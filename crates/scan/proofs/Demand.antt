@@ -1,11 +1,11 @@
 -- Demand 3 in octets, of the record that the code makes. Assumes nothing.
-use mathlib.Core.Path.{_≡_, refl, sym, ap, _∙_}
-use mathlib.Core.Bool.{Bool, true, false}
+use mathlib.Core.Path.{_≡_, sym, ap, _∙_}
+use mathlib.Core.Bool.{Bool}
 use mathlib.Core.List.{List, [], map, List·Memᴰ, Memᴰ·cast}
 use mathlib.Core.Logic.{_↔_, _⊎_, inl, inr}
-use Prim.Native.Nat.{ℕ, _+_, _*_, _≤_, _<_}
+use Prim.Native.Nat.{ℕ}
 use native.Mathlib.Omega.{arith}
-use lib.ListN.{length, getD, length-map}
+use lib.ListN.{length, length-map}
 use Rattle.identity.specs.Bits.{Bits, bitsOf}
 use Rattle.identity.specs.Identity.{width, depth, octetsOf}
 use Rattle.identity.specs.Order.{below, lower, those}
@@ -17,7 +17,7 @@ use Rattle.walk.specs.Probes.{Mark, order}
 use Rattle.walk.specs.Machine.{Phase, complete, limited, full, named, Walk, start, run}
 use Rattle.walk.specs.Demand.{BusEnd}
 use Rattle.walk.proofs.Demand.{demand3}
-use Rattle.scan.specs.Record.{room, stateOf, beginningOf, listOf}
+use Rattle.scan.specs.Record.{room, stateOf, beginningOf}
 use Rattle.scan.specs.Scan.{fresh, driven}
 use Rattle.scan.specs.Demand.{OctetBus, BusScan, Demand3}
 use Rattle.scan.specs.declared.Scan.{Scan}

@@ -1,5 +1,5 @@
 -- The record, driven by answers, is the walk, run by them. Assumes nothing.
-use mathlib.Core.Path.{_≡_, refl, sym, ap, ap₂, _∙_}
+use mathlib.Core.Path.{_≡_, refl, ap, ap₂, _∙_}
 use mathlib.Core.Bool.{Bool, true, false, cond}
 use mathlib.Core.List.{List, [], _∷_, _++_}
 use mathlib.Core.Option.{some}
@@ -13,15 +13,15 @@ use Rattle.identity.specs.Identity.{width, depth, octetsOf}
 use Rattle.identity.proofs.Words.{length-packed}
 use Rattle.refusal.specs.Answer.{answered}
 use Rattle.walk.specs.Beginnings.{then}
-use Rattle.walk.specs.Machine.{next, zeroHalf, Phase, asking, complete, doubtful, limited, full, named}
+use Rattle.walk.specs.Machine.{next, Phase, asking, complete, doubtful, limited, full, named}
 use Rattle.walk.specs.Machine.{Walk, goOn, settle, start, listing, noted, stepIn, step, run}
-use Rattle.scan.specs.Record.{room, rowsOf, flat, phaseOf, stateOf, beginningOf, walkOf, recordOf}
+use Rattle.scan.specs.Record.{room, flat, phaseOf, stateOf, beginningOf, walkOf, recordOf}
 use Rattle.scan.specs.Steps.{standsAt}
 use Rattle.scan.specs.Scan.{fresh, ended, over, reported, scanAfter, driven}
 use Rattle.scan.specs.declared.Scan.{Scan}
 use Rattle.scan.specs.declared.State.the-variants.{Asking, Limit}
-use Rattle.scan.proofs.Overs.{open-over, over-ended}
-use Rattle.scan.proofs.Verdicts.{report-stays, report-steps}
+use Rattle.scan.proofs.Overs.{open-over}
+use Rattle.scan.proofs.Verdicts.{report-steps}
 use Rattle.scan.proofs.Rows.{Wide, wide-more, rows-flat}
 use Rattle.scan.proofs.Moves.{made}
 use Rattle.scan.proofs.Bounded.{Bounded, settle-bounded, noted-bounded, asking-open}

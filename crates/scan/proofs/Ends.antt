@@ -1,9 +1,8 @@
 -- What a record tells of the walk that it stands for: its count, state, beginning and list. Assumes nothing.
 use mathlib.Core.Path.{_≡_, refl, sym, ap, _∙_, subst}
 use mathlib.Core.Bool.{Bool, true, false}
-use mathlib.Core.List.{List, [], _∷_}
+use mathlib.Core.List.{List}
 use Prim.Native.Nat.{ℕ}
-use native.Mathlib.Omega.{arith}
 use lib.ListN.{length, drop}
 use lib.Seq.{take-append-seam}
 use Rattle.identity.specs.Bits.{Bits}
@@ -13,9 +12,9 @@ use Rattle.scan.specs.Scan.{ended, over}
 use Rattle.scan.specs.declared.Scan.{Scan}
 use Rattle.scan.specs.declared.State.{State}
 use Rattle.scan.specs.declared.State.the-variants.{Complete, Doubtful, Limit, Full}
-use Rattle.scan.proofs.Overs.{Open, open-over}
+use Rattle.scan.proofs.Overs.{open-over}
 use Rattle.scan.proofs.Rows.{rows-flat}
-use Rattle.scan.proofs.Bounded.{Counts, Bounded}
+use Rattle.scan.proofs.Bounded.{Counts}
 use Rattle.scan.proofs.Drives.{Driven, phase-back}
 
 -- a phase by its state and the beginning that it names

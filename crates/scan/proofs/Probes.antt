@@ -1,17 +1,17 @@
 -- The octets of a probe, as the code puts them together, and the probe's answer. Assumes nothing.
 use mathlib.Core.Path.{_≡_, refl, sym, ap, _∙_}
-use mathlib.Core.Bool.{Bool, true, false, cond}
+use mathlib.Core.Bool.{true, false}
 use mathlib.Core.List.{List, [], _∷_, _++_, append-nil}
 use Prim.Native.Nat.{ℕ, _+_, min}
 use native.Mathlib.Omega.{arith}
-use lib.ListN.{length, take, drop, replicate, length-append, length-take, drop-of-length-le}
+use lib.ListN.{length, take, replicate, length-append, length-take, drop-of-length-le}
 use lib.Seq.{sets}
 use Rattle.octets.specs.Octets.{_atStartOf_}
 use Rattle.octets.proofs.Stores.{sets-append, sets-start}
-use Rattle.identity.specs.Bits.{Bits, packed, ones}
+use Rattle.identity.specs.Bits.{Bits, ones}
 use Rattle.identity.specs.Identity.{width, depth, octetsOf, maskOf}
 use Rattle.identity.proofs.Words.{length-packed, ones-within}
-use Rattle.refusal.specs.Answer.{Answer, gives, refuses, _when_, answered, handedOut}
+use Rattle.refusal.specs.Answer.{refuses, answered, handedOut}
 use Rattle.scan.specs.Record.{beginningOf}
 use Rattle.scan.specs.Scan.{probeOf, over, probed}
 use Rattle.scan.specs.declared.Scan.{Scan}

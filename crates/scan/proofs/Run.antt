@@ -1,10 +1,10 @@
 -- From any record that is not refused, limit - count answers reach an end, whatever they are. Assumes nothing.
-use mathlib.Core.Path.{_≡_, refl, sym, ap, _∙_, subst}
+use mathlib.Core.Path.{_≡_, refl, sym, _∙_, subst}
 use mathlib.Core.Bool.{Bool, true, false, cond, true≢false}
 use mathlib.Core.List.{List, [], _∷_, _++_}
 use mathlib.Core.Option.{some}
 use mathlib.Core.Logic.{_⊎_, inl, inr}
-use Prim.Native.Nat.{ℕ, zero, suc, _+_, _-_, _≤_, _<_}
+use Prim.Native.Nat.{ℕ, suc, _+_, _-_}
 use native.Mathlib.Omega.{arith}
 use lib.Dec.{ltb}
 use lib.ListN.{length, length-take}
@@ -12,8 +12,8 @@ use Rattle.identity.specs.Bits.{Bits}
 use Rattle.identity.specs.Identity.{depth, octetsOf}
 use Rattle.walk.specs.Beginnings.{then}
 use Rattle.walk.specs.Machine.{Phase, asking, complete, doubtful, limited, full, Walk, settle, next, listing, noted}
-use Rattle.scan.specs.Record.{room, stateOf, beginningOf, listOf, walkOf, recordOf}
-use Rattle.scan.specs.Scan.{ended, over, reported, scanAfter, reportedAll}
+use Rattle.scan.specs.Record.{room, stateOf, beginningOf, listOf, recordOf}
+use Rattle.scan.specs.Scan.{ended, reported, scanAfter, reportedAll}
 use Rattle.scan.specs.Steps.{notedIn}
 use Rattle.scan.specs.Demand.{RunsOut}
 use Rattle.scan.specs.declared.Scan.{Scan}

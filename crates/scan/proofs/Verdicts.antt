@@ -1,10 +1,7 @@
 -- What a promise by `Reports` is shown from, and that it allows one result. Assumes nothing.
-use mathlib.Core.Path.{_≡_, refl, sym, ap, ap₂, _∙_}
+use mathlib.Core.Path.{_≡_, refl, sym, ap, ap₂}
 use mathlib.Core.Bool.{Bool, true, false}
-use mathlib.Core.List.{List, [], _∷_}
-use Prim.Native.Nat.{ℕ}
-use Rattle.refusal.specs.Numbers.{numberOf}
-use Rattle.refusal.specs.Answer.{Answer, gives, refuses, _when_, answered}
+use Rattle.refusal.specs.Answer.{Answer, answered}
 use Rattle.refusal.proofs.Answers.{gives-not-refuses, refuses-same}
 use Rattle.refusal.proofs.Only.{number-apart}
 use Rattle.refusal.specs.declared.Refusal.the-variants.{ScanOver}

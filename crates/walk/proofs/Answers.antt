@@ -1,14 +1,13 @@
 -- What a walk comes to by any answers at all, from the three ways in which it can end. Assumes nothing.
 use mathlib.Core.Path.{_≡_, refl, sym, ap, _∙_}
 use mathlib.Core.Bool.{Bool, true, false, cond, true≢false}
-use mathlib.Core.List.{List, [], _∷_, _++_, append-assoc, append-nil, map}
-use mathlib.Core.Logic.{_↔_}
-use Prim.Native.Nat.{ℕ, zero, suc, _+_, _≤_, _<_, min}
+use mathlib.Core.List.{List, [], _∷_, _++_, append-assoc, map}
+use Prim.Native.Nat.{ℕ, suc, _+_, _≤_, _<_, min}
 use native.Mathlib.Omega.{arith}
 use lib.ListN.{length, take, getD, length-append}
 use lib.Seq.{take-all, take-at}
 use Rattle.identity.specs.Bits.{Bits}
-use Rattle.walk.specs.Probes.{Mark, hit, asked, beginningsOf, hits, place, Doubt}
+use Rattle.walk.specs.Probes.{Mark, hit, beginningsOf, hits, place, Doubt}
 use Rattle.walk.specs.Machine.{Phase, asking, complete, doubtful, limited, full, Ended, Walk, start, run}
 use Rattle.walk.specs.Demand.{AnyEnd, AnyAnswers}
 use Rattle.walk.proofs.Play.{ended}

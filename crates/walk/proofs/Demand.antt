@@ -1,18 +1,17 @@
 -- Demand 3: what a walk of a bus that does not change comes to. Assumes nothing.
 use mathlib.Core.Path.{_≡_, refl, sym, ap, ap₂, _∙_, subst}
-use mathlib.Core.Bool.{Bool, true, false, not, _&&_, _||_, or-false, true≢false, false≢true}
+use mathlib.Core.Bool.{Bool, true, false, not, _&&_, true≢false, false≢true}
 use mathlib.Core.List.{List, [], _∷_, _++_, append-assoc, map, List·Memᴰ, Memᴰ·cast}
 use mathlib.Core.Logic.{_⊎_, inl, inr, _↔_}
-use Prim.Native.Nat.{ℕ, zero, suc, _+_, _*_, _≤_, _<_}
+use Prim.Native.Nat.{ℕ, zero, suc, _+_, _*_, _≤_}
 use native.Mathlib.Omega.{arith}
-use lib.ListN.{length, take, length-append}
-use lib.Seq.{take-all}
+use lib.ListN.{length, length-append}
 use Rattle.identity.specs.Bits.{Bits}
 use Rattle.identity.specs.Order.{below, those, Different}
 use Rattle.walk.specs.Beginnings.{then, half, under, Matches, Deep}
-use Rattle.walk.specs.Probes.{Mark, pass, hit, asked, hits, place, order, Doubt}
+use Rattle.walk.specs.Probes.{Mark, pass, hit, asked, hits, order, Doubt}
 use Rattle.walk.specs.Machine.{Phase, asking, complete, doubtful, limited, full, Ended, Walk, start, run}
-use Rattle.walk.specs.Demand.{Bus, AnyEnd, BusEnd, Demand3}
+use Rattle.walk.specs.Demand.{AnyEnd, BusEnd, Demand3}
 use Rattle.walk.proofs.Halves.{anyone, matches-anyone, anyone-matches, same-truth, someone}
 use Rattle.walk.proofs.Halves.{under-in, under-out, under-then, deep-half, deep-under}
 use Rattle.walk.proofs.Doubts.{silent, doubts, doubts-out}

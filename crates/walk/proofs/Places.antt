@@ -1,11 +1,11 @@
 -- Places in a list of probes: what is heard before a place, and where the identity stands that has n before it.
 -- Assumes nothing.
-use mathlib.Core.Path.{_≡_, refl, sym, ap, _∙_}
-use mathlib.Core.List.{List, [], _∷_, _++_, map}
+use mathlib.Core.Path.{_≡_, refl, ap}
+use mathlib.Core.List.{List, [], _∷_, _++_}
 use Prim.Native.Nat.{ℕ, zero, suc, _+_, _≤_, _<_}
 use native.Mathlib.Omega.{arith}
-use lib.ListN.{length, take, getD, length-append, length-map}
-use lib.Seq.{take-at, take-append-seam, getD-at}
+use lib.ListN.{length, getD, length-append}
+use lib.Seq.{getD-at}
 use Rattle.identity.specs.Bits.{Bits}
 use Rattle.walk.specs.Probes.{Mark, pass, hit, asked, beginningsOf, hits, place}
 

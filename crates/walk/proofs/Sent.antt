@@ -6,12 +6,12 @@ use mathlib.Core.List.{List, [], _∷_, _++_}
 use mathlib.Core.Option.{Option, none, some}
 use Prim.Native.Nat.{ℕ, zero, suc, _+_, _≤_, _<_}
 use native.Mathlib.Omega.{arith}
-use borrow.Author.Tests.{lt-ltb, ltb-true, ltb-false}
+use borrow.Author.Tests.{lt-ltb, ltb-false}
 use lib.Dec.{ltb}
 use lib.ListN.{length, getD}
 use Rattle.identity.specs.Bits.{Bits}
 use Rattle.walk.specs.Beginnings.{then}
-use Rattle.walk.specs.Probes.{Mark, asked, beginningsOf, hits, place}
+use Rattle.walk.specs.Probes.{Mark, asked, beginningsOf, place}
 use Rattle.walk.specs.Machine.{next, zeroHalf, Phase, asking, complete, doubtful, limited, full, named}
 use Rattle.walk.specs.Machine.{Walk, goOn, start, listing, noted, stepIn, step, run}
 use Rattle.walk.specs.Demand.{Asks}

@@ -2,7 +2,7 @@
 use mathlib.Core.Path.{_≡_, refl, sym, ap, _∙_}
 use mathlib.Core.Bool.{Bool, true, false, cond, not, _&&_, _||_, and-false, and-true, or-false, or-true}
 use mathlib.Core.List.{List, [], _∷_, _++_, append-assoc, append-nil}
-use mathlib.Core.Option.{Option, none, some}
+use mathlib.Core.Option.{Option, some}
 use Prim.Native.Nat.{ℕ, zero, suc, _+_}
 use native.Mathlib.Omega.{arith}
 use borrow.Author.Tests.{lt-ltb, le-ltb}
@@ -11,7 +11,7 @@ use lib.ListN.{length, length-append}
 use Rattle.identity.specs.Bits.{Bits}
 use Rattle.walk.specs.Beginnings.{then}
 use Rattle.walk.specs.Probes.{Mark, pass, hit, order}
-use Rattle.walk.specs.Machine.{next, zeroHalf, complete, doubtful, limited, full, Walk, start, run}
+use Rattle.walk.specs.Machine.{next, zeroHalf, limited, full, Walk, start, run}
 use Rattle.walk.proofs.Halves.{next-zero, next-one, zeroHalf-then}
 use Rattle.walk.proofs.Play.{ended, play, run-play}
 use Rattle.walk.proofs.Feed.{feed}

@@ -17,7 +17,7 @@ use Rattle.identity.specs.Bits.{Bits}
 use Rattle.identity.specs.Order.{below, those, Ascending, Different}
 use Rattle.walk.specs.Beginnings.{under, Matches, Deep}
 use Rattle.walk.specs.Probes.{Mark, order, beginningsOf, hits, place, Doubt}
-use Rattle.walk.specs.Machine.{Phase, asking, complete, doubtful, limited, full, Ended, Walk, start, run}
+use Rattle.walk.specs.Machine.{asking, complete, doubtful, limited, full, Ended, Walk, start, run}
 
 pub record Bus (base : Bits) (d : ℕ) (ids : List Bits) (heard : Bits → Bool) : Type 0 where
   pub deep : Deep (length base + d) ids

@@ -1,6 +1,6 @@
 -- `scan::steps::move_on` meets its promise: done where no bit is left, else on with the last made a one. Assumes nothing.
 use borrow.Author.Needs.{needs}
-use mathlib.Core.Path.{sym, ap, _∙_}
+use mathlib.Core.Path.{_∙_}
 use Rattle.scan.proofs.Moves.{moved-none, moved-some}
 use Rattle.scan.proofs.steps.move_on.Statement.{statement}
 use Rattle.scan.proofs.steps.move_on.Tie as tie
