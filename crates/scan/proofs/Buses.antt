@@ -18,9 +18,9 @@ use Rattle.walk.specs.Demand.{Bus}
 use Rattle.scan.specs.Demand.{OctetBus, IdentityBus}
 
 -- 19 octets answer the probe of p exactly if their bits begin with p
-pub answers-begins : (i : List ℕ) (p : Bits) → length i ≡ width → Octets i → length p ≤ depth
+pub probe-begins : (i : List ℕ) (p : Bits) → length i ≡ width → Octets i → length p ≤ depth
     → masked i (maskOf p) ≡ octetsOf p ↔ Begins p (bitsOf i)
-answers-begins i p e o h =
+probe-begins i p e o h =
     subst (λ (n : ℕ). masked i (packed n (ones (length p))) ≡ packed n p ↔ Begins p (bitsOf i)) e
     (masked-begins i p o (omega arith))
 
@@ -43,11 +43,11 @@ module _ (ids : List (List ℕ)) (heard : Bits → Bool) (b : OctetBus ids heard
     right = λ p h. (
       λ e.
           let (i, m, a) = b .right p h .0 e in
-          let (q, g) = answers-begins i p (b .whole i m .0) (b .whole i m .1) h .0 a in
+          let (q, g) = probe-begins i p (b .whole i m .0) (b .whole i m .1) h .0 a in
           (q, Memᴰ·cast g (map-out bitsOf ids i m)),
       λ (q, m).
           let (i, n, e) = map-in bitsOf ids (p ++ q) m in
-          b .right p h .1 (i, n, answers-begins i p (b .whole i n .0) (b .whole i n .1) h .1 (q, e)),
+          b .right p h .1 (i, n, probe-begins i p (b .whole i n .0) (b .whole i n .1) h .1 (q, e)),
     );
   }
 

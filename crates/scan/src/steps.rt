@@ -1,5 +1,5 @@
-// One step of a scan: the record after an answer to the beginning that is asked. `note` puts it together from the parts
-// above it. Assumes what each `requires` says, which `report` tests.
+// One step of a scan: the record after an answer to the beginning that is asked. `note` puts it together from the
+// parts above it. Assumes what each `requires` says, which `report` tests.
 ghost use mathlib.Core.Path.{_≡_};
 ghost use mathlib.Core.Bool.{true, false, _||_};
 ghost use Prim.Native.Nat.{_+_, _*_, _≤_, _<_};

@@ -10,7 +10,7 @@ use Rattle.identity.specs.Bits.{Bits}
 use Rattle.walk.specs.Probes.{Mark, hit, beginningsOf, hits, place, Doubt}
 use Rattle.walk.specs.Machine.{Phase, asking, complete, doubtful, limited, full, Ended, Walk, start, run}
 use Rattle.walk.specs.Demand.{AnyEnd, AnyAnswers}
-use Rattle.walk.proofs.Play.{ended}
+use Rattle.walk.proofs.Play.{ended, phase-is}
 use Rattle.walk.proofs.Doubts.{doubts, doubts-in, doubts-out}
 use Rattle.walk.proofs.Places.{hits-append, hits-more, place-hit, place-late, place-all, asked-at, heard-at}
 use Rattle.walk.proofs.Endings.{last, probes, Ending, all-asked, at-limit, at-full, ending}
@@ -50,9 +50,6 @@ module _ {A : Type 0} (name : Bits → A) (d cap limit : ℕ) (heard : Bits → 
 
   abbrev flag : Bool
   flag = doubts heard d []
-
-  phase-is : {c : ℕ} {f : List A} {x y : Phase} → end ≡ ended limit c f x → end .phase ≡ y → x ≡ y
-  phase-is e h = sym (ap (λ (s : Walk A). s .phase) e) ∙ h
 
   count : Ending name d cap limit heard → end .count ≡ min limit (place cap ms)
   count (all-asked a b r) = ap (λ (s : Walk A). s .count) r ∙ omega (arith, place-all cap ms b)

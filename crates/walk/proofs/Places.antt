@@ -15,12 +15,6 @@ hits-append [] ys = refl
 hits-append (pass p ∷ xs) ys = hits-append xs ys
 hits-append (hit p ∷ xs) ys = ap (λ (x : List Bits). p ∷ x) (hits-append xs ys)
 
-pub hits-bound : (ms : List Mark) → length (hits ms) ≤ length ms
-unfolding hits
-hits-bound [] = omega arith
-hits-bound (pass p ∷ ms) = omega (arith, hits-bound ms)
-hits-bound (hit p ∷ ms) = omega (arith, hits-bound ms)
-
 -- the identity that has n before it, and stands behind ys
 pub place-hit : (n : ℕ) (ys : List Mark) (p : Bits) (zs : List Mark) → length (hits ys) ≡ n
     → place n (ys ++ hit p ∷ zs) ≡ suc (length ys)

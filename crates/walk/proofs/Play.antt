@@ -1,5 +1,5 @@
 -- The machine by recursion on the probes that are left, and that it is the same machine. Assumes nothing.
-use mathlib.Core.Path.{_≡_, refl, ap, _∙_}
+use mathlib.Core.Path.{_≡_, refl, sym, ap, _∙_}
 use mathlib.Core.Bool.{Bool, true, false, cond, _||_}
 use mathlib.Core.Option.{Option, none, some}
 use mathlib.Core.List.{List, [], _∷_, _++_}
@@ -15,6 +15,11 @@ use Rattle.walk.specs.Machine.{goOn, settle, listing, noted, stepIn, ste
 
 abbrev pub ended : {A : Type 0} → ℕ → ℕ → List A → Phase → Walk A
 ended l c f e = record { limit = l; count = c; listed = f; phase = e }
+
+-- the phase of a walk that is known
+pub phase-is : {A : Type 0} {s : Walk A} {l c : ℕ} {f : List A} {x y : Phase}
+    → s ≡ ended l c f x → s .phase ≡ y → x ≡ y
+phase-is {A} e h = sym (ap (λ (s : Walk A). s .phase) e) ∙ h
 
 module _ {A : Type 0} (name : Bits → A) (depth cap : ℕ) where
   -- an answer to p, where `go` goes on

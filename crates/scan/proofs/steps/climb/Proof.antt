@@ -1,4 +1,4 @@
--- `scan::steps::climb` meets its promise: dropping a trailing one does not change which beginning is next. Assumes nothing.
+-- `scan::steps::climb` meets its promise: a trailing one dropped does not change what is next. Assumes nothing.
 use borrow.Author.Tests.{not-true, not-false}
 use mathlib.Core.Path.{_≡_, refl, _∙_}
 use Prim.Native.Nat.{_≤_}

@@ -1,4 +1,4 @@
--- `scan::steps::keep_going` meets its promise: the scan in the state that its count and its limit give. Assumes nothing.
+-- `scan::steps::keep_going` meets its promise: the state is what its count and its limit give. Assumes nothing.
 use borrow.Author.Needs.{needs}
 use mathlib.Core.Path.{ap, _∙_}
 use Rattle.scan.specs.Steps.{inState}

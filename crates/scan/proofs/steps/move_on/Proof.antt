@@ -1,4 +1,4 @@
--- `scan::steps::move_on` meets its promise: done where no bit is left, else on with the last made a one. Assumes nothing.
+-- `scan::steps::move_on` meets its promise: done where no bit is left, else the last is made a one. Assumes nothing.
 use borrow.Author.Needs.{needs}
 use mathlib.Core.Path.{_∙_}
 use Rattle.scan.proofs.Moves.{moved-none, moved-some}
