@@ -7,7 +7,7 @@ use Prim.Native.Nat.{ℕ}
 use native.Mathlib.Omega.{arith}
 use lib.ListN.{length, length-map}
 use Rattle.identity.specs.Bits.{Bits, bitsOf}
-use Rattle.identity.specs.Identity.{width, depth, octetsOf}
+use Rattle.identity.specs.Identity.{width, depth, padded, octetsOf}
 use Rattle.identity.specs.Order.{below, lower, those}
 use Rattle.identity.proofs.Packed.{packed-apart}
 use Rattle.identity.proofs.Orders.{lower-packed}
@@ -19,12 +19,12 @@ use Rattle.walk.specs.Demand.{BusEnd}
 use Rattle.walk.proofs.Demand.{demand3}
 use Rattle.scan.specs.Record.{room, stateOf, beginningOf}
 use Rattle.scan.specs.Scan.{fresh, driven}
-use Rattle.scan.specs.Demand.{OctetBus, BusScan, Demand3}
+use Rattle.scan.specs.Demand.{OctetBus, BusScan, Demand3, Demand3Identities}
 use Rattle.scan.specs.declared.Scan.{Scan}
 use Rattle.scan.specs.declared.State.the-variants.{Complete, Limit, Full}
 use Rattle.scan.proofs.Drives.{Driven, drives-new}
 use Rattle.scan.proofs.Ends.{full-of, limit-of, complete-of, count-is, state-is, beginning-is, list-is}
-use Rattle.scan.proofs.Buses.{octets-of-bits, bits-long, bit-bus}
+use Rattle.scan.proofs.Buses.{octets-of-bits, bits-long, bit-bus, padded-bus}
 
 module _ (limit : ℕ) (ids : List (List ℕ)) (heard : Bits → Bool) (b : OctetBus ids heard)
     (all shorter : List Bits) where
@@ -124,3 +124,6 @@ demand3-octets limit ids heard b =
     let (all, shorter, e) =
     demand3 (List ℕ) octetsOf [] depth room limit (map bitsOf ids) heard (bit-bus ids heard b) in
     (map octetsOf all, shorter, bus-scan limit ids heard b all shorter e)
+
+pub demand3-identities : Demand3Identities
+demand3-identities limit ids heard b = demand3-octets limit (map padded ids) heard (padded-bus ids heard b)

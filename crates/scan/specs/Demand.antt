@@ -14,7 +14,7 @@ use lib.ListN.{length, take, getD}
 use Rattle.octets.specs.Octets.{Octets}
 use Rattle.refusal.specs.Answer.{handedOut}
 use Rattle.identity.specs.Bits.{Bits, bitsOf, masked}
-use Rattle.identity.specs.Identity.{width, depth, allowedIdentity, octetsOf, maskOf, answersScan}
+use Rattle.identity.specs.Identity.{width, depth, allowedIdentity, padded, octetsOf, maskOf, answersScan}
 use Rattle.identity.specs.Order.{lower, those, Ascending, Different}
 use Rattle.walk.specs.Probes.{Mark, order, beginningsOf, hits, place, Doubt}
 use Rattle.walk.specs.Demand.{Shorter}
@@ -83,6 +83,12 @@ Demand3 =
     (limit : ℕ) (ids : List (List ℕ)) (heard : Bits → Bool) → OctetBus ids heard
     → (all : List (List ℕ)) × (shorter : List Bits)
     × BusScan limit ids (driven heard limit (fresh limit)) (order heard depth []) all shorter
+
+abbrev pub Demand3Identities : Type 0
+Demand3Identities =
+    (limit : ℕ) (ids : List (List ℕ)) (heard : Bits → Bool) → IdentityBus ids heard
+    → (all : List (List ℕ)) × (shorter : List Bits)
+    × BusScan limit (map padded ids) (driven heard limit (fresh limit)) (order heard depth []) all shorter
 
 abbrev pub RunsOut : Type 0
 RunsOut =
