@@ -1,7 +1,7 @@
 -- Which octets are an identity, and its padding: nothing is lost by it, since the last octet is no blank.
 -- Assumes nothing.
 use mathlib.Core.Path.{_≡_, refl, sym, ap, _∙_}
-use mathlib.Core.Bool.{Bool, true, false, cond, not, _&&_, and-false, and-true, false≢true}
+use mathlib.Core.Bool.{Bool, true, false, cond, _&&_, and-false, and-true, false≢true}
 use mathlib.Core.List.{List, [], _∷_, _++_}
 use Prim.Native.Nat.{ℕ, zero, suc, _+_, _-_, _≤_, _<_}
 use native.Mathlib.Omega.{arith}

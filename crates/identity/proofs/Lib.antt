@@ -5,4 +5,5 @@ pub mod Masks
 pub mod Orders
 pub mod Identities
 pub mod Scans
+pub mod Lists
 pub mod Only

@@ -1,7 +1,7 @@
 -- The masked comparison of a scan, over the left-most n octets of a padded identity, 19 or fewer: an identity answers
 -- exactly if its bits begin with what is asked for. Assumes nothing.
 use mathlib.Core.Path.{_≡_, refl, sym, ap, ap₂, _∙_, subst}
-use mathlib.Core.Bool.{Bool, true, false, _&&_, false≢true}
+use mathlib.Core.Bool.{true, false, false≢true}
 use mathlib.Core.Logic.{_↔_}
 use mathlib.Core.List.{List, [], _∷_, _++_, append-assoc}
 use Prim.Native.Nat.{ℕ, zero, suc, _+_, _*_, _-_, _≤_}
@@ -9,14 +9,13 @@ use native.Mathlib.Omega.{arith}
 use borrow.Author.Tests.{eqb-true, eq-eqb}
 use lib.Bits.{bitAnd}
 use lib.Dec.{eqb}
-use lib.ListN.{length, take, drop, take-append-drop, length-append}
-use lib.Seq.{length-take-le, take-append-le, take-append-seam, take-at}
-use Rattle.octets.specs.Octets.{Octets}
+use lib.ListN.{length, take, drop, take-append-drop}
+use lib.Seq.{length-take-le, take-append-le, take-append-seam}
 use Rattle.octets.proofs.Bounds.{octets-take}
 use Rattle.identity.specs.Bits.{Bits, Begins, packed, unpacked, bitsOf, ones, masked}
 use Rattle.identity.specs.Identity.{width, allowedIdentity, padded, same, answersScan}
 use Rattle.identity.proofs.Words.{length-packed}
-use Rattle.identity.proofs.Packed.{length-unpacked, length-bits}
+use Rattle.identity.proofs.Packed.{length-bits}
 use Rattle.identity.proofs.Masks.{masked-begins}
 use Rattle.identity.proofs.Identities.{and-parts, allowed-parts, printable-octets, length-padded, padded-octets}
 

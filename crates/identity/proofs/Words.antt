@@ -9,7 +9,7 @@ use native.Mathlib.Omega.{arith}
 use borrow.Author.Tests.{leb-true, leb-false}
 use lib.Dec.{leb}
 use lib.ListN.{length, take, drop, getD, set, replicate}
-use lib.ListN.{length-take, length-replicate, drop-of-length-le, List·getD-eq-default}
+use lib.ListN.{length-take, drop-of-length-le, List·getD-eq-default}
 use lib.Seq.{getD-take, getD-drop, drop-drop, take-all, sets}
 use Rattle.octets.specs.Octets.{Octets, _atStartOf_}
 use Rattle.octets.proofs.Stores.{sets-start, sets-more, sets-done}
@@ -91,10 +91,21 @@ pub packed-fill : (n : ℕ) (p : Bits) (k : ℕ) → packed n (p ++ replicate k 
 packed-fill n p k = packed-same n (p ++ replicate k false) p (λ i h. getD-fill p k i)
 
 -- ones cut short are fewer ones
-pub ones-take : (n k : ℕ) → n ≤ k → take n (ones k) ≡ ones n
-ones-take zero k h = refl
-ones-take (suc n) zero h = absurd (omega arith)
-ones-take (suc n) (suc k) h = ap (λ (x : Bits). true ∷ x) (ones-take n k (omega arith))
+ones-take : (n k : ℕ) → take n (ones k) ≡ ones (min n k)
+ones-take zero k = let e : min 0 k ≡ 0 = omega arith in rw e
+ones-take (suc n) zero = let e : min (suc n) 0 ≡ 0 = omega arith in rw e
+ones-take (suc n) (suc k) =
+    let e : min (suc n) (suc k) ≡ suc (min n k) = omega arith in
+    rw e (ap (λ (x : Bits). true ∷ x) (ones-take n k))
+
+-- as octets, ones are so many as fit
+pub ones-within : (n b : ℕ) → packed n (ones (min b (8 * n))) ≡ packed n (ones b)
+ones-within n b =
+    let e : min b (8 * n) ≡ min (8 * n) b = omega arith in
+    rw e (ap (packed n) (sym (ones-take (8 * n) b)) ∙ packed-take n (ones b))
+
+pub ones-packed : (n b : ℕ) → packed n (take b (ones (8 * n))) ≡ packed n (ones b)
+ones-packed n b = ap (packed n) (ones-take b (8 * n)) ∙ ones-within n b
 
 -- a bit of a beginning that is the first n of a row
 pub bit-in : (l : Bits) (n at : ℕ) (b : Bool) → at < n → getD l at false ≡ b
@@ -114,17 +125,6 @@ take-within l n k e = go (leb n k) refl
     go false f =
         let h : min n k ≡ k = omega (arith, leb-false n k f) in
         rw h (take-all k l (omega arith) ∙ sym (take-all n l (omega (arith, leb-false n k f))))
-
--- ones in a row of k, so many of them: as octets they are ones of any number, up to as many as fit
-pub ones-packed : (n b : ℕ) → packed n (take b (ones (8 * n))) ≡ packed n (ones b)
-ones-packed n b = go (leb b (8 * n)) refl
-  where
-    go : (t : Bool) → leb b (8 * n) ≡ t → packed n (take b (ones (8 * n))) ≡ packed n (ones b)
-    go true f = ap (packed n) (ones-take b (8 * n) (leb-true b (8 * n) f))
-    go false f =
-        let h : 8 * n ≤ b = omega (arith, leb-false b (8 * n) f) in
-        ap (packed n) (take-all b (ones (8 * n)) (omega (arith, length-replicate (8 * n) true)))
-        ∙ ap (packed n) (sym (ones-take (8 * n) b h)) ∙ packed-take n (ones b)
 
 -- a row of octets that is being filled: what is left to store, from j on
 pub fill-start : (n : ℕ) (p : Bits) (o : List ℕ) → length o ≡ n → sets o (0 + 0) (drop 0 (packed n p)) ≡ packed n p

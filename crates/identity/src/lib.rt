@@ -2,14 +2,14 @@
 ghost use mathlib.Core.Path.{_≡_};
 ghost use mathlib.Core.Bool.{true, false};
 ghost use Prim.Native.Nat.{_+_, _*_, _≤_, min};
-ghost use lib.ListN.{length, take, drop, getD};
-ghost use Rattle.identity.specs.Bits.{word, digit, packed, ones};
-ghost use Rattle.identity.specs.Identity.{allPrintable, allowedIdentity, octetsOf};
+ghost use lib.ListN.{take, drop, getD};
+ghost use Rattle.identity.specs.Bits.{word, digit, ones};
+ghost use Rattle.identity.specs.Identity.{depth, allPrintable, allowedIdentity, octetsOf};
 
 // The octets of a padded identity, and its bits.
 pub const OCTETS: usize = 19;
 
-pub const BITS: usize = 152;
+pub const BITS: usize = 8 * OCTETS;
 
 // Whether every octet is 0x20 to 0x7E.
 fn all_printable(s: &[u8]) -> bool
@@ -47,7 +47,7 @@ pub fn allowed(identity: &[u8]) -> bool
 
 // A bit of the beginning as a number; one past its end is a zero.
 fn bit(beginning: &[bool; BITS], bits: usize, at: usize) -> u8
-    requires { ⌜ bits ≤ 152 ⌝ }
+    requires { ⌜ bits ≤ depth ⌝ }
     ensures { λ r. ⌜ r ≡ digit (getD (take bits (now (beginning .entry))) at false) ⌝ }
 {
     if at < bits {
@@ -60,7 +60,7 @@ fn bit(beginning: &[bool; BITS], bits: usize, at: usize) -> u8
 
 // Eight bits of the beginning as an octet, the most significant first.
 fn octet(beginning: &[bool; BITS], bits: usize, from: usize) -> u8
-    requires { ⌜ (bits ≤ 152) × (from ≤ 152) ⌝ }
+    requires { ⌜ (bits ≤ depth) × (from ≤ depth) ⌝ }
     ensures { λ r. ⌜ r ≡ word (drop from (take bits (now (beginning .entry)))) 8 ⌝ }
 {
     let mut x: u8 = 0;
@@ -74,7 +74,7 @@ fn octet(beginning: &[bool; BITS], bits: usize, from: usize) -> u8
 
 // So many bits, but no more than a row has.
 fn within(bits: usize) -> usize
-    ensures { λ r. ⌜ r ≡ min bits 152 ⌝ }
+    ensures { λ r. ⌜ r ≡ min bits depth ⌝ }
 {
     if bits < BITS { bits } else { BITS }
 }

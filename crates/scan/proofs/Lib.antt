@@ -5,3 +5,12 @@ pub mod Probes
 pub mod Verdicts
 pub mod Rows
 pub mod Moves
+pub mod Bounded
+pub mod Drives
+pub mod Ends
+pub mod AnyScans
+pub mod Run
+pub mod Buses
+pub mod Demand
+pub mod Only
+pub mod Cases

@@ -1,5 +1,5 @@
 -- The parts of a step on the record, and the four ways of a step put together from them. Assumes nothing.
-use mathlib.Core.Path.{_≡_, refl, sym, ap, _∙_}
+use mathlib.Core.Path.{_≡_, refl, sym, _∙_}
 use mathlib.Core.Bool.{Bool, true, false, cond, _||_}
 use mathlib.Core.List.{List, [], _∷_, _++_}
 use mathlib.Core.Option.{some}
@@ -14,14 +14,14 @@ use Rattle.identity.specs.Bits.{Bits}
 use Rattle.identity.specs.Identity.{width, depth, octetsOf}
 use Rattle.identity.proofs.Words.{length-packed}
 use Rattle.walk.specs.Beginnings.{then}
-use Rattle.walk.specs.Machine.{asking, limited, full, named, goOn, settle, next, zeroHalf, listing, noted}
+use Rattle.walk.specs.Machine.{asking, limited, named, goOn, settle, next, zeroHalf, listing, noted}
 use Rattle.walk.specs.Machine.{stepIn, step}
-use Rattle.scan.specs.Record.{room, rowsOf, listOf, beginningOf, flat, phaseOf, stateOf, _onto_}
+use Rattle.scan.specs.Record.{room, listOf, beginningOf, flat, phaseOf, stateOf, _onto_}
 use Rattle.scan.specs.Record.{walkOf, recordOf}
 use Rattle.scan.specs.Steps.{nextAt, inState, at, standsAt, finishedBy, going, movedOn, notedIn}
 use Rattle.scan.specs.declared.Scan.{Scan}
 use Rattle.scan.specs.declared.State.{State}
-use Rattle.scan.specs.declared.State.the-variants.{Asking, Complete, Doubtful, Limit, Full}
+use Rattle.scan.specs.declared.State.the-variants.{Asking, Limit, Full}
 use Rattle.scan.proofs.Rows.{length-rows, rows-same, rows-more, length-more}
 
 pub moved-none : (s : Scan) (n : ℕ) (quiet doubt : Bool) {t : State} → n ≡ 0 → t ≡ finishedBy doubt
@@ -64,7 +64,8 @@ moved-is s l c listed list bits row st f zero q true a b e h = rw (a, b, e)
 moved-is s l c listed list bits row st f zero q false a b e h = rw (a, b, e)
 moved-is s l c listed list bits row st f (suc m) q w a b e h =
     let p : Bits = then (take m row) true in
-    let k : suc m ≡ length p = omega (arith, length-append (take m row) (true ∷ []), length-take-le m row (omega arith)) in
+    let k : suc m ≡ length p =
+    omega (arith, length-append (take m row) (true ∷ []), length-take-le m row (omega arith)) in
     placed-is s l c listed list (suc m) (set row m true) st f p q w a b k
     (rw (← k, ← e, append-snoc (take m row) true (drop (suc m) row)) (set-split row m true h))
 
@@ -113,7 +114,8 @@ module _ (s : Scan) (q w : Bool) where
   note-listed n {list} g h b e k i v =
       let y : List ℕ = octetsOf (beginningOf s) in
       let long : length (beginningOf s) ≡ s .bits = bits-are (omega arith) in
-      let fits : width * s .listed + length y ≤ length (s .list) = omega (arith, length-packed width (beginningOf s)) in
+      let fits : width * s .listed + length y ≤ length (s .list) =
+      omega (arith, length-packed width (beginningOf s)) in
       rw (
         le-ltb (length (beginningOf s)) depth (omega arith),
         lt-ltb (length (listOf s)) room (omega (arith, same-length)),

@@ -1,17 +1,17 @@
 -- The octets of a probe, as the code puts them together, and the probe's answer. Assumes nothing.
 use mathlib.Core.Path.{_≡_, refl, sym, ap, _∙_}
-use mathlib.Core.Bool.{Bool, true, false, cond}
+use mathlib.Core.Bool.{true, false}
 use mathlib.Core.List.{List, [], _∷_, _++_, append-nil}
-use Prim.Native.Nat.{ℕ, _+_, _≤_}
+use Prim.Native.Nat.{ℕ, _+_, min}
 use native.Mathlib.Omega.{arith}
-use lib.ListN.{length, take, drop, replicate, length-append, drop-of-length-le}
-use lib.Seq.{sets, length-take-le}
+use lib.ListN.{length, take, replicate, length-append, length-take, drop-of-length-le}
+use lib.Seq.{sets}
 use Rattle.octets.specs.Octets.{_atStartOf_}
 use Rattle.octets.proofs.Stores.{sets-append, sets-start}
-use Rattle.identity.specs.Bits.{Bits, packed, ones}
+use Rattle.identity.specs.Bits.{Bits, ones}
 use Rattle.identity.specs.Identity.{width, depth, octetsOf, maskOf}
-use Rattle.identity.proofs.Words.{length-packed}
-use Rattle.refusal.specs.Answer.{Answer, gives, refuses, _when_, answered, handedOut}
+use Rattle.identity.proofs.Words.{length-packed, ones-within}
+use Rattle.refusal.specs.Answer.{refuses, answered, handedOut}
 use Rattle.scan.specs.Record.{beginningOf}
 use Rattle.scan.specs.Scan.{probeOf, over, probed}
 use Rattle.scan.specs.declared.Scan.{Scan}
@@ -48,26 +48,27 @@ length-probe p =
     )
 
 -- the octets of the probe, as they are put into a row of zeros
-probe-is : (row : Bits) (n : ℕ) → n ≤ depth → length row ≡ depth
+probe-is : (row : Bits) (n : ℕ) → length row ≡ depth
     → sets (sets (sets (sets (replicate 47 0) 0 head) 7 (octetsOf (take n row))) 26 (3 ∷ width ∷ [])) 28
     (octetsOf (ones n))
     ≡ probeOf (take n row)
 unfolding probeOf
-probe-is row n h e =
+probe-is row n e =
     let v : List ℕ = octetsOf (take n row) in
     let t : List ℕ = 3 ∷ width ∷ [] in
     let m : List ℕ = octetsOf (ones n) in
     let size : 47 ≡ length (head ++ (v ++ (t ++ m))) =
     omega (arith, length-packed width (take n row), length-packed width (ones n), length-append v (t ++ m)) in
-    let long : n ≡ length (take n row) = sym (length-take-le n row (omega arith)) in
+    let long : length (take n row) ≡ min n depth = length-take n row ∙ ap (min n) e in
     four-runs (replicate 47 0) head v t m 7 26 28 refl (omega (arith, length-packed width (take n row))) refl size
-    ∙ ap (λ (k : ℕ). head ++ (v ++ (t ++ octetsOf (ones k)))) long
+    ∙ ap (λ (x : List ℕ). head ++ (v ++ (t ++ x)))
+    (sym (ap (λ (k : ℕ). octetsOf (ones k)) long ∙ ones-within width n))
 
-pub probe-built : (row : Bits) (n : ℕ) {v m f g i j : List ℕ} → n ≤ depth → length row ≡ depth
+pub probe-built : (row : Bits) (n : ℕ) {v m f g i j : List ℕ} → length row ≡ depth
     → v ≡ octetsOf (take n row) → m ≡ octetsOf (ones n)
     → f ≡ sets (replicate 47 0) 0 head → g ≡ sets f 7 v → i ≡ sets g 26 (3 ∷ width ∷ []) → j ≡ sets i 28 m
     → j ≡ probeOf (take n row)
-probe-built row n h e a b x y z w = w ∙ rw (z, y, x, a, b) (probe-is row n h e)
+probe-built row n e a b x y z w = w ∙ rw (z, y, x, a, b) (probe-is row n e)
 
 module _ (s : Scan) (lent : ℕ) where
   pub probed-over : true ≡ over s → probed s lent ≡ refuses 7

@@ -1,10 +1,7 @@
 -- What a promise by `Reports` is shown from, and that it allows one result. Assumes nothing.
-use mathlib.Core.Path.{_≡_, refl, sym, ap, ap₂, _∙_}
+use mathlib.Core.Path.{_≡_, refl, sym, ap, ap₂}
 use mathlib.Core.Bool.{Bool, true, false}
-use mathlib.Core.List.{List, [], _∷_}
-use Prim.Native.Nat.{ℕ}
-use Rattle.refusal.specs.Numbers.{numberOf}
-use Rattle.refusal.specs.Answer.{Answer, gives, refuses, _when_, answered}
+use Rattle.refusal.specs.Answer.{Answer, answered}
 use Rattle.refusal.proofs.Answers.{gives-not-refuses, refuses-same}
 use Rattle.refusal.proofs.Only.{number-apart}
 use Rattle.refusal.specs.declared.Refusal.the-variants.{ScanOver}
@@ -30,6 +27,16 @@ pub report-taken : (s : Scan) (heard : Bool) {t : Scan} → over s ≡ false
     → Reports (reported s heard) s (record { answer = Taken; scan = t })
 unfolding reported answered verdictOf verdict scanAfter
 report-taken s heard e g = record { answer = rw e; scan = rw e g }
+
+-- the scan after a report: as it was, or one step on
+pub report-stays : (s : Scan) (a : Bool) → true ≡ over s → scanAfter (reported s a) s ≡ s
+unfolding reported answered scanAfter
+report-stays s a e = rw (← e)
+
+pub report-steps : (s : Scan) (a : Bool) → over s ≡ false
+    → scanAfter (reported s a) s ≡ recordOf s (step octetsOf depth room (walkOf s) a)
+unfolding reported answered scanAfter
+report-steps s a e = rw e
 
 verdict-apart : (r q : Verdict) → verdictOf r ≡ verdictOf q → r ≡ q
 unfolding verdictOf

@@ -1,1 +1,96 @@
--- Demand 3, in octets. Assumes nothing.
+-- Demand 3, in octets and of the record that the code makes, from `fresh limit` on.
+--   OctetBus ids heard    == demand 3's premises: padded identities, no two alike, and a probe is heard exactly when
+--                            one of them, masked as a scan masks it, equals what the probe asks for
+--   IdentityBus ids heard == the same of allowed identities, not padded
+--   AnyScan               == what a scan comes to by any answers at all; BusScan == what it comes to on a bus
+--   RunsOut               == from any record that is not refused, limit - count answers reach an end
+-- `last` is the scan at its end, `after i` the scan after i answers, ms the order of the probes. Assumes nothing.
+use mathlib.Core.Path.{_≡_}
+use mathlib.Core.Bool.{Bool, true, false}
+use mathlib.Core.List.{List, [], map, List·Memᴰ}
+use mathlib.Core.Logic.{_↔_, _⊎_}
+use Prim.Native.Nat.{ℕ, _+_, _*_, _-_, _≤_, _<_, min}
+use lib.ListN.{length, take, getD}
+use Rattle.octets.specs.Octets.{Octets}
+use Rattle.refusal.specs.Answer.{handedOut}
+use Rattle.identity.specs.Bits.{Bits, bitsOf, masked}
+use Rattle.identity.specs.Identity.{width, depth, allowedIdentity, padded, octetsOf, maskOf, answersScan}
+use Rattle.identity.specs.Order.{lower, those, Ascending, Different}
+use Rattle.walk.specs.Probes.{Mark, order, beginningsOf, hits, place, Doubt}
+use Rattle.walk.specs.Demand.{Shorter}
+use Rattle.scan.specs.Record.{room, beginningOf, listOf}
+use Rattle.scan.specs.Scan.{fresh, probeOf, ended, over, probed, reportedAll, driven}
+use Rattle.scan.specs.declared.Scan.{Scan}
+use Rattle.scan.specs.declared.State.the-variants.{Complete, Doubtful, Limit, Full}
+
+pub record OctetBus (ids : List (List ℕ)) (heard : Bits → Bool) : Type 0 where
+  pub whole : (i : List ℕ) → List·Memᴰ i ids → (length i ≡ width) × Octets i
+  pub apart : Different ids
+  pub right : (p : Bits) → length p ≤ depth
+      → (heard p ≡ true) ↔ ((i : List ℕ) × List·Memᴰ i ids × (masked i (maskOf p) ≡ octetsOf p))
+
+pub record IdentityBus (ids : List (List ℕ)) (heard : Bits → Bool) : Type 0 where
+  pub allowed : (i : List ℕ) → List·Memᴰ i ids → allowedIdentity i ≡ true
+  pub apart : Different ids
+  pub right : (p : Bits) → length p ≤ depth
+      → (heard p ≡ true) ↔ ((i : List ℕ) × List·Memᴰ i ids × (answersScan i (maskOf p) (octetsOf p) ≡ true))
+
+pub record AnyScan (limit : ℕ) (heard : Bits → Bool) (last : Scan) (after : ℕ → Scan) (ms : List Mark) : Type 0 where
+  pub count : last .count ≡ min limit (place room ms)
+  pub list : listOf last ≡ map octetsOf (take room (hits (take (last .count) ms)))
+  pub over : ended (last .state) ≡ true
+  pub fulls : (last .state ≡ Full) ↔ ((room < length (hits ms)) × (place room ms ≤ limit))
+  pub full-names : last .state ≡ Full → beginningOf last ≡ getD (hits ms) room []
+  pub limits : (last .state ≡ Limit) ↔ (limit < place room ms)
+  pub limit-names : last .state ≡ Limit → beginningOf last ≡ getD (beginningsOf ms) limit []
+  pub doubtfuls : (last .state ≡ Doubtful)
+      ↔ ((length (hits ms) ≤ room) × (length ms ≤ limit) × Doubt heard depth [])
+  pub completes : (last .state ≡ Complete)
+      ↔ ((length (hits ms) ≤ room) × (length ms ≤ limit) × (Doubt heard depth [] → ⊥))
+  -- what `probe` writes after i answers is the probe of the i-th beginning of the order, and no beginning comes twice
+  pub sent : (i : ℕ) → i < last .count → (lent : ℕ)
+      → probed (after i) lent ≡ handedOut (probeOf (getD (beginningsOf ms) i [])) lent
+  pub once : Different (beginningsOf ms)
+
+-- `all` are the identities, each once, ascending; `shorter` the different beginnings of 0 to 151 bits
+pub record BusScan (limit : ℕ) (ids : List (List ℕ)) (last : Scan) (ms : List Mark)
+    (all : List (List ℕ)) (shorter : List Bits) : Type 0 where
+  pub ascending : Ascending lower all
+  pub members : (x : List ℕ) → List·Memᴰ x all ↔ List·Memᴰ x ids
+  pub once : Different all
+  pub counted : Shorter depth (map bitsOf ids) shorter
+  pub probes : length ms ≡ 1 + 2 * length shorter
+  pub ends : (last .state ≡ Complete) ⊎ ((last .state ≡ Limit) ⊎ (last .state ≡ Full))
+  pub completes : (last .state ≡ Complete) ↔ ((length ids ≤ room) × (1 + 2 * length shorter ≤ limit))
+  pub complete-list : last .state ≡ Complete → listOf last ≡ all
+  pub complete-count : last .state ≡ Complete → last .count ≡ 1 + 2 * length shorter
+  pub bound : last .count ≤ 1 + 304 * length ids
+  pub limit-count : last .state ≡ Limit → last .count ≡ limit
+  pub limit-names : last .state ≡ Limit → beginningOf last ≡ getD (beginningsOf ms) limit []
+  pub limit-list : last .state ≡ Limit → listOf last ≡ those (λ x. lower x (octetsOf (beginningOf last))) all
+  pub fulls : (last .state ≡ Full) ↔ ((room < length ids) × (place room ms ≤ limit))
+  pub full-count : last .state ≡ Full → last .count ≡ place room ms
+  pub full-names : last .state ≡ Full → octetsOf (beginningOf last) ≡ getD all room []
+  pub full-list : last .state ≡ Full → listOf last ≡ those (λ x. lower x (octetsOf (beginningOf last))) all
+
+abbrev pub AnyScans : Type 0
+AnyScans =
+    (limit : ℕ) (heard : Bits → Bool)
+    → AnyScan limit heard (driven heard limit (fresh limit)) (λ i. driven heard i (fresh limit)) (order heard depth [])
+
+abbrev pub Demand3 : Type 0
+Demand3 =
+    (limit : ℕ) (ids : List (List ℕ)) (heard : Bits → Bool) → OctetBus ids heard
+    → (all : List (List ℕ)) × (shorter : List Bits)
+    × BusScan limit ids (driven heard limit (fresh limit)) (order heard depth []) all shorter
+
+abbrev pub Demand3Identities : Type 0
+Demand3Identities =
+    (limit : ℕ) (ids : List (List ℕ)) (heard : Bits → Bool) → IdentityBus ids heard
+    → (all : List (List ℕ)) × (shorter : List Bits)
+    × BusScan limit (map padded ids) (driven heard limit (fresh limit)) (order heard depth []) all shorter
+
+abbrev pub RunsOut : Type 0
+RunsOut =
+    (s : Scan) (answers : List Bool) → over s ≡ false → length answers ≡ s .limit - s .count
+    → ended ((reportedAll s answers) .state) ≡ true

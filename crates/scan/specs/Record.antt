@@ -6,7 +6,6 @@
 --   front onto l     == front at the start of l, the rest of l as it was
 --   recordOf s v     == the walk v as a record, with what lies past the list and past the beginning as it was in s
 -- Assumes nothing.
-use mathlib.Core.Bool.{Bool, true, false}
 use mathlib.Core.List.{List, [], _∷_, _++_}
 use Prim.Native.Nat.{ℕ, zero, suc}
 use lib.ListN.{length, take, drop}

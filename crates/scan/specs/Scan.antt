@@ -9,11 +9,11 @@
 --   driven heard n s == the scan s after n answers, each as `heard` says of the beginning that is asked
 -- Assumes nothing.
 use mathlib.Core.Path.{_≡_}
-use mathlib.Core.Bool.{Bool, true, false, cond, not, _||_}
+use mathlib.Core.Bool.{Bool, true, false, not, _||_}
 use mathlib.Core.List.{List, [], _∷_, _++_}
 use Prim.Native.Nat.{ℕ, zero, suc, _*_}
 use lib.Dec.{ltb}
-use lib.ListN.{length, replicate}
+use lib.ListN.{replicate}
 use Rattle.identity.specs.Bits.{Bits}
 use Rattle.identity.specs.Identity.{width, depth, octetsOf, maskOf}
 use Rattle.refusal.specs.Numbers.{numberOf}

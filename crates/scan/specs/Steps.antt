@@ -7,7 +7,7 @@
 --   movedOn s n q w  == s goes on at the first n bits, the last made a one; it is done where n is 0
 --   notedIn s q w a  == s, which asks with the flags q and w, after the answer a
 -- Assumes nothing.
-use mathlib.Core.Bool.{Bool, true, false, cond}
+use mathlib.Core.Bool.{Bool, true, cond}
 use mathlib.Core.Option.{Option, none, some}
 use Prim.Native.Nat.{ℕ, zero, suc}
 use lib.Dec.{ltb}

@@ -1,17 +1,16 @@
 -- What a walk comes to by any answers at all, from the three ways in which it can end. Assumes nothing.
 use mathlib.Core.Path.{_≡_, refl, sym, ap, _∙_}
 use mathlib.Core.Bool.{Bool, true, false, cond, true≢false}
-use mathlib.Core.List.{List, [], _∷_, _++_, append-assoc, append-nil, map}
-use mathlib.Core.Logic.{_↔_}
-use Prim.Native.Nat.{ℕ, zero, suc, _+_, _≤_, _<_, min}
+use mathlib.Core.List.{List, [], _∷_, _++_, append-assoc, map}
+use Prim.Native.Nat.{ℕ, suc, _+_, _≤_, _<_, min}
 use native.Mathlib.Omega.{arith}
 use lib.ListN.{length, take, getD, length-append}
 use lib.Seq.{take-all, take-at}
 use Rattle.identity.specs.Bits.{Bits}
-use Rattle.walk.specs.Probes.{Mark, hit, asked, beginningsOf, hits, place, Doubt}
+use Rattle.walk.specs.Probes.{Mark, hit, beginningsOf, hits, place, Doubt}
 use Rattle.walk.specs.Machine.{Phase, asking, complete, doubtful, limited, full, Ended, Walk, start, run}
 use Rattle.walk.specs.Demand.{AnyEnd, AnyAnswers}
-use Rattle.walk.proofs.Play.{ended}
+use Rattle.walk.proofs.Play.{ended, phase-is}
 use Rattle.walk.proofs.Doubts.{doubts, doubts-in, doubts-out}
 use Rattle.walk.proofs.Places.{hits-append, hits-more, place-hit, place-late, place-all, asked-at, heard-at}
 use Rattle.walk.proofs.Endings.{last, probes, Ending, all-asked, at-limit, at-full, ending}
@@ -52,9 +51,6 @@ module _ {A : Type 0} (name : Bits → A) (d cap limit : ℕ) (heard : Bits → 
   abbrev flag : Bool
   flag = doubts heard d []
 
-  phase-is : {c : ℕ} {f : List A} {x y : Phase} → end ≡ ended limit c f x → end .phase ≡ y → x ≡ y
-  phase-is e h = sym (ap (λ (s : Walk A). s .phase) e) ∙ h
-
   count : Ending name d cap limit heard → end .count ≡ min limit (place cap ms)
   count (all-asked a b r) = ap (λ (s : Walk A). s .count) r ∙ omega (arith, place-all cap ms b)
   count (at-limit ys m zs e a b r) =
@@ -67,7 +63,8 @@ module _ {A : Type 0} (name : Bits → A) (d cap limit : ℕ) (heard : Bits → 
   unfolding hits
   found (all-asked a b r) =
       rw r (ap (map name)
-      (sym (ap (λ (x : List Mark). take cap (hits x)) (take-all (length ms) ms (omega arith)) ∙ take-all cap (hits ms) b)))
+      (sym (ap (λ (x : List Mark). take cap (hits x)) (take-all (length ms) ms (omega arith))
+      ∙ take-all cap (hits ms) b)))
   found (at-limit ys m zs e a b r) =
       rw r (ap (map name)
       (sym (ap (λ (x : List Mark). take cap (hits (take limit x))) e
@@ -126,7 +123,8 @@ module _ {A : Type 0} (name : Bits → A) (d cap limit : ℕ) (heard : Bits → 
   limit-is (all-asked a b r) p (x, y) = absurd (omega (arith, place-all cap ms b))
   limit-is (at-limit ys m zs e a b r) p (x, y) =
       ap (λ (s : Walk A). s .phase) r
-      ∙ ap limited (sym (asked-at ys m zs limit a) ∙ sym (ap (λ (x : List Mark). getD (beginningsOf x) limit []) e) ∙ y)
+      ∙ ap limited
+      (sym (asked-at ys m zs limit a) ∙ sym (ap (λ (x : List Mark). getD (beginningsOf x) limit []) e) ∙ y)
   limit-is (at-full ys q zs e a b r) p (x, y) = absurd (omega (arith, ap (place cap) e, place-hit cap ys q zs b))
 
   -- no probe remains, and the list was not full

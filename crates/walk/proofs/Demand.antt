@@ -1,25 +1,26 @@
 -- Demand 3: what a walk of a bus that does not change comes to. Assumes nothing.
 use mathlib.Core.Path.{_≡_, refl, sym, ap, ap₂, _∙_, subst}
-use mathlib.Core.Bool.{Bool, true, false, not, _&&_, _||_, or-false, true≢false, false≢true}
+use mathlib.Core.Bool.{Bool, true, false, not, _&&_, true≢false, false≢true}
 use mathlib.Core.List.{List, [], _∷_, _++_, append-assoc, map, List·Memᴰ, Memᴰ·cast}
 use mathlib.Core.Logic.{_⊎_, inl, inr, _↔_}
-use Prim.Native.Nat.{ℕ, zero, suc, _+_, _*_, _≤_, _<_}
+use Prim.Native.Nat.{ℕ, zero, suc, _+_, _*_, _≤_}
 use native.Mathlib.Omega.{arith}
-use lib.ListN.{length, take, length-append}
-use lib.Seq.{take-all}
+use lib.ListN.{length, length-append}
 use Rattle.identity.specs.Bits.{Bits}
 use Rattle.identity.specs.Order.{below, those, Different}
 use Rattle.walk.specs.Beginnings.{then, half, under, Matches, Deep}
-use Rattle.walk.specs.Probes.{Mark, pass, hit, asked, hits, place, order, Doubt}
+use Rattle.walk.specs.Probes.{Mark, pass, hit, asked, hits, order, Doubt}
 use Rattle.walk.specs.Machine.{Phase, asking, complete, doubtful, limited, full, Ended, Walk, start, run}
-use Rattle.walk.specs.Demand.{Bus, AnyEnd, BusEnd, Demand3}
+use Rattle.walk.specs.Demand.{AnyEnd, BusEnd, Demand3}
 use Rattle.walk.proofs.Halves.{anyone, matches-anyone, anyone-matches, same-truth, someone}
 use Rattle.walk.proofs.Halves.{under-in, under-out, under-then, deep-half, deep-under}
+use Rattle.walk.proofs.Play.{phase-is}
 use Rattle.walk.proofs.Doubts.{silent, doubts, doubts-out}
 use Rattle.walk.proofs.Places.{place-all, place-bound}
 use Rattle.walk.proofs.Endings.{last, Ending, all-asked, at-limit, at-full, ending}
 use Rattle.walk.proofs.Answers.{tag, flag-tag, limited-same, full-same, any-answers}
-use Rattle.walk.proofs.Visit.{visit, begins, visit-length, begins-bound, hits-in, hits-out, hits-length, different-half}
+use Rattle.walk.proofs.Visit.{visit, begins, visit-length, begins-bound, hits-in, hits-out, hits-length}
+use Rattle.walk.proofs.Visit.{different-half}
 use Rattle.walk.proofs.Sorted.{Sorted, visit-sorted, heard-before, sorted-ascending, ascending-once}
 use Rattle.walk.proofs.Begins.{begins-shorter}
 
@@ -124,9 +125,6 @@ module _ (d : ℕ) (ids : List Bits) (deep : Deep d ids) (apart : Different ids)
     any : AnyEnd name d cap limit heard end (λ i. run name d cap heard i (start limit)) ms
     any = any-answers A name d cap limit heard
 
-    phase-is : {x y : Phase} → end .phase ≡ x → end .phase ≡ y → x ≡ y
-    phase-is e h = sym e ∙ h
-
     ends : (x : Phase) → end .phase ≡ x → Ended x
         → (end .phase ≡ complete) ⊎ (((p : Bits) × (end .phase ≡ limited p)) ⊎ ((p : Bits) × (end .phase ≡ full p)))
     ends (asking p q w) e h = absurd h
@@ -138,29 +136,29 @@ module _ (d : ℕ) (ids : List Bits) (deep : Deep d ids) (apart : Different ids)
     complete-list : Ending name d cap limit heard → end .phase ≡ complete → end .listed ≡ map name all
     complete-list (all-asked a b r) h = ap (λ (s : Walk A). s .listed) r
     complete-list (at-limit ys m zs e a b r) h =
-        absurd (omega (arith, ap tag (sym (ap (λ (s : Walk A). s .phase) r) ∙ h)))
+        absurd (omega (arith, ap tag (phase-is r h)))
     complete-list (at-full ys p zs e a b r) h =
-        absurd (omega (arith, ap tag (sym (ap (λ (s : Walk A). s .phase) r) ∙ h)))
+        absurd (omega (arith, ap tag (phase-is r h)))
 
     limit-list : Ending name d cap limit heard → (p : Bits) → end .phase ≡ limited p
         → end .listed ≡ map name (those (λ x. below x p) all)
     limit-list (all-asked a b r) p h =
-        absurd (omega (arith, ap tag (sym (ap (λ (s : Walk A). s .phase) r) ∙ h), flag-tag (doubts heard d [])))
+        absurd (omega (arith, ap tag (phase-is r h), flag-tag (doubts heard d [])))
     limit-list (at-limit ys m zs e a b r) p h =
-        let g : asked m ≡ p = limited-same (sym (ap (λ (s : Walk A). s .phase) r) ∙ h) in
+        let g : asked m ≡ p = limited-same (phase-is r h) in
         ap (λ (s : Walk A). s .listed) r
         ∙ ap (map name) (heard-is ys m zs e ∙ ap (λ (y : Bits). those (λ x. below x y) all) g)
     limit-list (at-full ys q zs e a b r) p h =
-        absurd (omega (arith, ap tag (sym (ap (λ (s : Walk A). s .phase) r) ∙ h)))
+        absurd (omega (arith, ap tag (phase-is r h)))
 
     full-list : Ending name d cap limit heard → (p : Bits) → end .phase ≡ full p
         → end .listed ≡ map name (those (λ x. below x p) all)
     full-list (all-asked a b r) p h =
-        absurd (omega (arith, ap tag (sym (ap (λ (s : Walk A). s .phase) r) ∙ h), flag-tag (doubts heard d [])))
+        absurd (omega (arith, ap tag (phase-is r h), flag-tag (doubts heard d [])))
     full-list (at-limit ys m zs e a b r) p h =
-        absurd (omega (arith, ap tag (sym (ap (λ (s : Walk A). s .phase) r) ∙ h)))
+        absurd (omega (arith, ap tag (phase-is r h)))
     full-list (at-full ys q zs e a b r) p h =
-        let g : q ≡ p = full-same (sym (ap (λ (s : Walk A). s .phase) r) ∙ h) in
+        let g : q ≡ p = full-same (phase-is r h) in
         ap (λ (s : Walk A). s .listed) r
         ∙ ap (map name) (heard-is ys (hit q) zs e ∙ ap (λ (y : Bits). those (λ x. below x y) all) g)
 
@@ -170,6 +168,7 @@ module _ (d : ℕ) (ids : List Bits) (deep : Deep d ids) (apart : Different ids)
         ascending = sorted-ascending ms sorted;
         members = members;
         once = ascending-once all (sorted-ascending ms sorted);
+        number = heard-number;
       };
       counted = begins-shorter d ids;
       probes = probes-number;

@@ -1,7 +1,7 @@
 -- The doubt as a flag that is worked out along the walk, and that it says what `Doubt` says. Assumes nothing.
 use mathlib.Core.Path.{_≡_, refl, sym, ap, _∙_}
 use mathlib.Core.Bool.{Bool, true, false, cond, not, _&&_, _||_, true≢false, false≢true, or-true}
-use mathlib.Core.List.{List, [], _∷_, _++_, Memᴰ·append-left, Memᴰ·append-right}
+use mathlib.Core.List.{[], _++_, Memᴰ·append-left, Memᴰ·append-right}
 use mathlib.Core.List.{List·Memᴰ, List·Memᴰ·head, List·Memᴰ·tail, List·Memᴰ·not-nil, List·Memᴰ·cases-cons}
 use mathlib.Core.List.{List·Memᴰ·append-cases, List·Memᴰ·eq-of-singleton}
 use mathlib.Core.Logic.{_⊎_, inl, inr, ⊎-elim}
@@ -11,7 +11,7 @@ use borrow.Author.Tests.{not-true}
 use Rattle.identity.specs.Bits.{Bits}
 use Rattle.identity.proofs.Identities.{and-parts}
 use Rattle.walk.specs.Beginnings.{then}
-use Rattle.walk.specs.Probes.{Mark, pass, hit, order, Doubt}
+use Rattle.walk.specs.Probes.{pass, hit, order, Doubt}
 
 or-parts : (a b : Bool) → (a || b) ≡ true → (a ≡ true) ⊎ (b ≡ true)
 or-parts true b e = inl refl

@@ -1,8 +1,8 @@
 -- How a walk ends, by any answers at all, and that it has one end. Assumes nothing.
-use mathlib.Core.Path.{_≡_, refl, sym, ap, _∙_}
+use mathlib.Core.Path.{_≡_, refl, ap, _∙_}
 use mathlib.Core.Bool.{Bool, cond}
 use mathlib.Core.List.{List, [], _∷_, _++_, map}
-use Prim.Native.Nat.{ℕ, zero, suc, _+_, _≤_, _<_}
+use Prim.Native.Nat.{ℕ, suc, _+_, _≤_, _<_}
 use native.Mathlib.Omega.{arith}
 use lib.ListN.{length}
 use Rattle.identity.specs.Bits.{Bits}
@@ -23,7 +23,8 @@ module _ {A : Type 0} (name : Bits → A) (d cap limit : ℕ) (heard : Bits → 
   -- all probes answered; stopped at the limit, before m; stopped at the identity p, which finds the list full
   pub data Ending : Type 0 where
     all-asked : length probes ≤ limit → length (hits probes) ≤ cap
-        → last ≡ ended limit (length probes) (map name (hits probes)) (cond (doubts heard d []) doubtful complete) → Ending
+        → last ≡ ended limit (length probes) (map name (hits probes)) (cond (doubts heard d []) doubtful complete)
+        → Ending
     at-limit : (ys : List Mark) (m : Mark) (zs : List Mark)
         → probes ≡ ys ++ m ∷ zs → length ys ≡ limit → length (hits ys) ≤ cap
         → last ≡ ended limit limit (map name (hits ys)) (limited (asked m)) → Ending
@@ -45,8 +46,10 @@ module _ {A : Type 0} (name : Bits → A) (d cap limit : ℕ) (heard : Bits → 
           all-asked a b (fed refl ∙ feed-whole name cap limit (doubts heard d []) probes limit 0 [] a (omega arith)
           ∙ counts (map name (hits probes)) (cond (doubts heard d []) doubtful complete) (omega arith))
       go (stopped ys m zs e a b) =
-          at-limit ys m zs e a b (fed e ∙ feed-stop name cap limit (doubts heard d []) ys m zs limit 0 [] a (omega arith)
+          at-limit ys m zs e a b
+          (fed e ∙ feed-stop name cap limit (doubts heard d []) ys m zs limit 0 [] a (omega arith)
           ∙ counts (map name (hits ys)) (limited (asked m)) (omega arith))
       go (over ys p zs e a b) =
-          at-full ys p zs e a b (fed e ∙ feed-over name cap limit (doubts heard d []) ys p zs limit 0 [] a (omega arith)
+          at-full ys p zs e a b
+          (fed e ∙ feed-over name cap limit (doubts heard d []) ys p zs limit 0 [] a (omega arith)
           ∙ counts (map name (hits ys)) (full p) (omega arith))

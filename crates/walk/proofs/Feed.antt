@@ -1,7 +1,7 @@
 -- What becomes of a walk that goes through a list of probes: one of three, whatever the list and the limit.
 -- Assumes nothing.
 use mathlib.Core.Path.{_≡_, refl, ap}
-use mathlib.Core.Bool.{Bool, true, false, cond}
+use mathlib.Core.Bool.{Bool, cond}
 use mathlib.Core.List.{List, [], _∷_, _++_, append-assoc, append-nil, map}
 use Prim.Native.Nat.{ℕ, zero, suc, _+_, _≤_, _<_}
 use native.Mathlib.Nat.{add-zero}
@@ -11,7 +11,7 @@ use lib.Dec.{ltb}
 use lib.ListN.{length, length-append}
 use Rattle.identity.specs.Bits.{Bits}
 use Rattle.walk.specs.Probes.{Mark, pass, hit, asked, hits}
-use Rattle.walk.specs.Machine.{Phase, complete, doubtful, limited, full, Walk}
+use Rattle.walk.specs.Machine.{complete, doubtful, limited, full, Walk}
 use Rattle.walk.proofs.Play.{ended}
 
 -- k probes may still be asked, c are answered, f is listed; W is the flag that the end has
@@ -95,4 +95,5 @@ fate (suc cap) (suc k) (hit p ∷ ms) = more (fate cap k ms)
     more (whole a b) = whole (omega arith) (omega arith)
     more (stopped ys m zs e a b) =
         stopped (hit p ∷ ys) m zs (ap (λ (x : List Mark). hit p ∷ x) e) (omega arith) (omega arith)
-    more (over ys r zs e a b) = over (hit p ∷ ys) r zs (ap (λ (x : List Mark). hit p ∷ x) e) (omega arith) (omega arith)
+    more (over ys r zs e a b) =
+        over (hit p ∷ ys) r zs (ap (λ (x : List Mark). hit p ∷ x) e) (omega arith) (omega arith)

@@ -1,8 +1,8 @@
 -- Halving a list of identities, and the beginnings next to each other. Assumes nothing.
 use mathlib.Core.Path.{_≡_, refl, sym, ap}
 use mathlib.Core.Bool.{Bool, true, false, not, true≢false, false≢true}
-use mathlib.Core.Logic.{_⊎_, inl, inr}
-use mathlib.Core.Option.{Option, none, some}
+use mathlib.Core.Logic.{inl, inr, ⊎-elim}
+use mathlib.Core.Option.{some}
 use mathlib.Core.List.{List, [], _∷_, _++_, head-eq-of-cons-eq, tail-eq-of-cons-eq, cons≢nil}
 use mathlib.Core.List.{List·Memᴰ, List·Memᴰ·head, List·Memᴰ·tail, List·Memᴰ·not-nil, List·Memᴰ·cases-cons}
 use Prim.Native.Nat.{ℕ, zero, suc, _+_}
@@ -47,11 +47,13 @@ unfolding half
 half-in b i [] m = absurd (List·Memᴰ·not-nil m)
 half-in b i ([] ∷ is) m = List·Memᴰ·tail (half-in b i is m)
 half-in true i ((true ∷ j) ∷ is) m =
-    elim (List·Memᴰ·cases-cons m) [ inl e ↦ List·Memᴰ·head (ap (λ (x : Bits). true ∷ x) e) | inr t ↦ List·Memᴰ·tail (half-in true i is t) ]
+    ⊎-elim (λ e. List·Memᴰ·head (ap (λ (x : Bits). true ∷ x) e))
+    (λ t. List·Memᴰ·tail (half-in true i is t)) (List·Memᴰ·cases-cons m)
 half-in true i ((false ∷ j) ∷ is) m = List·Memᴰ·tail (half-in true i is m)
 half-in false i ((true ∷ j) ∷ is) m = List·Memᴰ·tail (half-in false i is m)
 half-in false i ((false ∷ j) ∷ is) m =
-    elim (List·Memᴰ·cases-cons m) [ inl e ↦ List·Memᴰ·head (ap (λ (x : Bits). false ∷ x) e) | inr t ↦ List·Memᴰ·tail (half-in false i is t) ]
+    ⊎-elim (λ e. List·Memᴰ·head (ap (λ (x : Bits). false ∷ x) e))
+    (λ t. List·Memᴰ·tail (half-in false i is t)) (List·Memᴰ·cases-cons m)
 
 pub half-out : (b : Bool) (i : Bits) (ids : List Bits) → List·Memᴰ (b ∷ i) ids → List·Memᴰ i (half b ids)
 unfolding half
@@ -59,13 +61,16 @@ half-out b i [] m = absurd (List·Memᴰ·not-nil m)
 half-out b i ([] ∷ is) m =
     elim (List·Memᴰ·cases-cons m) [ inl e ↦ absurd (cons≢nil e) | inr t ↦ half-out b i is t ]
 half-out true i ((true ∷ j) ∷ is) m =
-    elim (List·Memᴰ·cases-cons m) [ inl e ↦ List·Memᴰ·head (tail-eq-of-cons-eq e) | inr t ↦ List·Memᴰ·tail (half-out true i is t) ]
+    ⊎-elim (λ e. List·Memᴰ·head (tail-eq-of-cons-eq e))
+    (λ t. List·Memᴰ·tail (half-out true i is t)) (List·Memᴰ·cases-cons m)
 half-out true i ((false ∷ j) ∷ is) m =
     elim (List·Memᴰ·cases-cons m) [ inl e ↦ absurd (true≢false (head-eq-of-cons-eq e)) | inr t ↦ half-out true i is t ]
 half-out false i ((true ∷ j) ∷ is) m =
-    elim (List·Memᴰ·cases-cons m) [ inl e ↦ absurd (false≢true (head-eq-of-cons-eq e)) | inr t ↦ half-out false i is t ]
+    ⊎-elim (λ e. absurd (false≢true (head-eq-of-cons-eq e)))
+    (λ t. half-out false i is t) (List·Memᴰ·cases-cons m)
 half-out false i ((false ∷ j) ∷ is) m =
-    elim (List·Memᴰ·cases-cons m) [ inl e ↦ List·Memᴰ·head (tail-eq-of-cons-eq e) | inr t ↦ List·Memᴰ·tail (half-out false i is t) ]
+    ⊎-elim (λ e. List·Memᴰ·head (tail-eq-of-cons-eq e))
+    (λ t. List·Memᴰ·tail (half-out false i is t)) (List·Memᴰ·cases-cons m)
 
 pub under-in : (p i : Bits) (ids : List Bits) → List·Memᴰ i (under p ids) → List·Memᴰ (p ++ i) ids
 unfolding under

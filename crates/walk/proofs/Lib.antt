@@ -13,4 +13,3 @@ pub mod Visit
 pub mod Sorted
 pub mod Begins
 pub mod Demand
-pub mod Rows

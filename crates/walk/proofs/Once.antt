@@ -1,9 +1,9 @@
 -- No beginning is asked twice. Assumes nothing.
 use mathlib.Core.Path.{_≡_, refl, sym, ap, _∙_}
 use mathlib.Core.Bool.{Bool, true, false, cond, true≢false}
-use mathlib.Core.List.{List, [], _∷_, _++_, append-assoc, append-nil, map, List·Memᴰ, List·Memᴰ·head, List·Memᴰ·tail}
+use mathlib.Core.List.{List, [], _∷_, _++_, append-assoc, append-nil, List·Memᴰ, List·Memᴰ·head, List·Memᴰ·tail}
 use mathlib.Core.List.{List·Memᴰ·not-nil, List·Memᴰ·cases-cons, List·Memᴰ·append-cases, List·Memᴰ·eq-of-singleton}
-use mathlib.Core.Logic.{_⊎_, inl, inr, ⊎-elim}
+use mathlib.Core.Logic.{_⊎_, ⊎-elim}
 use Prim.Native.Nat.{ℕ, zero, suc, _+_}
 use native.Mathlib.Omega.{arith}
 use lib.ListN.{length, length-append}
@@ -58,7 +58,8 @@ module _ (heard : Bits → Bool) where
       by-said false e = ([], append-nil p ∙ sym e)
   asked-below (suc d) p x m =
       ⊎-elim (λ e. ([], append-nil p ∙ sym e))
-      (λ t. by-said (heard p) t (asked-below d (then p false) x) (asked-below d (then p true) x)) (List·Memᴰ·cases-cons m)
+      (λ t. by-said (heard p) t (asked-below d (then p false) x) (asked-below d (then p true) x))
+      (List·Memᴰ·cases-cons m)
     where
       by-said : (a : Bool)
           → List·Memᴰ x (beginningsOf (cond a (order heard d (then p false) ++ order heard d (then p true)) []))
@@ -79,10 +80,11 @@ module _ (heard : Bits → Bool) where
           → Different (p ∷ beginningsOf (cond a (order heard d (then p false) ++ order heard d (then p true)) []))
       by-said false f g = (λ m. List·Memᴰ·not-nil m, tt)
       by-said true f g =
+          let zeros = beginningsOf (order heard d (then p false)) in
+          let ones = beginningsOf (order heard d (then p true)) in
           rw (both-halves d p) (
             λ m. ⊎-elim (λ a. longer p false (asked-below d (then p false) p a))
-                (λ b. longer p true (asked-below d (then p true) p b))
-                (List·Memᴰ·append-cases (beginningsOf (order heard d (then p false))) m),
-            different-append (beginningsOf (order heard d (then p false))) (beginningsOf (order heard d (then p true))) f g
+                (λ b. longer p true (asked-below d (then p true) p b)) (List·Memᴰ·append-cases zeros m),
+            different-append zeros ones f g
                 (λ x a b. forked p x (asked-below d (then p false) x a) (asked-below d (then p true) x b)),
           )

@@ -1,11 +1,11 @@
 -- Places in a list of probes: what is heard before a place, and where the identity stands that has n before it.
 -- Assumes nothing.
-use mathlib.Core.Path.{_≡_, refl, sym, ap, _∙_}
-use mathlib.Core.List.{List, [], _∷_, _++_, map}
+use mathlib.Core.Path.{_≡_, refl, ap}
+use mathlib.Core.List.{List, [], _∷_, _++_}
 use Prim.Native.Nat.{ℕ, zero, suc, _+_, _≤_, _<_}
 use native.Mathlib.Omega.{arith}
-use lib.ListN.{length, take, getD, length-append, length-map}
-use lib.Seq.{take-at, take-append-seam, getD-at}
+use lib.ListN.{length, getD, length-append}
+use lib.Seq.{getD-at}
 use Rattle.identity.specs.Bits.{Bits}
 use Rattle.walk.specs.Probes.{Mark, pass, hit, asked, beginningsOf, hits, place}
 
@@ -14,12 +14,6 @@ unfolding hits
 hits-append [] ys = refl
 hits-append (pass p ∷ xs) ys = hits-append xs ys
 hits-append (hit p ∷ xs) ys = ap (λ (x : List Bits). p ∷ x) (hits-append xs ys)
-
-pub hits-bound : (ms : List Mark) → length (hits ms) ≤ length ms
-unfolding hits
-hits-bound [] = omega arith
-hits-bound (pass p ∷ ms) = omega (arith, hits-bound ms)
-hits-bound (hit p ∷ ms) = omega (arith, hits-bound ms)
 
 -- the identity that has n before it, and stands behind ys
 pub place-hit : (n : ℕ) (ys : List Mark) (p : Bits) (zs : List Mark) → length (hits ys) ≡ n

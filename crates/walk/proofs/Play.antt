@@ -1,5 +1,5 @@
 -- The machine by recursion on the probes that are left, and that it is the same machine. Assumes nothing.
-use mathlib.Core.Path.{_≡_, refl, ap, _∙_}
+use mathlib.Core.Path.{_≡_, refl, sym, ap, _∙_}
 use mathlib.Core.Bool.{Bool, true, false, cond, _||_}
 use mathlib.Core.Option.{Option, none, some}
 use mathlib.Core.List.{List, [], _∷_, _++_}
@@ -15,6 +15,11 @@ use Rattle.walk.specs.Machine.{goOn, settle, listing, noted, stepIn, ste
 
 abbrev pub ended : {A : Type 0} → ℕ → ℕ → List A → Phase → Walk A
 ended l c f e = record { limit = l; count = c; listed = f; phase = e }
+
+-- the phase of a walk that is known
+pub phase-is : {A : Type 0} {s : Walk A} {l c : ℕ} {f : List A} {x y : Phase}
+    → s ≡ ended l c f x → s .phase ≡ y → x ≡ y
+phase-is {A} e h = sym (ap (λ (s : Walk A). s .phase) e) ∙ h
 
 module _ {A : Type 0} (name : Bits → A) (depth cap : ℕ) where
   -- an answer to p, where `go` goes on
@@ -55,7 +60,8 @@ module _ {A : Type 0} (name : Bits → A) (depth cap : ℕ) where
     unfolding noted replied play step stepIn listing
     reply-eq l k c ih f q w p true =
         cond-both k (ltb (length p) depth) _ _ (ih f false w (some (then p false)))
-        (cond-both k (ltb (length f) cap) _ _ (ih (f ++ (name p ∷ [])) false w (next p)) (stays k (ended l (suc c) f (full p)) refl))
+        (cond-both k (ltb (length f) cap) _ _ (ih (f ++ (name p ∷ [])) false w (next p))
+        (stays k (ended l (suc c) f (full p)) refl))
     reply-eq l k c ih f q w p false = ih f (zeroHalf p) (w || q) (next p)
 
     pub run-play : (l k c : ℕ) → l ≡ c + k → (f : List A) (q w : Bool) (at : Option Bits)

@@ -6,12 +6,12 @@ use mathlib.Core.List.{List, [], _∷_, _++_}
 use mathlib.Core.Option.{Option, none, some}
 use Prim.Native.Nat.{ℕ, zero, suc, _+_, _≤_, _<_}
 use native.Mathlib.Omega.{arith}
-use borrow.Author.Tests.{lt-ltb, ltb-true, ltb-false}
+use borrow.Author.Tests.{lt-ltb, ltb-false}
 use lib.Dec.{ltb}
 use lib.ListN.{length, getD}
 use Rattle.identity.specs.Bits.{Bits}
 use Rattle.walk.specs.Beginnings.{then}
-use Rattle.walk.specs.Probes.{Mark, asked, beginningsOf, hits, place}
+use Rattle.walk.specs.Probes.{Mark, asked, beginningsOf, place}
 use Rattle.walk.specs.Machine.{next, zeroHalf, Phase, asking, complete, doubtful, limited, full, named}
 use Rattle.walk.specs.Machine.{Walk, goOn, start, listing, noted, stepIn, step, run}
 use Rattle.walk.specs.Demand.{Asks}
@@ -47,7 +47,8 @@ module _ {A : Type 0} (name : Bits → A) (d cap : ℕ) (heard : Bits → Bool) 
   -- n answers more, on either
   abbrev More : ℕ → Type 0
   More n =
-      (c : ℕ) (f : List A) (x y : Phase) → c + n ≤ i → Beside c x y → BesideAt (go n (ended i c f x)) (go n (ended l c f y))
+      (c : ℕ) (f : List A) (x y : Phase) → c + n ≤ i → Beside c x y
+      → BesideAt (go n (ended i c f x)) (go n (ended l c f y))
 
   beside-noted : (n : ℕ) → More n → (c : ℕ) (f : List A) (p : Bits) (q w a : Bool) → c + suc n ≤ i
       → BesideAt (go n (noted name d cap i c f p q w a)) (go n (noted name d cap l c f p q w a))
@@ -65,7 +66,8 @@ module _ {A : Type 0} (name : Bits → A) (d cap : ℕ) (heard : Bits → Bool) 
           (cond u (settled i (f ++ (name p ∷ [])) (next p)) (ended i (suc c) f (full p)))))
           (go n (cond t (settled l f (some (then p false)))
           (cond u (settled l (f ++ (name p ∷ [])) (next p)) (ended l (suc c) f (full p)))))
-      by-tests true u = more (suc c) f _ _ (omega arith) (beside-go (suc c) false w (some (then p false)) (omega arith))
+      by-tests true u =
+          more (suc c) f _ _ (omega arith) (beside-go (suc c) false w (some (then p false)) (omega arith))
       by-tests false true =
           more (suc c) (f ++ (name p ∷ [])) _ _ (omega arith) (beside-go (suc c) false w (next p) (omega arith))
       by-tests false false = more (suc c) f (full p) (full p) (omega arith) refl
@@ -97,4 +99,6 @@ module _ {A : Type 0} (name : Bits → A) (d cap : ℕ) (heard : Bits → Bool) 
       by-end (at-limit ys m zs e a b r) =
           let (n, q, w, g) =
           subst (λ (s : Walk A). Beside (s .count) (s .phase) ((go i (start l)) .phase)) r beside in
-          (q, w, g ∙ ap (λ (x : Bits). asking x q w) (sym (ap (λ (x : List Mark). getD (beginningsOf x) i []) e ∙ asked-at ys m zs i a)))
+          let there : getD (beginningsOf ms) i [] ≡ asked m =
+          ap (λ (x : List Mark). getD (beginningsOf x) i []) e ∙ asked-at ys m zs i a in
+          (q, w, g ∙ ap (λ (x : Bits). asking x q w) (sym there))

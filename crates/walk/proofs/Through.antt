@@ -2,7 +2,7 @@
 use mathlib.Core.Path.{_≡_, refl, sym, ap, _∙_}
 use mathlib.Core.Bool.{Bool, true, false, cond, not, _&&_, _||_, and-false, and-true, or-false, or-true}
 use mathlib.Core.List.{List, [], _∷_, _++_, append-assoc, append-nil}
-use mathlib.Core.Option.{Option, none, some}
+use mathlib.Core.Option.{Option, some}
 use Prim.Native.Nat.{ℕ, zero, suc, _+_}
 use native.Mathlib.Omega.{arith}
 use borrow.Author.Tests.{lt-ltb, le-ltb}
@@ -11,7 +11,7 @@ use lib.ListN.{length, length-append}
 use Rattle.identity.specs.Bits.{Bits}
 use Rattle.walk.specs.Beginnings.{then}
 use Rattle.walk.specs.Probes.{Mark, pass, hit, order}
-use Rattle.walk.specs.Machine.{next, zeroHalf, complete, doubtful, limited, full, Walk, start, run}
+use Rattle.walk.specs.Machine.{next, zeroHalf, limited, full, Walk, start, run}
 use Rattle.walk.proofs.Halves.{next-zero, next-one, zeroHalf-then}
 use Rattle.walk.proofs.Play.{ended, play, run-play}
 use Rattle.walk.proofs.Feed.{feed}
@@ -34,7 +34,8 @@ module _ {A : Type 0} (name : Bits → A) (depth cap l : ℕ) (W : Bool) (heard 
   abbrev Done : ℕ → Bits → List Mark → Bool → Bool → Type 0
   Done d p rest q w =
       (k c : ℕ) (f : List A)
-      → Play k c f (not (heard p) && zeroHalf p) (w || ((q && not (heard p)) || doubts heard d p)) (next p) ≡ Feed k c f rest
+      → Play k c f (not (heard p) && zeroHalf p) (w || ((q && not (heard p)) || doubts heard d p)) (next p)
+      ≡ Feed k c f rest
 
   -- at p, the walk goes through all below p and then through `rest`
   abbrev Goes : ℕ → Bits → List Mark → Bool → Bool → Type 0
@@ -57,7 +58,8 @@ module _ {A : Type 0} (name : Bits → A) (depth cap l : ℕ) (W : Bool) (heard 
       (ap (λ (x : Walk A). cond (ltb (length f) cap) x (ended l (suc c) f (full p)))
       (rw (e, h, or-false w) at (K k (suc c) (f ++ (name p ∷ [])))))
 
-  through : (d : ℕ) (p : Bits) → length p + d ≡ depth → (rest : List Mark) (q w : Bool) → Done d p rest q w → Goes d p rest q w
+  through : (d : ℕ) (p : Bits) → length p + d ≡ depth → (rest : List Mark) (q w : Bool)
+      → Done d p rest q w → Goes d p rest q w
   unfolding feed play order doubts Rattle.walk.proofs.Play.replied
   through zero p n rest q w K zero c f = by-said (heard p)
     where
@@ -71,7 +73,8 @@ module _ {A : Type 0} (name : Bits → A) (depth cap l : ℕ) (W : Bool) (heard 
           → Play (suc k) c f q w (some p) ≡ Feed (suc k) c f ((cond a (hit p) (pass p) ∷ []) ++ rest)
       by-said true e = hit-turn p rest q w (omega arith) e K k c f
       by-said false e = silent-turn zero p rest q w e refl K k c f
-  through (suc d) p n rest q w K (suc k) c f = by-said (heard p) refl (through d (then p false)) (through d (then p true))
+  through (suc d) p n rest q w K (suc k) c f =
+      by-said (heard p) refl (through d (then p false)) (through d (then p true))
     where
       by-said : (a : Bool) → heard p ≡ a
           → (length (then p false) + d ≡ depth → (rest : List Mark) (q w : Bool)

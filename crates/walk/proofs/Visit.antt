@@ -2,9 +2,9 @@
 use mathlib.Core.Path.{_≡_, refl, sym, ap, _∙_}
 use mathlib.Core.Bool.{Bool, true, false}
 use mathlib.Core.List.{List, [], _∷_, _++_, append-assoc, append-nil, Memᴰ·append-left, Memᴰ·append-right, Memᴰ·cast}
-use mathlib.Core.List.{List·Memᴰ, List·Memᴰ·head, List·Memᴰ·tail, List·Memᴰ·not-nil, List·Memᴰ·cases-cons}
+use mathlib.Core.List.{List·Memᴰ, List·Memᴰ·head, List·Memᴰ·tail, List·Memᴰ·not-nil}
 use mathlib.Core.List.{List·Memᴰ·append-cases, List·Memᴰ·eq-of-singleton}
-use mathlib.Core.Logic.{_⊎_, inl, inr, ⊎-elim}
+use mathlib.Core.Logic.{_⊎_, inl, inr}
 use Prim.Native.Nat.{ℕ, zero, suc, _+_, _*_, _≤_}
 use native.Mathlib.Nat.{suc-mul, mul-add, mul-le-mul-left}
 use native.Mathlib.Omega.{arith}
@@ -157,7 +157,8 @@ hits-length (suc d) p (i ∷ is) h n =
     (omega (
       arith,
       length-append (hits (left d p i is)) (hits (right d p i is)),
-      hits-length d (then p false) (half false (i ∷ is)) (deep-half d false (i ∷ is) h) (different-half false (i ∷ is) n),
+      hits-length d (then p false) (half false (i ∷ is)) (deep-half d false (i ∷ is) h)
+          (different-half false (i ∷ is) n),
       hits-length d (then p true) (half true (i ∷ is)) (deep-half d true (i ∷ is) h) (different-half true (i ∷ is) n),
       halves-whole d (i ∷ is) h,
     ))

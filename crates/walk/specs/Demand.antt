@@ -1,7 +1,7 @@
 -- Demand 3, over the depth d of the identities, the length cap of the list, the limit and the beginning `base` that a
 -- scan starts from. Here they are 152, 32, any, and none.
---   Bus            == demand 3's premises: the identities present, no two alike, and a probe is heard exactly when one of
---                     them begins with what it asks
+--   Bus            == demand 3's premises: the identities present, no two alike, and a probe is heard exactly when
+--                     one of them begins with what it asks
 --   Ordered ids all        == all has the identities, each once, ascending
 --   Shorter d ids shorter  == shorter has each beginning of 0 to d - 1 bits that an identity has, once
 --   Asks p s       == the walk s asks p
@@ -17,7 +17,7 @@ use Rattle.identity.specs.Bits.{Bits}
 use Rattle.identity.specs.Order.{below, those, Ascending, Different}
 use Rattle.walk.specs.Beginnings.{under, Matches, Deep}
 use Rattle.walk.specs.Probes.{Mark, order, beginningsOf, hits, place, Doubt}
-use Rattle.walk.specs.Machine.{Phase, asking, complete, doubtful, limited, full, Ended, Walk, start, run}
+use Rattle.walk.specs.Machine.{asking, complete, doubtful, limited, full, Ended, Walk, start, run}
 
 pub record Bus (base : Bits) (d : ℕ) (ids : List Bits) (heard : Bits → Bool) : Type 0 where
   pub deep : Deep (length base + d) ids
@@ -28,6 +28,7 @@ pub record Ordered (ids all : List Bits) : Type 0 where
   pub ascending : Ascending below all
   pub members : (x : Bits) → List·Memᴰ x all ↔ List·Memᴰ x ids
   pub once : Different all
+  pub number : length all ≡ length ids
 
 pub record Shorter (d : ℕ) (ids shorter : List Bits) : Type 0 where
   pub members : (x : Bits) → List·Memᴰ x shorter ↔ ((length x < d) × Matches x ids)
@@ -47,7 +48,8 @@ module _ {A : Type 0} (name : Bits → A) (d cap limit : ℕ) where
     pub fulls : (p : Bits) → (last .phase ≡ full p)
         ↔ ((cap < length (hits ms)) × (place cap ms ≤ limit) × (getD (hits ms) cap [] ≡ p))
     -- "as "limit" when limit probes are answered and more remain", and it names "the next probe's beginning"
-    pub limits : (p : Bits) → (last .phase ≡ limited p) ↔ ((limit < place cap ms) × (getD (beginningsOf ms) limit [] ≡ p))
+    pub limits : (p : Bits) → (last .phase ≡ limited p)
+        ↔ ((limit < place cap ms) × (getD (beginningsOf ms) limit [] ≡ p))
     -- "else when none remain: "doubtful" if a heard beginning had both halves silent, "complete" if not"
     pub doubtfuls : (last .phase ≡ doubtful)
         ↔ ((length (hits ms) ≤ cap) × (length ms ≤ limit) × Doubt heard d [])
@@ -80,7 +82,8 @@ module _ {A : Type 0} (name : Bits → A) (d cap limit : ℕ) where
 abbrev pub AnyAnswers : Type 1
 AnyAnswers =
     (A : Type 0) (name : Bits → A) (d cap limit : ℕ) (heard : Bits → Bool)
-    → AnyEnd name d cap limit heard (run name d cap heard limit (start limit)) (λ i. run name d cap heard i (start limit))
+    → AnyEnd name d cap limit heard (run name d cap heard limit (start limit))
+    (λ i. run name d cap heard i (start limit))
     (order heard d [])
 
 abbrev pub Demand3 : Type 1
@@ -88,4 +91,5 @@ Demand3 =
     (A : Type 0) (name : Bits → A) (base : Bits) (d cap limit : ℕ) (ids : List Bits) (heard : Bits → Bool)
     → Bus base d ids heard
     → (all : List Bits) × (shorter : List Bits)
-    × BusEnd name d cap limit (under base ids) (run name d cap heard limit (start limit)) (order heard d []) all shorter
+    × BusEnd name d cap limit (under base ids) (run name d cap heard limit (start limit)) (order heard d [])
+    all shorter

@@ -1,5 +1,5 @@
--- The walk as a machine that takes one answer at a time. Beginnings are counted from where the walk starts, `name p` is
--- what its list holds for the identity p, `depth` the bits of an identity, `cap` the length of the list.
+-- The walk as a machine that takes one answer at a time. Beginnings are counted from where the walk starts; `name p`
+-- is what its list holds for the identity p, `depth` the bits of an identity, `cap` the length of the list.
 --   next p         == the beginning that is asked once all below p is done
 --   zeroHalf p     == p is the 0 half of something
 --   Phase          == where a walk stands: `asking p quiet doubt`, or one of the four ends
@@ -63,8 +63,8 @@ pub record Walk (A : Type 0) : Type 0 where
   pub listed : List A
   pub phase : Phase
 
--- 01: "as "limit" when limit probes are answered and more remain, else when none remain: "doubtful" if a heard beginning
--- had both halves silent, "complete" if not"
+-- 01: "as "limit" when limit probes are answered and more remain, else when none remain: "doubtful" if a heard
+-- beginning had both halves silent, "complete" if not"
 unfoldable pub goOn : ℕ → ℕ → Bool → Bool → Option Bits → Phase
 goOn l c q w none = cond w doubtful complete
 goOn l c q w (some p) = cond (ltb c l) (asking p q w) (limited p)

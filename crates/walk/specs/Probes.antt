@@ -39,7 +39,7 @@ module _ (heard : Bits → Bool) where
   -- A heard one of 152 bits is listed."
   unfoldable pub order : ℕ → Bits → List Mark
   order zero p = cond (heard p) (hit p) (pass p) ∷ []
-  order (suc d) p = pass p ∷ cond (heard p) (order d (then p false) ++ order d (then p true)) []
+  order (suc d) p = let halves = order d (then p false) ++ order d (then p true) in pass p ∷ cond (heard p) halves []
 
   -- 01: "if a heard beginning had both halves silent"
   abbrev pub Doubt : ℕ → Bits → Type 0

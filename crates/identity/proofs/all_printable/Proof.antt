@@ -1,5 +1,4 @@
 -- `identity::all_printable` meets its promise: what is left of the octets decides as all of them do. Assumes nothing.
-use borrow.Author.Needs.{needs}
 use mathlib.Core.Path.{_≡_, refl}
 use Prim.Native.Nat.{_-_}
 use native.Mathlib.Omega.{arith}

@@ -3,12 +3,12 @@ use borrow.Author.Needs.{needs}
 use mathlib.Core.Path.{_≡_, sym, ap, _∙_}
 use mathlib.Core.Bool.{Bool, false}
 use mathlib.Core.List.{List}
-use Prim.Native.Nat.{_+_, _*_, _-_, _≤_}
+use Prim.Native.Nat.{_+_, _-_, _≤_}
 use native.Mathlib.Numerals.{add-one}
 use native.Mathlib.Omega.{arith}
 use lib.ListN.{take, drop, getD}
 use lib.Seq.{getD-drop}
-use Rattle.identity.specs.Bits.{word, digit}
+use Rattle.identity.specs.Bits.{word}
 use Rattle.identity.proofs.Words.{word-zero, word-suc, word-small, digit-small}
 use Rattle.identity.proofs.octet.Statement.{statement}
 use Rattle.identity.proofs.octet.Tie as tie

@@ -1,7 +1,7 @@
--- `identity::octets_of` meets its promise: what is stored and what is left to store are all the octets. Assumes nothing.
+-- `identity::octets_of` meets its promise: what is stored and what is left to store are the octets. Assumes nothing.
 use borrow.Author.Needs.{needs}
-use mathlib.Core.Path.{_≡_, sym, ap, _∙_}
-use Prim.Native.Nat.{ℕ, _+_, _*_, _-_, _≤_}
+use mathlib.Core.Path.{_≡_, ap, _∙_}
+use Prim.Native.Nat.{ℕ, _+_, _-_, _≤_}
 use native.Mathlib.Omega.{arith}
 use lib.ListN.{length, take, drop, length-set, length-replicate}
 use lib.Seq.{sets}

@@ -3,7 +3,6 @@ use borrow.Author.Needs.{needs}
 use mathlib.Core.Path.{sym, _∙_}
 use Rattle.refusal.proofs.Answers.{refused, hands-is}
 use Rattle.refusal.specs.declared.Refusal.the-variants.{ScanOver}
-use Rattle.scan.proofs.Overs.{open-parts}
 use Rattle.scan.proofs.Probes.{probed-over, probed-open}
 use Rattle.scan.proofs.probe.Statement.{statement}
 use Rattle.scan.proofs.probe.Tie as tie
@@ -17,9 +16,7 @@ returns c =
     refused ScanOver (probed-over (start .scan) _ (sym (c .if1 .taken) ∙ c .before .is-over .ensures))
 
 probe-of-requires : tie.Need-probe-of-requires
-probe-of-requires c κs =
-    let asked = c .before .before in
-    open-parts _ (sym (asked .is-over .ensures) ∙ c .before .if1 .left) .begins
+probe-of-requires c κs = search needs
 
 slice-aggregate-hand-out : tie.Need-slice-aggregate-hand-out
 slice-aggregate-hand-out c = search needs
@@ -35,8 +32,8 @@ returns-2 c =
     let made = c .before .before .before .before .before in
     let asked = made .before .before .before in
     let start = asked .before .before .args in
-    hands-is
-    (probed-open (start .scan) _ (sym (asked .is-over .ensures) ∙ made .before .before .if1 .left) (made .probe-of .ensures))
+    let open-yet = sym (asked .is-over .ensures) ∙ made .before .before .if1 .left in
+    hands-is (probed-open (start .scan) _ open-yet (made .probe-of .ensures))
     (c .before .before .hand-out .ensures)
 
 pub probe-spec : {M : Type 1} → statement M

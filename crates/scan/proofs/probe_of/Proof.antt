@@ -56,7 +56,7 @@ returns c =
     let value = second .before .before in
     let first = value .before .before .before in
     let start = first .before .before .before in
-    probe-built (start .args .beginning) (start .args .bits) (omega (arith, start .pre)) (omega (arith, start .good))
+    probe-built (start .args .beginning) (start .args .bits) (omega (arith, start .good))
     (value .octets-of .ensures) (mask .mask-of .ensures) (first .put-all .ensures) (second .put-all2 .ensures)
     (third .put-all3 .ensures) (fourth .put-all4 .ensures)
 

@@ -1,8 +1,8 @@
--- `scan::standing` meets its promise: a test decides whether probes are left. Assumes nothing.
+-- `scan::steps::standing` meets its promise: a test decides whether probes are left. Assumes nothing.
 use borrow.Author.Tests.{lt-ltb, le-ltb}
 use Rattle.scan.specs.Steps.{standsAt}
-use Rattle.scan.proofs.standing.Statement.{statement}
-use Rattle.scan.proofs.standing.Tie as tie
+use Rattle.scan.proofs.steps.standing.Statement.{statement}
+use Rattle.scan.proofs.steps.standing.Tie as tie
 
 returns : tie.Need-returns
 unfolding standsAt

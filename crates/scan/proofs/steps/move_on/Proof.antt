@@ -1,9 +1,9 @@
--- `scan::move_on` meets its promise: done where no bit is left, else on with the last made a one. Assumes nothing.
+-- `scan::steps::move_on` meets its promise: done where no bit is left, else the last is made a one. Assumes nothing.
 use borrow.Author.Needs.{needs}
-use mathlib.Core.Path.{sym, ap, _∙_}
+use mathlib.Core.Path.{_∙_}
 use Rattle.scan.proofs.Moves.{moved-none, moved-some}
-use Rattle.scan.proofs.move_on.Statement.{statement}
-use Rattle.scan.proofs.move_on.Tie as tie
+use Rattle.scan.proofs.steps.move_on.Statement.{statement}
+use Rattle.scan.proofs.steps.move_on.Tie as tie
 
 finished-requires : tie.Need-finished-requires
 finished-requires c κs = search needs
@@ -15,7 +15,8 @@ returns : tie.Need-returns
 returns c =
     let start = c .before .before .before .args in
     c .in-state .ensures
-    ∙ moved-none (start .scan) (start .n) (start .quiet) (start .doubt) (c .before .before .if1 .taken) (c .before .finished .ensures)
+    ∙ moved-none (start .scan) (start .n) (start .quiet) (start .doubt) (c .before .before .if1 .taken)
+    (c .before .finished .ensures)
 
 sub-s : tie.Need-sub-s
 sub-s c = search needs
