@@ -1,0 +1,3 @@
+-- The laws of control octets that the device cites.
+pub mod Named
+pub mod Only

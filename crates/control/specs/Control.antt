@@ -1,0 +1,38 @@
+-- Control octets. 01, "The link".
+--   polled c   == "Control octets below have the poll bit set"
+--   askedBy c  == what the control octet c asks, its poll bit taken as set
+--   nextOf n   == the number after n: "Numbers run 0 to 7 and round"
+--   infoOf s r, rrOf r, rnrOf r == the controls of an I-frame, of RR and of RNR, by their numbers N(S) and N(R)
+-- Assumes nothing.
+use mathlib.Core.Bool.{Bool, cond}
+use Prim.Native.Nat.{ℕ, _+_, _*_, _/_, _%_}
+use lib.Dec.{eqb}
+use Rattle.control.specs.declared.Order.{Order}
+use Rattle.control.specs.declared.Order.the-variants.{Xid, Snrm, Disc, Info, Rr, Rnr, Unknown}
+
+-- the bit of value 16
+unfoldable pub polled : ℕ → Bool
+polled c = eqb (c / 16 % 2) 1
+
+unfoldable pub nextOf : ℕ → ℕ
+nextOf n = (n % 8 + 1) % 8
+
+-- "I is 0x10 + 2·N(S) + 32·N(R), RR 0x11 + 32·N(R), RNR 0x15 + 32·N(R)"
+unfoldable pub infoOf : ℕ → ℕ → ℕ
+infoOf ns nr = 0x10 + ns % 8 * 2 + nr % 8 * 32
+
+unfoldable pub rrOf : ℕ → ℕ
+rrOf nr = 0x11 + nr % 8 * 32
+
+unfoldable pub rnrOf : ℕ → ℕ
+rnrOf nr = 0x15 + nr % 8 * 32
+
+-- an even octet is an I-frame's; of the odd ones the five low bits tell RR and RNR
+unfoldable pub numberedBy : ℕ → Order
+numberedBy c =
+    cond (eqb (c % 2) 0) (Info (c / 2 % 8) (c / 32))
+    (cond (eqb (c % 32) 0x11) (Rr (c / 32)) (cond (eqb (c % 32) 0x15) (Rnr (c / 32)) Unknown))
+
+-- "XID (0xBF)", "SNRM 0x93", "DISC 0x53"
+unfoldable pub askedBy : ℕ → Order
+askedBy c = cond (eqb c 0xBF) Xid (cond (eqb c 0x93) Snrm (cond (eqb c 0x53) Disc (numberedBy c)))

@@ -1,0 +1,2 @@
+-- What the device cites of control octets.
+pub mod Control
