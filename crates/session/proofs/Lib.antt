@@ -1,0 +1,3 @@
+-- The laws of a session that the device cites.
+pub mod Numbers
+pub mod Only

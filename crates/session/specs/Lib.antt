@@ -1,0 +1,2 @@
+-- What the device cites of a session.
+pub mod Session
