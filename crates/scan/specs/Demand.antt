@@ -38,7 +38,7 @@ pub record IdentityBus (ids : List (List ℕ)) (heard : Bits → Bool) : Type 0 
 pub record AnyScan (limit : ℕ) (heard : Bits → Bool) (last : Scan) (after : ℕ → Scan) (ms : List Mark) : Type 0 where
   pub count : last .count ≡ min limit (place room ms)
   pub list : listOf last ≡ map octetsOf (take room (hits (take (last .count) ms)))
-  pub over : ended (last .state) ≡ true
+  pub ends : ended (last .state) ≡ true
   pub fulls : (last .state ≡ Full) ↔ ((room < length (hits ms)) × (place room ms ≤ limit))
   pub full-names : last .state ≡ Full → beginningOf last ≡ getD (hits ms) room []
   pub limits : (last .state ≡ Limit) ↔ (limit < place room ms)
