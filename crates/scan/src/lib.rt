@@ -40,6 +40,7 @@ pub struct Scan {
     pub state: State,
 }
 
+// The answer was taken; or the number for "no".
 pub enum Verdict {
     Taken,
     Refused(Refusal),
