@@ -77,7 +77,7 @@ pub record BusScan (limit : ℕ) (ids : List (List ℕ)) (last : Scan) (ms : Lis
   pub limit-count : last .state ≡ Limit → last .count ≡ limit
   pub limit-names : last .state ≡ Limit → beginningOf last ≡ getD (beginningsOf ms) limit []
   pub limit-list : last .state ≡ Limit → listOf last ≡ those (λ x. lower x (octetsOf (beginningOf last))) all
-  -- "full" exactly if there are at least 33 and the limit reaches the 33rd's place; it is named, what is below it listed
+  -- "full" exactly if there are at least 33 and the limit reaches the 33rd's place; it is named, those below it listed
   pub fulls : (last .state ≡ Full) ↔ ((room < length ids) × (place room ms ≤ limit))
   pub full-count : last .state ≡ Full → last .count ≡ place room ms
   pub full-names : last .state ≡ Full → octetsOf (beginningOf last) ≡ getD all room []
