@@ -3,5 +3,7 @@ pub mod Bounds
 pub mod Every
 pub mod Only
 pub mod Rest
+pub mod Rules
+pub mod Runs
 pub mod Stores
 pub mod Words

@@ -4,7 +4,7 @@ use mathlib.Core.List.{List}
 use Prim.Native.Nat.{ℕ}
 use lib.ListN.{set}
 use lib.Seq.{sets}
-use Rattle.octets.specs.Octets.{pairOf}
+use Rattle.octets.specs.Octets.{pairOf, placeOf}
 
 -- what equals the same is equal: every promise that is an equation allows one result
 pub only {ℓ} : {A : Type ℓ} {a b right : A} → a ≡ right → b ≡ right → a ≡ b
@@ -18,3 +18,6 @@ put-all-only o at s = only
 
 pub pair-only : (low high : ℕ) {r q : ℕ} → r ≡ pairOf low high → q ≡ pairOf low high → r ≡ q
 pair-only low high = only
+
+pub find-only : (octet : ℕ) (s : List ℕ) {r q : ℕ} → r ≡ placeOf octet s → q ≡ placeOf octet s → r ≡ q
+find-only octet s = only

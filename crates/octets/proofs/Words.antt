@@ -1,13 +1,14 @@
 -- A word looked for in a list that a loop goes through by an index i, and the last one of a list. Assumes nothing.
-use mathlib.Core.Path.{_≡_, refl}
-use mathlib.Core.Bool.{Bool, true, false}
+use mathlib.Core.Path.{_≡_, refl, sym, _∙_}
+use mathlib.Core.Bool.{Bool, true, false, cond}
 use mathlib.Core.List.{List, [], _∷_}
 use Prim.Native.Nat.{ℕ, zero, suc, _+_, _-_, _<_, _≤_}
-use native.Mathlib.Nat.{le-of-suc-le-suc, not-suc-le-zero}
+use native.Mathlib.Nat.{add-zero, le-of-suc-le-suc, not-suc-le-zero}
 use native.Mathlib.Omega.{arith}
-use borrow.Author.Tests.{eq-eqb, ne-eqb}
+use borrow.Author.Tests.{eq-eqb, ne-eqb, lt-ltb}
+use lib.Dec.{eqb, ltb, leb·suc-suc}
 use lib.ListN.{length, getD, drop, drop-of-length-le}
-use Rattle.octets.specs.Octets.{holds, lastOf}
+use Rattle.octets.specs.Octets.{holds, placeOf, lastOf}
 use Rattle.octets.proofs.Rest.{rest}
 
 pub true-not-false : true ≡ false → ⊥
@@ -45,6 +46,31 @@ holds-nowhere x [] h i b e = absurd (not-suc-le-zero b)
 holds-nowhere x (y ∷ ys) h zero b e = holds-head x y ys h e
 holds-nowhere x (y ∷ ys) h (suc i) b e = holds-nowhere x ys (holds-tail x y ys h) i (le-of-suc-le-suc b) e
 
+-- the place of x, for a loop that goes through s by i
+module _ (x : ℕ) (s : List ℕ) (i : ℕ) {w : ℕ} (v : i + placeOf x (drop i s) ≡ w) where
+  pub place-here : i < length s → getD s i 0 ≡ x → i ≡ w
+  unfolding placeOf
+  place-here h e = sym (add-zero i) ∙ (rw (rest s i h, eq-eqb (getD s i 0) x e) at v)
+
+  pub place-more : i < length s → (getD s i 0 ≡ x → ⊥) → i + 1 + placeOf x (drop (i + 1) s) ≡ w
+  unfolding placeOf
+  place-more h n = omega (arith, rw (rest s i h, ne-eqb (getD s i 0) x n) at v)
+
+  pub place-done : length s ≤ i → i ≡ w
+  unfolding placeOf
+  place-done h = sym (add-zero i) ∙ (rw (drop-of-length-le s h) at v)
+
+-- what a list holds has a place in it, and what it does not hold has none
+pub place-held : (x : ℕ) (s : List ℕ) → holds x s ≡ ltb (placeOf x s) (length s)
+unfolding holds placeOf
+place-held x [] = refl
+place-held x (y ∷ ys) = go (eqb y x) refl (place-held x ys)
+  where
+    go : (t : Bool) → eqb y x ≡ t → holds x ys ≡ ltb (placeOf x ys) (length ys)
+        → cond t true (holds x ys) ≡ ltb (cond t 0 (suc (placeOf x ys))) (suc (length ys))
+    go true e h = sym (lt-ltb 0 (suc (length ys)) (omega arith))
+    go false e h = h ∙ sym (leb·suc-suc (suc (placeOf x ys)) (length ys))
+
 pub last-cons : (d x : ℕ) (xs : List ℕ) (e : ℕ) → lastOf d (x ∷ xs) ≡ getD (x ∷ xs) (length xs) e
 unfolding lastOf
 last-cons d x [] e = refl
@@ -53,3 +79,8 @@ last-cons d x (y ∷ ys) e = last-cons x y ys e
 pub last-at : (d : ℕ) (s : List ℕ) (e : ℕ) → 0 < length s → lastOf d s ≡ getD s (length s - 1) e
 last-at d [] e h = absurd (not-suc-le-zero h)
 last-at d (x ∷ xs) e h = let n : suc (length xs) - 1 ≡ length xs = omega arith in rw n (last-cons d x xs e)
+
+pub last-empty : (d : ℕ) (s : List ℕ) → length s ≡ 0 → lastOf d s ≡ d
+unfolding lastOf
+last-empty d [] e = refl
+last-empty d (x ∷ xs) e = let none : ⊥ = omega (arith, e) in absurd none

@@ -4,7 +4,7 @@ ghost use mathlib.Core.Path.{_≡_};
 ghost use Prim.Native.Nat.{min};
 ghost use lib.ListN.{set};
 ghost use lib.Seq.{sets};
-ghost use Rattle.octets.specs.Octets.{pairOf};
+ghost use Rattle.octets.specs.Octets.{pairOf, placeOf};
 
 // Stores `octet` at `at`, if that is inside.
 pub fn put(out: &mut [u8], at: usize, octet: u8)
@@ -35,6 +35,20 @@ pub fn put_all(out: &mut [u8], at: usize, s: &[u8])
         out[at + i] = s[i];
         i += 1;
     }
+}
+
+// The place of the first `octet` in `s`; its length where there is none.
+pub fn find(octet: u8, s: &[u8]) -> usize
+    ensures { λ r. ⌜ r ≡ placeOf octet (now (s .entry)) ⌝ }
+{
+    let mut i = 0;
+    while i < s.len() {
+        if s[i] == octet {
+            return i;
+        }
+        i += 1;
+    }
+    i
 }
 
 // The number that two octets stand for, the low one first.

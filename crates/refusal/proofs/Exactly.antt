@@ -10,7 +10,8 @@ use borrow.Author.Tests.{eqb-true, eq-eqb, ne-eqb}
 use lib.Dec.{eqb}
 use Rattle.octets.specs.Octets.{holds}
 use Rattle.octets.proofs.Words.{holds-head, holds-tail, true-not-false}
-use Rattle.refusal.specs.Answer.{Answer, gives, refuses, Row, _when_, answered, Given, Clear, numbersOf, apart}
+use Rattle.refusal.specs.Answer.{Answer, gives, refuses, Row, _when_, answered, Given, Clear, numbersOf}
+use Rattle.refusal.specs.Answer.{apart, roomRow, handedOut}
 use Rattle.refusal.proofs.Answers.{gives-not-refuses, refuses-same, gives-same}
 
 -- the first of a list of numbers that differ does not come again, and the others differ
@@ -90,3 +91,8 @@ module _ {A : Type 0} where
   answered-all (n when true ∷ rows) a = inr (n, rw (eq-eqb n n refl), refl)
   answered-all (n when false ∷ rows) a =
       ⊎-elim inl (λ q. inr (q .0, rw (q .1) (cond-same (eqb n (q .0)) true), q .2)) (answered-all rows a)
+
+-- octets that are handed out are those that were to be
+pub handed-out-told : (b : List ℕ) (room : ℕ) {d : List ℕ} → handedOut b room ≡ gives d → b ≡ d
+unfolding handedOut
+handed-out-told b room {d} e = exactly-given (roomRow b room ∷ []) b d .0 e .1

@@ -12,6 +12,9 @@ use Rattle.refusal.specs.declared.Refusal.the-variants.{TooShort, TooLon
 use Rattle.refusal.specs.declared.Refusal.the-variants.{NotAllowed, ScanOver, CannotBe, PayloadTooLong}
 use Rattle.refusal.specs.declared.Handed.{Handed}
 use Rattle.refusal.specs.declared.Handed.the-variants.{Octets, Refused}
+use Rattle.refusal.specs.Answer.{outcomeOf, Changes}
+use Rattle.refusal.specs.declared.Outcome.{Outcome}
+use Rattle.refusal.specs.declared.Outcome.the-variants.{Done}
 use Rattle.refusal.proofs.Answers.{gives-not-refuses, refuses-same, gives-same}
 
 -- the refusal of a number; of any other number, the last
@@ -58,3 +61,16 @@ hands-only {r = r} {s = s} a b = (answer-apart r s (only (a .answer) (b .answer)
 pub hand-out-only : (b o : List ℕ) (room : ℕ) {p q : List ℕ} {r s : Handed}
     → Hands (handedOut b room) o r p → Hands (handedOut b room) o s q → (r ≡ s) × (p ≡ q)
 hand-out-only b o room = hands-only
+
+outcome-apart : (r q : Outcome) → outcomeOf r ≡ outcomeOf q → r ≡ q
+unfolding outcomeOf
+outcome-apart Done Done e = refl
+outcome-apart Done (Outcome.Refused k) e = absurd (gives-not-refuses e)
+outcome-apart (Outcome.Refused k) Done e = absurd (gives-not-refuses (sym e))
+outcome-apart (Outcome.Refused k) (Outcome.Refused j) e =
+    ap Outcome.Refused (number-apart k j (refuses-same e))
+
+-- every promise by `Changes` allows one outcome and one state
+pub changes-only : {S : Type 0} {right : Answer S} {s t u : S} {r q : Outcome}
+    → Changes right s r t → Changes right s q u → (r ≡ q) × (t ≡ u)
+changes-only {r = r} {q = q} a b = (outcome-apart r q (only (a .outcome) (b .outcome)), only (a .state) (b .state))

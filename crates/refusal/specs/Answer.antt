@@ -7,6 +7,7 @@
 --   Clear rows        == no row holds
 --   handedOut b room  == the octets b, into a lent output of so many octets
 --   Hands x o r o'    == the code's answer r, and the output o' that was o, are the answer x
+--   Changes x s r s'  == the code's outcome r, and the state s' that was s, are the answer x
 -- Assumes nothing.
 use mathlib.Core.Path.{_≡_}
 use mathlib.Core.Bool.{Bool, true, false, cond}
@@ -18,6 +19,8 @@ use Rattle.octets.specs.Octets.{holds, _atStartOf_}
 use Rattle.refusal.specs.Numbers.{numberOf}
 use Rattle.refusal.specs.declared.Handed.{Handed}
 use Rattle.refusal.specs.declared.Handed.the-variants.{Octets, Refused}
+use Rattle.refusal.specs.declared.Outcome.{Outcome}
+use Rattle.refusal.specs.declared.Outcome.the-variants.{Done}
 
 infix 70 _when_
 pub data Answer (A : Type 0) : Type 0 where
@@ -73,3 +76,21 @@ outAfter (refuses k) o = o
 pub record Hands (right : Answer (List ℕ)) (o : List ℕ) (r : Handed) (o' : List ℕ) : Type 0 where
   pub answer : answerOf r ≡ counted right
   pub octets : o' ≡ outAfter right o
+
+-- the paper's number, or none, for each case of the code's outcome
+unfoldable pub outcomeOf : Outcome → Answer (Unit {0})
+outcomeOf Done = gives tt
+outcomeOf (Outcome.Refused r) = refuses (numberOf r)
+
+unfoldable pub settled : {S : Type 0} → Answer S → Answer (Unit {0})
+settled (gives s) = gives tt
+settled (refuses k) = refuses k
+
+-- 01: "the device, the scan .. stay as they were"
+unfoldable pub stateAfter : {S : Type 0} → Answer S → S → S
+stateAfter (gives t) s = t
+stateAfter (refuses k) s = s
+
+pub record Changes {S : Type 0} (right : Answer S) (s : S) (r : Outcome) (s' : S) : Type 0 where
+  pub outcome : outcomeOf r ≡ settled right
+  pub state : s' ≡ stateAfter right s

@@ -24,6 +24,12 @@ pub enum Handed {
     Refused(Refusal),
 }
 
+// A change was made; or the number for "no", and all is as it was.
+pub enum Outcome {
+    Done,
+    Refused(Refusal),
+}
+
 // The paper's number of a refusal.
 pub fn number(refusal: Refusal) -> u8
     ensures { λ r. ⌜ r ≡ numberOf refusal ⌝ }

@@ -11,17 +11,17 @@ use lib.Seq.{take-append-seam}
 use Rattle.identity.specs.Bits.{Bits}
 use Rattle.identity.specs.Identity.{width, depth, octetsOf}
 use Rattle.identity.proofs.Words.{length-packed}
-use Rattle.refusal.specs.Answer.{answered}
+use Rattle.refusal.specs.Answer.{answered, stateAfter}
 use Rattle.walk.specs.Beginnings.{then}
 use Rattle.walk.specs.Machine.{next, Phase, asking, complete, doubtful, limited, full, named}
 use Rattle.walk.specs.Machine.{Walk, goOn, settle, start, listing, noted, stepIn, step, run}
 use Rattle.scan.specs.Record.{room, flat, phaseOf, stateOf, beginningOf, walkOf, recordOf}
 use Rattle.scan.specs.Steps.{standsAt}
-use Rattle.scan.specs.Scan.{fresh, ended, over, reported, scanAfter, driven}
+use Rattle.scan.specs.Scan.{fresh, ended, over, reported, driven}
 use Rattle.scan.specs.declared.Scan.{Scan}
 use Rattle.scan.specs.declared.State.the-variants.{Asking, Limit}
 use Rattle.scan.proofs.Overs.{open-over}
-use Rattle.scan.proofs.Verdicts.{report-steps}
+use Rattle.scan.proofs.Reports.{report-steps}
 use Rattle.scan.proofs.Rows.{Wide, wide-more, rows-flat}
 use Rattle.scan.proofs.Moves.{made}
 use Rattle.scan.proofs.Bounded.{Bounded, settle-bounded, noted-bounded, asking-open}
@@ -67,7 +67,7 @@ module _ (heard : Bits → Bool) where
   one-answer : (s : Scan) (l c : ℕ) (f : List (List ℕ)) (p : Bits) (q w : Bool) → Wide f
       → Bounded (record { limit = l; count = c; listed = f; phase = asking p q w })
       → (let r = recordOf s (record { limit = l; count = c; listed = f; phase = asking p q w }) in
-      scanAfter (reported r (heard (beginningOf r))) r)
+      stateAfter (reported r (heard (beginningOf r))) r)
       ≡ recordOf (recordOf s (record { limit = l; count = c; listed = f; phase = asking p q w }))
       (noted octetsOf depth room l c f p q w (heard p))
   unfolding step named noted stepIn
@@ -82,7 +82,7 @@ module _ (heard : Bits → Bool) where
       → Wide f → Bounded (record { limit = l; count = c; listed = f; phase = x })
       → Driven (driven heard n (recordOf s (record { limit = l; count = c; listed = f; phase = x })))
       (run octetsOf depth room heard n (record { limit = l; count = c; listed = f; phase = x }))
-  unfolding driven run step stepIn named stateOf ended over reported scanAfter answered
+  unfolding driven run step stepIn named stateOf ended over reported stateAfter answered
   drives zero s l c f x h b = record { base = s; is = refl; wide = h; bounded = b }
   drives (suc n) s l c f complete h b = drives n s l c f complete h b
   drives (suc n) s l c f doubtful h b = drives n s l c f doubtful h b

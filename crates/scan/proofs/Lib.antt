@@ -2,7 +2,7 @@
 pub mod Climbs
 pub mod Overs
 pub mod Probes
-pub mod Verdicts
+pub mod Reports
 pub mod Rows
 pub mod Moves
 pub mod Bounded

@@ -13,14 +13,15 @@ use Rattle.identity.specs.Identity.{depth, octetsOf}
 use Rattle.walk.specs.Beginnings.{then}
 use Rattle.walk.specs.Machine.{Phase, asking, complete, doubtful, limited, full, Walk, settle, next, listing, noted}
 use Rattle.scan.specs.Record.{room, stateOf, beginningOf, listOf, recordOf}
-use Rattle.scan.specs.Scan.{ended, reported, scanAfter, reportedAll}
+use Rattle.refusal.specs.Answer.{stateAfter}
+use Rattle.scan.specs.Scan.{ended, reported, reportedAll}
 use Rattle.scan.specs.Steps.{notedIn}
 use Rattle.scan.specs.Demand.{RunsOut}
 use Rattle.scan.specs.declared.Scan.{Scan}
 use Rattle.scan.specs.declared.State.{State}
 use Rattle.scan.specs.declared.State.the-variants.{Asking, Complete, Doubtful, Limit, Full}
 use Rattle.scan.proofs.Overs.{Open, open-parts, open-over, over-ended}
-use Rattle.scan.proofs.Verdicts.{report-stays, report-steps}
+use Rattle.scan.proofs.Reports.{report-stays, report-steps}
 use Rattle.scan.proofs.Rows.{length-rows}
 use Rattle.scan.proofs.Moves.{noted-step}
 use Rattle.scan.proofs.Bounded.{Counts, Bounded, noted-bounded}
@@ -89,7 +90,7 @@ runs-out (a ∷ answers) s o e =
     let (q, w, f) = flags (s .state) (o .asks) in
     let t : Scan = notedIn s q w a in
     let (l, c) = noted-count s q w a in
-    let next : scanAfter (reported s a) s ≡ t =
+    let next : stateAfter (reported s a) s ≡ t =
     report-steps s a (open-over s o) ∙ sym (noted-step s a f) in
     let fits =
     noted-bounded (s .limit) (s .count) (listOf s) (beginningOf s) q w a

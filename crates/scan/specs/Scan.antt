@@ -4,7 +4,6 @@
 --   over s           == the row of the number 7: the record s takes no probe and no answer
 --   probed s lent    == what a probe asked of s gives, into a lent output of so many octets
 --   reported s heard == what an answer reported to s gives: the scan one step on
---   Reports x s r    == the code's answer r, with the scan that was s, is the answer x
 --   reportedAll s answers == the scan s after the answers, reported one after the other
 --   driven heard n s == the scan s after n answers, each as `heard` says of the beginning that is asked
 -- Assumes nothing.
@@ -16,17 +15,13 @@ use lib.Dec.{ltb}
 use lib.ListN.{replicate}
 use Rattle.identity.specs.Bits.{Bits}
 use Rattle.identity.specs.Identity.{width, depth, octetsOf, maskOf}
-use Rattle.refusal.specs.Numbers.{numberOf}
-use Rattle.refusal.specs.Answer.{Answer, gives, refuses, _when_, answered, roomRow}
+use Rattle.refusal.specs.Answer.{Answer, _when_, answered, roomRow, stateAfter}
 use Rattle.walk.specs.Machine.{step}
 use Rattle.scan.specs.Record.{room, beginningOf, walkOf, recordOf}
 use Rattle.scan.specs.Steps.{standsAt}
 use Rattle.scan.specs.declared.Scan.{Scan}
 use Rattle.scan.specs.declared.State.{State}
 use Rattle.scan.specs.declared.State.the-variants.{Asking, Complete, Doubtful, Limit, Full}
-use Rattle.scan.specs.declared.Verdict.{Verdict}
-use Rattle.scan.specs.declared.Verdict.the-variants.{Taken, Refused}
-use Rattle.scan.specs.declared.Reported.{Reported}
 
 -- 01: "The first probe is the empty beginning", and a limit of 0 is "limit" with 0 probes
 unfoldable pub fresh : ℕ → Scan
@@ -67,28 +62,10 @@ probed s lent =
 unfoldable pub reported : Scan → Bool → Answer Scan
 reported s heard = answered (7 when over s ∷ []) (recordOf s (step octetsOf depth room (walkOf s) heard))
 
--- the paper's number, or that the answer was taken, for each case of the code's answer
-unfoldable pub verdictOf : Verdict → Answer (Unit {0})
-verdictOf Taken = gives tt
-verdictOf (Refused k) = refuses (numberOf k)
-
-unfoldable pub verdict : Answer Scan → Answer (Unit {0})
-verdict (gives s) = gives tt
-verdict (refuses k) = refuses k
-
--- a refusal: "the scan .. stay as they were"
-unfoldable pub scanAfter : Answer Scan → Scan → Scan
-scanAfter (gives t) s = t
-scanAfter (refuses k) s = s
-
-pub record Reports (right : Answer Scan) (s : Scan) (r : Reported) : Type 0 where
-  pub answer : verdictOf (r .answer) ≡ verdict right
-  pub scan : r .scan ≡ scanAfter right s
-
 unfoldable pub reportedAll : Scan → List Bool → Scan
 reportedAll s [] = s
-reportedAll s (a ∷ answers) = reportedAll (scanAfter (reported s a) s) answers
+reportedAll s (a ∷ answers) = reportedAll (stateAfter (reported s a) s) answers
 
 unfoldable pub driven : (Bits → Bool) → ℕ → Scan → Scan
 driven heard zero s = s
-driven heard (suc n) s = driven heard n (scanAfter (reported s (heard (beginningOf s))) s)
+driven heard (suc n) s = driven heard n (stateAfter (reported s (heard (beginningOf s))) s)

@@ -2,7 +2,7 @@
 use borrow.Author.Needs.{needs}
 use mathlib.Core.Path.{sym, _∙_}
 use Rattle.scan.proofs.Overs.{tag-ended, over-ended, open-parts}
-use Rattle.scan.proofs.Verdicts.{report-over, report-taken}
+use Rattle.scan.proofs.Reports.{report-over, report-taken}
 use Rattle.scan.proofs.Moves.{noted-step}
 use Rattle.scan.proofs.report.Statement.{statement}
 use Rattle.scan.proofs.report.Tie as tie

@@ -1,0 +1,5 @@
+-- The laws of a drive that the layers above cite.
+pub mod Flags
+pub mod Happenings
+pub mod Movements
+pub mod Only

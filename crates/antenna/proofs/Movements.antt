@@ -1,0 +1,72 @@
+-- What starts a movement and what makes a result that waits. Assumes nothing.
+use mathlib.Core.Path.{_≡_, refl, sym, ap, _∙_}
+use mathlib.Core.Bool.{Bool, true, false, cond, _&&_}
+use mathlib.Core.Logic.{_↔_}
+use Rattle.octets.proofs.Words.{true-not-false}
+use Rattle.antenna.specs.declared.Angle.{Angle}
+use Rattle.antenna.specs.declared.Antenna.{Antenna}
+use Rattle.antenna.specs.declared.Motion.{Motion}
+use Rattle.antenna.specs.declared.Motion.the-variants.{Still, Moving, Owing, Stopped}
+use Rattle.antenna.specs.declared.Waits.the-variants.{Nothing, Result}
+use Rattle.antenna.specs.declared.Aim.{Aim}
+use Rattle.antenna.specs.declared.Aim.the-variants.{Busy, Outside, Started}
+use Rattle.antenna.specs.Angles.{sameAs}
+use Rattle.antenna.specs.Motions.{inRange, busyOf, owesOf, waitingOf, unowedOf, moves, aimOf, started, runs}
+use Rattle.antenna.specs.Events.{restedOf}
+
+busy-not-started : Busy ≡ Started → ⊥
+busy-not-started e = true-not-false (cc)
+
+outside-not-started : Outside ≡ Started → ⊥
+outside-not-started e = true-not-false (cc)
+
+-- a movement starts exactly where nothing moves or waits and the tilt asked is in range
+module _ (n : Antenna) (t : Angle) where
+  pub starts : aimOf n t ≡ Started ↔ (busyOf (n .motion) ≡ false) × (inRange n t ≡ true)
+  unfolding aimOf
+  starts = (go (busyOf (n .motion)) (inRange n t), λ w. rw (w .0, w .1))
+    where
+      go : (b r : Bool) → cond b Busy (cond r Started Outside) ≡ Started → (b ≡ false) × (r ≡ true)
+      go true r e = absurd (busy-not-started e)
+      go false true e = (refl, refl)
+      go false false e = absurd (outside-not-started e)
+
+-- a result waits after a stop exactly where one was owed for a running movement, or waited before; and it is success
+-- exactly if the stop is at the tilt asked
+pub stop-owing : (asked t : Angle) → waitingOf (restedOf (Owing asked) t) ≡ Result (sameAs asked t)
+unfolding restedOf waitingOf
+stop-owing asked t = refl
+
+pub stop-moving : (t : Angle) → waitingOf (restedOf Moving t) ≡ Nothing
+unfolding restedOf waitingOf
+stop-moving t = refl
+
+-- nothing is owed once what is owed is dropped, and what runs goes on running
+pub unowed-owes : (m : Motion) → owesOf (unowedOf m) ≡ false
+unfolding owesOf unowedOf
+unowed-owes Still = refl
+unowed-owes Moving = refl
+unowed-owes (Owing asked) = refl
+unowed-owes (Stopped reached) = refl
+
+pub unowed-runs : (m : Motion) → runs (unowedOf m) ≡ runs m
+unfolding runs unowedOf
+unowed-runs Still = refl
+unowed-runs Moving = refl
+unowed-runs (Owing asked) = refl
+unowed-runs (Stopped reached) = refl
+
+-- what runs or waits is busy, and nothing else
+pub busy-runs : (m : Motion) → runs m ≡ true → busyOf m ≡ true
+unfolding runs busyOf
+busy-runs Still e = e
+busy-runs Moving e = refl
+busy-runs (Owing asked) e = refl
+busy-runs (Stopped reached) e = refl
+
+pub idle : (m : Motion) → busyOf m ≡ false → m ≡ Still
+unfolding busyOf
+idle Still e = refl
+idle Moving e = absurd (true-not-false e)
+idle (Owing asked) e = absurd (true-not-false e)
+idle (Stopped reached) e = absurd (true-not-false e)

@@ -1,0 +1,7 @@
+-- The laws of the frame check that the layers above cite.
+pub mod Division
+pub mod Exclusive
+pub mod Only
+pub mod Register
+pub mod Residue
+pub mod Rule

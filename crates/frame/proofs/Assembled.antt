@@ -1,0 +1,39 @@
+-- How address, control, payload and check come to stand in a buffer, one behind the other. Assumes nothing.
+use mathlib.Core.Path.{_≡_, refl, sym, ap, _∙_}
+use mathlib.Core.List.{List, [], _∷_, _++_, append-nil}
+use Prim.Native.Nat.{ℕ, _+_, _/_, _%_, _≤_}
+use native.Mathlib.Omega.{arith}
+use lib.ListN.{length, take, set, length-append}
+use lib.Seq.{sets}
+use Rattle.octets.specs.Octets.{lowOf, highOf}
+use Rattle.octets.proofs.Runs.{Run, run-all, run-one, run-two, run-some, run-done}
+use Rattle.fcs.specs.Check.{checkOf, withCheck}
+use Rattle.frame.specs.Steps.{Fills}
+use Rattle.frame.proofs.Filled.{fills-of, filled}
+
+pub length-withCheck : (b : List ℕ) → length (withCheck b) ≡ length b + 2
+unfolding withCheck
+length-withCheck b = length-append b _
+
+module _ (a c : ℕ) (p o : List ℕ) {o₁ o₂ o₃ : List ℕ} (short : length p ≤ 74) (room : 78 ≤ length o)
+    (s₁ : o₁ ≡ set o 0 a) (s₂ : o₂ ≡ set o₁ 1 c) (s₃ : o₃ ≡ sets o₂ 2 p) where
+  body-run : (z : List ℕ) → Run o₃ (length p + 2) z o 0 ((a ∷ c ∷ p) ++ z)
+  body-run z = run-some p s₃ (omega arith) refl (run-one c s₂ refl (run-one a s₁ refl run-all))
+
+  body-filled : Fills o (a ∷ c ∷ p) (length p + 2) o₃
+  body-filled = rw (← append-nil (a ∷ c ∷ p)) (fills-of (run-done refl (body-run [])))
+
+  pub assembled : {o₄ o₅ : List ℕ} {check : ℕ} → check ≡ checkOf (take (length p + 2) o₃)
+      → o₄ ≡ set o₃ (length p + 2) (check % 256) → o₅ ≡ set o₄ (length p + 2 + 1) (check / 256 % 256) → Fills o
+      (withCheck (a ∷ c ∷ p)) (length p + 2 + 2) o₅
+  unfolding withCheck
+  assembled {check = check} e s₄ s₅ =
+      let stored : take (length p + 2) o₃ ≡ a ∷ c ∷ p = filled {o = o} body-filled (omega arith) in
+      let e' : check ≡ checkOf (a ∷ c ∷ p) = e ∙ ap checkOf stored in
+      let checked = body-run (lowOf check ∷ highOf check ∷ []) in
+      rw (← e') (fills-of (run-done refl (run-two _ _ s₄ s₅ refl checked)))
+
+-- a frame of at most 74 octets of payload, with its check, has at most 78
+pub assembled-short : (a c : ℕ) (p : List ℕ) {o o' : List ℕ} {n : ℕ}
+    → Fills o (withCheck (a ∷ c ∷ p)) n o' → length p ≤ 74 → n ≤ 78
+assembled-short a c p f h = omega (arith, f .count, length-withCheck (a ∷ c ∷ p))

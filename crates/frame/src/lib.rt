@@ -1,0 +1,165 @@
+// Frames on the line: what lies between two flags is decoded, and a frame is written between its flags.
+// Headline: what `write` wrote decodes to what was put in, and no other line without needless escapes does
+// (proofs/Trip.antt, proofs/Unique.antt). Assumes nothing of its caller.
+ghost use mathlib.Core.Path.{_≡_};
+ghost use Prim.Native.Nat.{_≤_};
+ghost use lib.Dec.{eqb};
+ghost use lib.ListN.{length};
+ghost use Rattle.octets.specs.Octets.{lastOf};
+ghost use Rattle.refusal.specs.Answer.{Hands};
+ghost use Rattle.frame.specs.Line.{escape, special, between};
+ghost use Rattle.frame.specs.Decode.{framed, decoded};
+ghost use Rattle.frame.specs.Write.{frameOf, written};
+ghost use Rattle.frame.specs.Steps.{Unescapes, Fills};
+use refusal::Handed;
+use refusal::Refusal;
+
+const FLAG: u8 = 0x7E;
+
+const ESCAPE: u8 = 0x7D;
+
+// What taking the escapes out of a line found: a flag inside, or so many octets.
+enum Unescaped {
+    Flag,
+    Octets(usize),
+}
+
+// Whether the last octet is an escape.
+fn ends_escaped(s: &[u8]) -> bool
+    ensures { λ r. ⌜ r ≡ eqb (lastOf 0 (now (s .entry))) escape ⌝ }
+{
+    let n = s.len();
+    if n == 0 {
+        return false;
+    }
+    s[n - 1] == ESCAPE
+}
+
+// Takes the escapes out of `s`, into `store` as far as there is room, unless a flag lies inside.
+fn unescape(s: &[u8], store: &mut [u8]) -> Unescaped
+    ensures { λ r. ⌜ Unescapes (now (s .entry)) (now (store .entry)) r (now (store .exit)) ⌝ }
+{
+    let mut n = 0;
+    let mut i = 0;
+    while i < s.len() {
+        let b = s[i];
+        i += 1;
+        if b == FLAG {
+            return Unescaped::Flag;
+        }
+        if b == ESCAPE {
+            if i < s.len() {
+                let x = s[i];
+                i += 1;
+                if x == FLAG {
+                    return Unescaped::Flag;
+                }
+                octets::put(store, n, x ^ 0x20);
+                n += 1;
+            }
+        } else {
+            octets::put(store, n, b);
+            n += 1;
+        }
+    }
+    Unescaped::Octets(n)
+}
+
+// Judges the decoded octets `d`, and hands address, control and payload out.
+fn deliver(d: &[u8], out: &mut [u8]) -> Handed
+    requires { ⌜ length (now d) ≤ 78 ⌝ }
+    ensures { λ r. ⌜ Hands (framed 78 (now (d .entry)) (length (now (out .entry))))
+        (now (out .entry)) r (now (out .exit)) ⌝ }
+{
+    let n = d.len();
+    if n < 4 {
+        return Handed::Refused(Refusal::TooShort);
+    }
+    let len = n - 2;
+    let check = fcs::check(&d[..len]);
+    let given = octets::pair(d[len], d[n - 1]);
+    if check != given {
+        return Handed::Refused(Refusal::WrongCheck);
+    }
+    refusal::hand_out(&d[..len], out)
+}
+
+// Decodes what lies between two flags: address, control and payload to the start of `out`.
+pub fn decode(src: &[u8], out: &mut [u8]) -> Handed
+    ensures { λ r. ⌜ Hands (decoded 78 (now (src .entry)) (length (now (out .entry))))
+        (now (out .entry)) r (now (out .exit)) ⌝ }
+{
+    if ends_escaped(src) {
+        return Handed::Refused(Refusal::Broken);
+    }
+    let mut store = [0u8; 78];
+    let found = unescape(src, &mut store);
+    let Unescaped::Octets(n) = found else {
+        return Handed::Refused(Refusal::Broken);
+    };
+    if 78 < n {
+        return Handed::Refused(Refusal::TooLong);
+    }
+    deliver(&store[..n], out)
+}
+
+// Whether `b` is escaped on the line.
+fn is_special(b: u8) -> bool
+    ensures { λ r. ⌜ r ≡ special b ⌝ }
+{
+    b == FLAG || b == ESCAPE
+}
+
+// Puts flag, `d` with its escapes, flag into `line`, as far as there is room.
+fn put_between(d: &[u8], line: &mut [u8]) -> usize
+    requires { ⌜ length (now d) ≤ 78 ⌝ }
+    ensures { λ r. ⌜ Fills (now (line .entry)) (between (now (d .entry))) r (now (line .exit)) ⌝ }
+{
+    octets::put(line, 0, FLAG);
+    let mut n = 1;
+    let mut i = 0;
+    while i < d.len() {
+        let b = d[i];
+        i += 1;
+        if is_special(b) {
+            octets::put(line, n, ESCAPE);
+            octets::put(line, n + 1, b ^ 0x20);
+            n += 2;
+        } else {
+            octets::put(line, n, b);
+            n += 1;
+        }
+    }
+    octets::put(line, n, FLAG);
+    n + 1
+}
+
+// Puts address, control, payload and their check into `d`.
+fn assemble(address: u8, control: u8, payload: &[u8], d: &mut [u8]) -> usize
+    requires { ⌜ (length (now payload) ≤ 74) × (78 ≤ length (now d)) ⌝ }
+    ensures { λ r. ⌜ Fills (now (d .entry)) (frameOf address control (now (payload .entry))) r (now (d .exit)) ⌝ }
+{
+    octets::put(d, 0, address);
+    octets::put(d, 1, control);
+    octets::put_all(d, 2, payload);
+    let n = payload.len() + 2;
+    let check = fcs::check(&d[..n]);
+    octets::put(d, n, (check % 256) as u8);
+    octets::put(d, n + 1, (check / 256 % 256) as u8);
+    n + 2
+}
+
+// Writes flag, frame, flag to the start of `out`.
+pub fn write(address: u8, control: u8, payload: &[u8], out: &mut [u8]) -> Handed
+    ensures { λ r. ⌜ Hands (written 78 address control (now (payload .entry)) (length (now (out .entry))))
+        (now (out .entry)) r (now (out .exit)) ⌝ }
+{
+    if 74 < payload.len() {
+        return Handed::Refused(Refusal::PayloadTooLong);
+    }
+    let mut d = [0u8; 78];
+    let n = assemble(address, control, payload, &mut d);
+    let mut line = [0u8; 158];
+    let len = put_between(&d[..n], &mut line);
+    refusal::hand_out(&line[..len], out)
+}

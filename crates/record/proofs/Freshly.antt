@@ -1,0 +1,55 @@
+-- How a fresh device is put together, and each way out of `fresh`. Assumes nothing.
+use mathlib.Core.Path.{_≡_, refl, sym, ap, _∙_}
+use mathlib.Core.Bool.{Bool, true, false, not, _&&_}
+use mathlib.Core.List.{List, [], _∷_}
+use Prim.Native.Nat.{ℕ}
+use Rattle.refusal.specs.Answer.{Answer, gives, refuses, answered}
+use Rattle.refusal.proofs.Answers.{answered-here, answered-later}
+use Rattle.identity.proofs.Identities.{and-parts}
+use Rattle.antenna.specs.declared.Alarms.{Alarms}
+use Rattle.antenna.specs.declared.Antenna.{Antenna}
+use Rattle.record.specs.Fresh.{calm, noReply, identityFrom, productFrom, versionFrom, plateFrom, freshStation}
+use Rattle.record.specs.Fresh.{freshFrom, textsAllowed, dataAllowed, antennaFrom, freshOf}
+use Rattle.record.specs.declared.Identity.{Identity}
+use Rattle.record.specs.declared.Product.{Product}
+use Rattle.record.specs.declared.Version.{Version}
+use Rattle.record.specs.declared.Payload.{Payload}
+use Rattle.record.specs.declared.Plate.{Plate}
+use Rattle.record.specs.declared.Span.{Span}
+use Rattle.record.specs.declared.Link.the-variants.{NoAddress}
+use Rattle.record.specs.declared.Device.{Device}
+
+-- the plate of four texts
+pub plated : (i p h s : List ℕ) {a : Identity} {b : Product} {c d : Version}
+    → a ≡ identityFrom i → b ≡ productFrom p → c ≡ versionFrom h → d ≡ versionFrom s
+    → record { identity = a; product = b; hardware = c; software = d } ≡ plateFrom i p h s
+unfolding plateFrom
+plated i p h s e f g q = rw (e, f, g, q)
+
+-- the device of a plate and an antenna
+pub stationed : (p : Plate) (n : Antenna) {told said : Alarms} {reply : Payload} → told ≡ calm → said ≡ calm →
+    reply ≡ noReply
+    → record {
+      plate = p;
+      station =
+          record { address = 0; link = NoAddress; subscribed = false; told = told; said = said; reply = reply };
+      antenna = n;
+    }
+    ≡ freshFrom p n
+unfolding freshFrom
+stationed p n e f g = rw (e, f, g)
+
+-- data that is allowed has texts that are
+pub data-texts : (i p h s : List ℕ) (n : Antenna) → dataAllowed i p h s n ≡ true → textsAllowed i p h s ≡ true
+unfolding dataAllowed
+data-texts i p h s n e = and-parts (textsAllowed i p h s) _ e .0
+
+module _ (i p h s : List ℕ) (w : Span) {n : Antenna} (q : n ≡ antennaFrom w) where
+  pub data-wrong : dataAllowed i p h s n ≡ false → freshOf i p h s w ≡ refuses 6
+  unfolding freshOf
+  data-wrong e = answered-here _ _ _ (ap not (rw q at e))
+
+  pub data-right : dataAllowed i p h s n ≡ true → {plate : Plate} {d : Device}
+      → plate ≡ plateFrom i p h s → d ≡ freshFrom plate n → freshOf i p h s w ≡ gives d
+  unfolding freshOf answered
+  data-right e f g = rw (rw q at e) (ap gives (sym (rw (f, q) at g)))

@@ -1,0 +1,62 @@
+-- Each promise of this crate allows one result, and each number of an event is given exactly when 01 says.
+-- Assumes nothing.
+use mathlib.Core.Path.{_≡_, refl, ap}
+use mathlib.Core.Bool.{Bool, true, false, not}
+use mathlib.Core.List.{List}
+use mathlib.Core.Logic.{_↔_}
+use Prim.Native.Nat.{ℕ}
+use borrow.Author.Tests.{not-true, not-false}
+use Rattle.octets.specs.Octets.{holds}
+use Rattle.octets.proofs.Only.{only}
+use Rattle.refusal.specs.Answer.{refuses, Given, numbersOf, apart, Changes}
+use Rattle.refusal.specs.declared.Outcome.{Outcome}
+use Rattle.refusal.proofs.Only.{changes-only}
+use Rattle.refusal.proofs.Exactly.{exactly}
+use Rattle.record.specs.Allowed.{allowedDevice}
+use Rattle.record.specs.Fresh.{freshOf, dataAllowed, plateFrom, freshFrom, antennaFrom, blankDevice}
+use Rattle.record.specs.Changes.{endedAs, canBe, afterEvent, withAntenna, eventRows, happened}
+use Rattle.record.specs.declared.Link.{Link}
+use Rattle.record.specs.declared.Span.{Span}
+use Rattle.record.specs.declared.Device.{Device}
+use Rattle.record.specs.declared.Event.{Event}
+
+pub allowed-only : (device : Device) {r q : Bool} → r ≡ allowedDevice device → q ≡ allowedDevice device → r ≡ q
+allowed-only device = only
+
+pub fresh-only : (i p h s : List ℕ) (w : Span) {r q : Outcome} {d e : Device}
+    → Changes (freshOf i p h s w) blankDevice r d → Changes (freshOf i p h s w) blankDevice q e → (r ≡ q) × (d ≡ e)
+fresh-only i p h s w = changes-only
+
+pub ended-only : (device : Device) (address : ℕ) (link : Link) {d e : Device}
+    → d ≡ endedAs device address link → e ≡ endedAs device address link → d ≡ e
+ended-only device address link = only
+
+pub happen-only : (device : Device) (event : Event) {r q : Outcome} {d e : Device}
+    → Changes (happened device event) device r d → Changes (happened device event) device q e → (r ≡ q) × (d ≡ e)
+happen-only device event = changes-only
+
+-- 6: "device data .. not allowed", of a fresh device
+pub fresh-6 : (i p h s : List ℕ) (w : Span) → freshOf i p h s w ≡ refuses 6 ↔ dataAllowed i p h s (antennaFrom w) ≡
+    false
+unfolding freshOf Given numbersOf apart holds
+fresh-6 i p h s w =
+    let both = exactly 6 _ (freshFrom (plateFrom i p h s) (antennaFrom w)) refl in
+    (λ e. not-true _ (both .0 e), λ e. both .1 (ap not e))
+
+module _ (d : Device) (e : Event) where
+  by-rows : (k : ℕ) → happened d e ≡ refuses k ↔ Given k (eventRows d e)
+  unfolding happened eventRows numbersOf apart holds
+  by-rows k = exactly k (eventRows d e) (withAntenna d (afterEvent (d .antenna) e)) refl
+
+  -- 6: "a device record handed in, not allowed"
+  pub happen-6 : happened d e ≡ refuses 6 ↔ allowedDevice d ≡ false
+  unfolding Given eventRows
+  happen-6 = (λ g. not-true _ (by-rows 6 .0 g), λ w. by-rows 6 .1 (ap not w))
+
+  -- 8: "a device event that can't be", and not 6
+  pub happen-8 : happened d e ≡ refuses 8 ↔ (allowedDevice d ≡ true) × (canBe (d .antenna) e ≡ false)
+  unfolding Given eventRows
+  happen-8 = (
+    λ g. let t = by-rows 8 .0 g in (not-false _ (t .0), not-true _ (t .1)),
+    λ w. by-rows 8 .1 (ap not (w .0), ap not (w .1)),
+  )

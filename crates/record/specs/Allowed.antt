@@ -1,0 +1,96 @@
+-- Who the device is: which records may be handed in. 01, "Who the device is".
+--   identityOf p       == the octets of the identity; productOf p, hardwareOf p, softwareOf p == the texts
+--   platesAllowed p    == the fixed data is as 01 says
+--   numbersAllowed s   == "session numbers of 0 to 7"
+--   pendingFits t p    == what is pending in the station t, p, can be
+--   sessionAllowed t s == numbers and what is pending, of a session
+--   linkAllowed t l    == address, session numbers and what is pending fit the link state l
+--   owedAllowed l m    == "a tilt result owed only in Connected"
+--   allowedDevice d    == d may be handed in; anything else is refusal 6
+-- "only alarms named below" holds by type. Assumes nothing.
+use mathlib.Core.Bool.{Bool, true, false, not, _&&_}
+use mathlib.Core.List.{List}
+use Prim.Native.Nat.{ℕ}
+use lib.Dec.{ltb, leb, eqb}
+use lib.ListN.{take}
+use Rattle.identity.specs.Identity.{width, allowedIdentity}
+use Rattle.antenna.specs.declared.Motion.{Motion}
+use Rattle.antenna.specs.Alarms.{anyDiffer}
+use Rattle.antenna.specs.Motions.{inRange, owesOf}
+use Rattle.record.specs.declared.Plate.{Plate}
+use Rattle.record.specs.declared.Pending.{Pending}
+use Rattle.record.specs.declared.Pending.the-variants.{Nothing, Answer, Indication}
+use Rattle.record.specs.declared.Session.{Session}
+use Rattle.record.specs.declared.Link.{Link}
+use Rattle.record.specs.declared.Link.the-variants.{NoAddress, AddressAssigned, Connected}
+use Rattle.record.specs.declared.Station.{Station}
+use Rattle.record.specs.declared.Device.{Device}
+
+abbrev pub identityOf : Plate → List ℕ
+identityOf p = take (p .identity .len) (p .identity .octets)
+
+abbrev pub productOf : Plate → List ℕ
+productOf p = take (p .product .len) (p .product .octets)
+
+abbrev pub hardwareOf : Plate → List ℕ
+hardwareOf p = take (p .hardware .len) (p .hardware .octets)
+
+abbrev pub softwareOf : Plate → List ℕ
+softwareOf p = take (p .software .len) (p .software .octets)
+
+-- "Product, hardware and software texts of at most 20, 14 and 14 octets of any kind"
+abbrev pub productMost : ℕ
+productMost = 20
+
+abbrev pub versionMost : ℕ
+versionMost = 14
+
+abbrev pub replyMost : ℕ
+replyMost = 74
+
+unfoldable pub identityAllowed : List ℕ → ℕ → Bool
+identityAllowed octets len = leb len width && allowedIdentity (take len octets)
+
+unfoldable pub platesAllowed : Plate → Bool
+platesAllowed p =
+    identityAllowed (p .identity .octets) (p .identity .len)
+    && (leb (p .product .len) productMost
+    && (leb (p .hardware .len) versionMost && leb (p .software .len) versionMost))
+
+-- "session numbers of 0 to 7"
+unfoldable pub numbersAllowed : Session → Bool
+numbersAllowed s = ltb (s .r) 8 && ltb (s .s) 8
+
+-- "a pending answer of at most 74 payload octets (an indication: as below)": it says what differs from what was told
+unfoldable pub pendingFits : Station → Pending → Bool
+pendingFits t Nothing = true
+pendingFits t Answer = leb (t .reply .len) replyMost
+pendingFits t Indication = anyDiffer (t .said .flags) (t .told .flags)
+
+unfoldable pub sessionAllowed : Station → Session → Bool
+sessionAllowed t s = numbersAllowed s && pendingFits t (s .pending)
+
+-- "an address of 0 to 254, 0 exactly in NoAddress"
+unfoldable pub addressed : ℕ → Bool
+addressed a = ltb 0 a && ltb a 255
+
+unfoldable pub linkAllowed : Station → Link → Bool
+linkAllowed t NoAddress = eqb (t .address) 0
+linkAllowed t AddressAssigned = addressed (t .address)
+linkAllowed t (Connected s) = addressed (t .address) && sessionAllowed t s
+
+unfoldable pub stationAllowed : Station → Bool
+stationAllowed t = linkAllowed t (t .link)
+
+-- "a tilt result owed only in Connected"
+unfoldable pub owedAllowed : Link → Motion → Bool
+owedAllowed NoAddress m = not (owesOf m)
+owedAllowed AddressAssigned m = not (owesOf m)
+owedAllowed (Connected s) m = true
+
+-- "Lowest, highest and present tilt .., lowest ≤ present ≤ highest"
+unfoldable pub allowedDevice : Device → Bool
+allowedDevice d =
+    platesAllowed (d .plate)
+    && (inRange (d .antenna) (d .antenna .tilt)
+    && (stationAllowed (d .station) && owedAllowed (d .station .link) (d .antenna .motion)))

@@ -1,0 +1,57 @@
+-- What a session's end leaves of a record, and what happens to it.
+--   unsaid t a l    == the station t at the address a in the link state l, with nothing pending
+--   endedAs d a l   == the device d after its session's end, at the address a in the link state l
+--   canBe n e       == the event e can happen to the antenna n; afterEvent n e == the antenna then
+--   antennaHappened n e == the event e, of an antenna; happened d e == of a device
+-- Assumes nothing.
+use mathlib.Core.Bool.{Bool, true, false, not}
+use mathlib.Core.List.{List, [], _∷_}
+use Prim.Native.Nat.{ℕ}
+use Rattle.refusal.specs.Answer.{Answer, Row, _when_, answered}
+use Rattle.antenna.specs.declared.Antenna.{Antenna}
+use Rattle.antenna.specs.Motions.{unowedOf, moves}
+use Rattle.antenna.specs.Events.{canStop, at, isAlarm, withAlarm}
+use Rattle.record.specs.Allowed.{allowedDevice}
+use Rattle.record.specs.Fresh.{calm, noReply}
+use Rattle.record.specs.declared.Link.{Link}
+use Rattle.record.specs.declared.Station.{Station}
+use Rattle.record.specs.declared.Device.{Device}
+use Rattle.record.specs.declared.Event.{Event}
+use Rattle.record.specs.declared.Event.the-variants.{Stopped, Raised, Cleared}
+
+-- "Ending a session drops the pending answer and any tilt result owed; alarms, subscription and a running movement
+-- stay."
+unfoldable pub unsaid : Station → ℕ → Link → Station
+unsaid t a l =
+    record { address = a; link = l; subscribed = t .subscribed; told = t .told; said = calm; reply = noReply }
+
+unfoldable pub endedAs : Device → ℕ → Link → Device
+endedAs d a l =
+    record {
+      plate = d .plate;
+      station = unsaid (d .station) a l;
+      antenna = moves (d .antenna) (unowedOf (d .antenna .motion));
+    }
+
+unfoldable pub canBe : Antenna → Event → Bool
+canBe n (Stopped t) = canStop n t
+canBe n (Raised k) = isAlarm k
+canBe n (Cleared k) = isAlarm k
+
+unfoldable pub afterEvent : Antenna → Event → Antenna
+afterEvent n (Stopped t) = at n t
+afterEvent n (Raised k) = withAlarm n k true
+afterEvent n (Cleared k) = withAlarm n k false
+
+unfoldable pub antennaHappened : Antenna → Event → Answer Antenna
+antennaHappened n e = answered (8 when not (canBe n e) ∷ []) (afterEvent n e)
+
+abbrev pub withAntenna : Device → Antenna → Device
+withAntenna d n = record { plate = d .plate; station = d .station; antenna = n }
+
+-- "the device 6, then .. 8 for an event"
+unfoldable pub eventRows : Device → Event → List Row
+eventRows d e = 6 when not (allowedDevice d) ∷ 8 when not (canBe (d .antenna) e) ∷ []
+
+unfoldable pub happened : Device → Event → Answer Device
+happened d e = answered (eventRows d e) (withAntenna d (afterEvent (d .antenna) e))

@@ -1,0 +1,92 @@
+-- A fresh device. 01: "A fresh device has address 0 and no alarms, subscription or movement."
+--   dataAllowed ..     == the device data is as "Who the device is" says
+--   identityFrom s, productFrom s, versionFrom s == a text with zeros behind it
+--   plateFrom i p h s  == the plate with these texts, zeros behind each
+--   freshStation       == address 0, no session, nothing told, nothing subscribed
+--   freshFrom ..       == the fresh device; freshOf .. == what is answered
+--   blankDevice        == the record beside a refusal
+-- Assumes nothing.
+use mathlib.Core.Bool.{Bool, true, false, not, _&&_}
+use mathlib.Core.List.{List, [], _∷_}
+use Prim.Native.Nat.{ℕ}
+use lib.Dec.{leb}
+use lib.IntN.{ℤ, pos}
+use lib.ListN.{length, replicate}
+use Rattle.octets.specs.Octets.{_atStartOf_}
+use Rattle.refusal.specs.Answer.{Answer, _when_, answered}
+use Rattle.identity.specs.Identity.{width, allowedIdentity}
+use Rattle.antenna.specs.declared.Alarms.{Alarms}
+use Rattle.antenna.specs.declared.Angle.{Angle}
+use Rattle.antenna.specs.declared.Antenna.{Antenna}
+use Rattle.antenna.specs.declared.Motion.the-variants.{Still}
+use Rattle.antenna.specs.Alarms.{noAlarms}
+use Rattle.antenna.specs.Motions.{inRange}
+use Rattle.record.specs.Allowed.{productMost, versionMost, replyMost}
+use Rattle.record.specs.declared.Identity.{Identity}
+use Rattle.record.specs.declared.Product.{Product}
+use Rattle.record.specs.declared.Version.{Version}
+use Rattle.record.specs.declared.Payload.{Payload}
+use Rattle.record.specs.declared.Span.{Span}
+use Rattle.record.specs.declared.Plate.{Plate}
+use Rattle.record.specs.declared.Link.the-variants.{NoAddress}
+use Rattle.record.specs.declared.Station.{Station}
+use Rattle.record.specs.declared.Device.{Device}
+
+abbrev pub calm : Alarms
+calm = record { flags = noAlarms }
+
+-- nothing is pending, so nothing lies in the reply
+abbrev pub noReply : Payload
+noReply = record { octets = replicate replyMost 0; len = 0 }
+
+unfoldable pub identityFrom : List ℕ → Identity
+identityFrom s = record { octets = s atStartOf replicate width 0; len = length s }
+
+unfoldable pub productFrom : List ℕ → Product
+productFrom s = record { octets = s atStartOf replicate productMost 0; len = length s }
+
+unfoldable pub versionFrom : List ℕ → Version
+versionFrom s = record { octets = s atStartOf replicate versionMost 0; len = length s }
+
+unfoldable pub plateFrom : List ℕ → List ℕ → List ℕ → List ℕ → Plate
+plateFrom i p h s =
+    record {
+      identity = identityFrom i;
+      product = productFrom p;
+      hardware = versionFrom h;
+      software = versionFrom s;
+    }
+
+abbrev pub freshStation : Station
+freshStation =
+    record { address = 0; link = NoAddress; subscribed = false; told = calm; said = calm; reply = noReply }
+
+abbrev pub freshAntenna : Angle → Angle → Angle → Antenna
+freshAntenna lowest highest present =
+    record { lowest = lowest; highest = highest; tilt = present; motion = Still; raised = calm }
+
+unfoldable pub freshFrom : Plate → Antenna → Device
+freshFrom p n = record { plate = p; station = freshStation; antenna = n }
+
+-- the device data: identity, texts, and lowest ≤ present ≤ highest
+unfoldable pub textsAllowed : List ℕ → List ℕ → List ℕ → List ℕ → Bool
+textsAllowed i p h s =
+    allowedIdentity i
+    && (leb (length p) productMost && (leb (length h) versionMost && leb (length s) versionMost))
+
+unfoldable pub dataAllowed : List ℕ → List ℕ → List ℕ → List ℕ → Antenna → Bool
+dataAllowed i p h s n = textsAllowed i p h s && inRange n (n .tilt)
+
+abbrev pub antennaFrom : Span → Antenna
+antennaFrom w = freshAntenna (w .lowest) (w .highest) (w .present)
+
+unfoldable pub freshOf : List ℕ → List ℕ → List ℕ → List ℕ → Span → Answer Device
+freshOf i p h s w =
+    answered (6 when not (dataAllowed i p h s (antennaFrom w)) ∷ []) (freshFrom (plateFrom i p h s) (antennaFrom w))
+
+-- the constant record that stands beside a refusal
+abbrev pub level : Angle
+level = record { tenths = pos 0 }
+
+unfoldable pub blankDevice : Device
+blankDevice = freshFrom (plateFrom [] [] [] []) (freshAntenna level level level)

@@ -1,0 +1,4 @@
+-- What the other crates cite of the device's record.
+pub mod Allowed
+pub mod Fresh
+pub mod Changes

@@ -1,0 +1,489 @@
+// The device's record: its plate, its station on the cable, its antenna. Which records are allowed, a fresh one, what
+// a session's end leaves, and the events. Assumes nothing of its caller: any record of the type may be handed in.
+// Headline: an allowed record stays allowed under every event and at a session's end (proofs/Stays.antt).
+ghost use mathlib.Core.Path.{_≡_};
+ghost use mathlib.Core.Bool.{true};
+ghost use Prim.Native.Nat.{_≤_};
+ghost use lib.Dec.{leb};
+ghost use lib.ListN.{length};
+ghost use Rattle.refusal.specs.Answer.{Changes};
+ghost use Rattle.antenna.specs.Motions.{inRange};
+ghost use Rattle.record.specs.Allowed.{identityAllowed, platesAllowed, numbersAllowed, pendingFits};
+ghost use Rattle.record.specs.Fresh.{textsAllowed, dataAllowed, identityFrom, productFrom, versionFrom};
+ghost use Rattle.record.specs.Fresh.{plateFrom, calm, noReply, freshAntenna, freshFrom, freshOf, blankDevice};
+ghost use Rattle.record.specs.Changes.{endedAs, antennaHappened, happened};
+ghost use Rattle.record.specs.Allowed.{addressed, sessionAllowed, stationAllowed, owedAllowed, allowedDevice};
+use antenna::Alarms;
+use antenna::Angle;
+use antenna::Antenna;
+use antenna::Motion;
+use refusal::Outcome;
+use refusal::Refusal;
+
+// Vendor and serial number: the first `len` octets.
+pub struct Identity {
+    pub octets: [u8; 19],
+    pub len: usize,
+}
+
+pub struct Product {
+    pub octets: [u8; 20],
+    pub len: usize,
+}
+
+pub struct Version {
+    pub octets: [u8; 14],
+    pub len: usize,
+}
+
+// The device's fixed data.
+pub struct Plate {
+    pub identity: Identity,
+    pub product: Product,
+    pub hardware: Version,
+    pub software: Version,
+}
+
+// What is pending in a session: an answer's payload lies in `reply`, an indication says `said`.
+pub enum Pending {
+    Nothing,
+    Answer,
+    Indication,
+}
+
+// R, the next number due from the master; S, the number of the next unacknowledged answer.
+pub struct Session {
+    pub r: u8,
+    pub s: u8,
+    pub pending: Pending,
+}
+
+pub enum Link {
+    NoAddress,
+    AddressAssigned,
+    Connected(Session),
+}
+
+// The payload of an answer: the first `len` octets.
+pub struct Payload {
+    pub octets: [u8; 74],
+    pub len: usize,
+}
+
+// One port's side of the cable.
+pub struct Station {
+    pub address: u8,
+    pub link: Link,
+    pub subscribed: bool,
+    pub told: Alarms,
+    pub said: Alarms,
+    pub reply: Payload,
+}
+
+pub struct Device {
+    pub plate: Plate,
+    pub station: Station,
+    pub antenna: Antenna,
+}
+
+// A drive's range and its present tilt.
+pub struct Span {
+    pub lowest: Angle,
+    pub highest: Angle,
+    pub present: Angle,
+}
+
+// What happens to a device: the motor stopped there, this alarm rose, this alarm fell.
+pub enum Event {
+    Stopped(Angle),
+    Raised(u8),
+    Cleared(u8),
+}
+
+pub struct Changed {
+    pub outcome: Outcome,
+    pub device: Device,
+}
+
+// ---- allowed or not
+
+fn identity_allowed(octets: [u8; 19], len: usize) -> bool
+    ensures { λ r. ⌜ r ≡ identityAllowed octets len ⌝ }
+{
+    if 19 < len {
+        return false;
+    }
+    identity::allowed(&octets[..len])
+}
+
+fn plate_allowed(plate: Plate) -> bool
+    ensures { λ r. ⌜ r ≡ platesAllowed plate ⌝ }
+{
+    let identity = plate.identity;
+    let octets = identity.octets;
+    let product = plate.product;
+    let hardware = plate.hardware;
+    let software = plate.software;
+    if identity_allowed(octets, identity.len) {
+        if 20 < product.len {
+            return false;
+        }
+        if 14 < hardware.len {
+            return false;
+        }
+        return software.len <= 14;
+    }
+    false
+}
+
+fn numbers_allowed(session: Session) -> bool
+    ensures { λ r. ⌜ r ≡ numbersAllowed session ⌝ }
+{
+    if session.r < 8 { session.s < 8 } else { false }
+}
+
+fn reply_allowed(reply: Payload) -> bool
+    ensures { λ r. ⌜ r ≡ leb (reply .len) 74 ⌝ }
+{
+    reply.len <= 74
+}
+
+fn pending_allowed(station: Station, pending: Pending) -> bool
+    ensures { λ r. ⌜ r ≡ pendingFits station pending ⌝ }
+{
+    match pending {
+        Pending::Nothing => true,
+        Pending::Answer => {
+            let reply = station.reply;
+            reply_allowed(reply)
+        }
+        Pending::Indication => {
+            let said = station.said;
+            let told = station.told;
+            let now = said.flags;
+            let then = told.flags;
+            antenna::differ(now, then)
+        }
+    }
+}
+
+fn is_addressed(address: u8) -> bool
+    ensures { λ r. ⌜ r ≡ addressed address ⌝ }
+{
+    if 0 < address { address < 255 } else { false }
+}
+
+fn session_allowed(station: Station, session: Session) -> bool
+    ensures { λ r. ⌜ r ≡ sessionAllowed station session ⌝ }
+{
+    let pending = session.pending;
+    if numbers_allowed(session) {
+        pending_allowed(station, pending)
+    } else {
+        false
+    }
+}
+
+fn station_allowed(station: Station) -> bool
+    ensures { λ r. ⌜ r ≡ stationAllowed station ⌝ }
+{
+    let link = station.link;
+    match link {
+        Link::NoAddress => station.address == 0,
+        Link::AddressAssigned => is_addressed(station.address),
+        Link::Connected(session) => {
+            if is_addressed(station.address) {
+                return session_allowed(station, session);
+            }
+            false
+        }
+    }
+}
+
+fn owed_allowed(link: Link, motion: Motion) -> bool
+    ensures { λ r. ⌜ r ≡ owedAllowed link motion ⌝ }
+{
+    match link {
+        Link::NoAddress => !antenna::owes(motion),
+        Link::AddressAssigned => !antenna::owes(motion),
+        Link::Connected(_) => true,
+    }
+}
+
+fn antenna_allowed(antenna: Antenna) -> bool
+    ensures { λ r. ⌜ r ≡ inRange antenna (antenna .tilt) ⌝ }
+{
+    let tilt = antenna.tilt;
+    antenna::in_range(antenna, tilt)
+}
+
+// Whether a record may be handed in.
+pub fn allowed(device: Device) -> bool
+    ensures { λ r. ⌜ r ≡ allowedDevice device ⌝ }
+{
+    let plate = device.plate;
+    let station = device.station;
+    let antenna = device.antenna;
+    let link = station.link;
+    let motion = antenna.motion;
+    if plate_allowed(plate) {
+        if antenna_allowed(antenna) {
+            if station_allowed(station) {
+                return owed_allowed(link, motion);
+            }
+        }
+    }
+    false
+}
+
+// ---- a fresh device
+
+fn texts_allowed(identity: &[u8], product: &[u8], hardware: &[u8], software: &[u8]) -> bool
+    ensures { λ r. ⌜ r ≡ textsAllowed (now (identity .entry)) (now (product .entry)) (now (hardware .entry))
+        (now (software .entry)) ⌝ }
+{
+    if identity::allowed(identity) {
+        if 20 < product.len() {
+            return false;
+        }
+        if 14 < hardware.len() {
+            return false;
+        }
+        return software.len() <= 14;
+    }
+    false
+}
+
+fn data_allowed(
+    identity: &[u8],
+    product: &[u8],
+    hardware: &[u8],
+    software: &[u8],
+    antenna: Antenna,
+) -> bool
+    ensures { λ r. ⌜ r ≡ dataAllowed (now (identity .entry)) (now (product .entry)) (now (hardware .entry))
+        (now (software .entry)) antenna ⌝ }
+{
+    if texts_allowed(identity, product, hardware, software) {
+        antenna_allowed(antenna)
+    } else {
+        false
+    }
+}
+
+// The octets of `s`, zeros behind them.
+fn identity_from(s: &[u8]) -> Identity
+    requires { ⌜ length (now s) ≤ 19 ⌝ }
+    ensures { λ r. ⌜ r ≡ identityFrom (now (s .entry)) ⌝ }
+{
+    let mut octets = [0u8; 19];
+    octets::put_all(&mut octets, 0, s);
+    Identity {
+        octets,
+        len: s.len(),
+    }
+}
+
+fn product_from(s: &[u8]) -> Product
+    requires { ⌜ length (now s) ≤ 20 ⌝ }
+    ensures { λ r. ⌜ r ≡ productFrom (now (s .entry)) ⌝ }
+{
+    let mut octets = [0u8; 20];
+    octets::put_all(&mut octets, 0, s);
+    Product {
+        octets,
+        len: s.len(),
+    }
+}
+
+fn version_from(s: &[u8]) -> Version
+    requires { ⌜ length (now s) ≤ 14 ⌝ }
+    ensures { λ r. ⌜ r ≡ versionFrom (now (s .entry)) ⌝ }
+{
+    let mut octets = [0u8; 14];
+    octets::put_all(&mut octets, 0, s);
+    Version {
+        octets,
+        len: s.len(),
+    }
+}
+
+fn plate_from(identity: &[u8], product: &[u8], hardware: &[u8], software: &[u8]) -> Plate
+    requires { ⌜ textsAllowed (now identity) (now product) (now hardware) (now software) ≡ true ⌝ }
+    ensures { λ r. ⌜ r ≡ plateFrom (now (identity .entry)) (now (product .entry)) (now (hardware .entry))
+        (now (software .entry)) ⌝ }
+{
+    let identity = identity_from(identity);
+    let product = product_from(product);
+    let hardware = version_from(hardware);
+    let software = version_from(software);
+    Plate {
+        identity,
+        product,
+        hardware,
+        software,
+    }
+}
+
+fn calm() -> Alarms
+    ensures { λ r. ⌜ r ≡ calm ⌝ }
+{
+    Alarms { flags: [false; 6] }
+}
+
+fn no_reply() -> Payload
+    ensures { λ r. ⌜ r ≡ noReply ⌝ }
+{
+    Payload {
+        octets: [0u8; 74],
+        len: 0,
+    }
+}
+
+fn fresh_antenna(lowest: Angle, highest: Angle, present: Angle) -> Antenna
+    ensures { λ r. ⌜ r ≡ freshAntenna lowest highest present ⌝ }
+{
+    Antenna {
+        lowest,
+        highest,
+        tilt: present,
+        motion: Motion::Still,
+        raised: calm(),
+    }
+}
+
+fn fresh_from(plate: Plate, antenna: Antenna) -> Device
+    ensures { λ r. ⌜ r ≡ freshFrom plate antenna ⌝ }
+{
+    let station = Station {
+        address: 0,
+        link: Link::NoAddress,
+        subscribed: false,
+        told: calm(),
+        said: calm(),
+        reply: no_reply(),
+    };
+    Device {
+        plate,
+        station,
+        antenna,
+    }
+}
+
+// The constant record beside a refusal.
+fn blank() -> Device
+    ensures { λ r. ⌜ r ≡ blankDevice ⌝ }
+{
+    let level = Angle { tenths: 0 };
+    let plate = Plate {
+        identity: Identity {
+            octets: [0u8; 19],
+            len: 0,
+        },
+        product: Product {
+            octets: [0u8; 20],
+            len: 0,
+        },
+        hardware: Version {
+            octets: [0u8; 14],
+            len: 0,
+        },
+        software: Version {
+            octets: [0u8; 14],
+            len: 0,
+        },
+    };
+    fresh_from(plate, fresh_antenna(level, level, level))
+}
+
+// A fresh device with this data, or the number beside the blank record.
+pub fn fresh(
+    identity: &[u8],
+    product: &[u8],
+    hardware: &[u8],
+    software: &[u8],
+    span: Span,
+) -> Changed
+    ensures { λ r. ⌜ Changes (freshOf (now (identity .entry)) (now (product .entry)) (now (hardware .entry))
+        (now (software .entry)) span) blankDevice (r .outcome) (r .device) ⌝ }
+{
+    let lowest = span.lowest;
+    let highest = span.highest;
+    let present = span.present;
+    let antenna = fresh_antenna(lowest, highest, present);
+    if data_allowed(identity, product, hardware, software, antenna) {
+        let plate = plate_from(identity, product, hardware, software);
+        let device = fresh_from(plate, antenna);
+        return Changed {
+            outcome: Outcome::Done,
+            device,
+        };
+    }
+    Changed {
+        outcome: Outcome::Refused(Refusal::NotAllowed),
+        device: blank(),
+    }
+}
+
+// ---- what changes a record
+
+// The device after its session's end, at an address and in a link state: what was pending or owed is dropped.
+pub fn ended(device: Device, address: u8, link: Link) -> Device
+    ensures { λ r. ⌜ r ≡ endedAs device address link ⌝ }
+{
+    let plate = device.plate;
+    let station = device.station;
+    let antenna = device.antenna;
+    let motion = antenna.motion;
+    let told = station.told;
+    let antenna = antenna::in_motion(antenna, antenna::unowed(motion));
+    let station = Station {
+        address,
+        link,
+        subscribed: station.subscribed,
+        told,
+        said: calm(),
+        reply: no_reply(),
+    };
+    Device {
+        plate,
+        station,
+        antenna,
+    }
+}
+
+fn antenna_after(antenna: Antenna, event: Event) -> antenna::Changed
+    ensures { λ r. ⌜ Changes (antennaHappened antenna event) antenna (r .outcome) (r .antenna) ⌝ }
+{
+    match event {
+        Event::Stopped(t) => antenna::stopped(antenna, t),
+        Event::Raised(alarm) => antenna::alarmed(antenna, alarm, true),
+        Event::Cleared(alarm) => antenna::alarmed(antenna, alarm, false),
+    }
+}
+
+// An event happens to a device.
+pub fn happen(device: Device, event: Event) -> Changed
+    ensures { λ r. ⌜ Changes (happened device event) device (r .outcome) (r .device) ⌝ }
+{
+    if allowed(device) {
+        let plate = device.plate;
+        let station = device.station;
+        let antenna = device.antenna;
+        let changed = antenna_after(antenna, event);
+        let outcome = changed.outcome;
+        let antenna = changed.antenna;
+        return Changed {
+            outcome,
+            device: Device {
+                plate,
+                station,
+                antenna,
+            },
+        };
+    }
+    Changed {
+        outcome: Outcome::Refused(Refusal::NotAllowed),
+        device,
+    }
+}

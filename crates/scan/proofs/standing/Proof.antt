@@ -1,0 +1,16 @@
+-- `scan::standing` meets its promise: a test decides whether probes are left. Assumes nothing.
+use borrow.Author.Tests.{lt-ltb, le-ltb}
+use Rattle.scan.specs.Steps.{standsAt}
+use Rattle.scan.proofs.standing.Statement.{statement}
+use Rattle.scan.proofs.standing.Tie as tie
+
+returns : tie.Need-returns
+unfolding standsAt
+returns c = rw (lt-ltb _ _ (c .if1 .taken))
+
+returns-2 : tie.Need-returns-2
+unfolding standsAt
+returns-2 c = rw (le-ltb _ _ (c .if1 .left))
+
+pub standing-spec : {M : Type 1} → statement M
+standing-spec = tie.close (tie.spec returns returns-2)

@@ -1,0 +1,160 @@
+//! XID payloads: scans that match and don't, assignments right and wrong.
+
+use super::Generator;
+use crate::identity::PADDED;
+use crate::record::DEVICE_TYPE;
+use crate::xid::{written, ADDRESS, IDENTITY, MASK, TYPE, VENDOR_CODE};
+
+/// Identifier and value.
+type Triple = (u8, Vec<u8>);
+
+impl Generator<'_> {
+    /// A scan for a device: it matches more often than not.
+    pub(super) fn xid_scan(&mut self, device: usize) -> Vec<u8> {
+        let padded = self.bench.devices[device].make.identity.padded();
+        let length = match self.dice.below(4) {
+            0 => PADDED,
+            1 => self.bench.devices[device].make.identity.unpadded().len(),
+            _ => self.dice.between(1, PADDED as i64) as usize,
+        };
+        let mask = self.mask(length);
+        let mut value: Vec<u8> = padded.iter().zip(&mask).map(|(own, mask)| own & mask).collect();
+        let place = self.dice.below(length);
+        let bit = 1 << self.dice.below(8);
+        match self.dice.below(12) {
+            // A bit of the value turned, inside the mask or outside it.
+            0 | 1 => value[place] ^= bit,
+            2 => value[place] |= !mask[place],
+            _ => (),
+        }
+        let mut triples = vec![(IDENTITY, value), (MASK, mask)];
+        self.spoil_triples(&mut triples, 120);
+        self.payload_of(triples)
+    }
+
+    fn mask(&mut self, length: usize) -> Vec<u8> {
+        let bits = self.dice.below(8 * length + 1);
+        match self.dice.below(5) {
+            0 => vec![0xFF; length],
+            1 => vec![0x00; length],
+            2 => (0..length).map(|_| self.dice.octet()).collect(),
+            _ => (0..length)
+                .map(|place| {
+                    let ones = bits.saturating_sub(8 * place).min(8);
+                    (0xFF00_u16 >> ones) as u8
+                })
+                .collect(),
+        }
+    }
+
+    /// An assignment for a device; wrong so many times of a thousand.
+    pub(super) fn assignment(&mut self, device: usize, wrong: usize) -> Vec<u8> {
+        let identity = self.bench.devices[device].make.identity.clone();
+        let address = match self.dice.below(8) {
+            0 => self.dice.pick(&[1, 254]),
+            1..=4 => self.dice.between(1, 12) as u8,
+            _ => self.dice.between(1, 254) as u8,
+        };
+        let mut triples = vec![(ADDRESS, vec![address])];
+        if self.dice.chance(800) {
+            triples.push((IDENTITY, self.right_part(identity.unpadded())));
+        }
+        if self.dice.chance(350) {
+            triples.push((TYPE, vec![DEVICE_TYPE]));
+        }
+        if self.dice.chance(350) {
+            triples.push((VENDOR_CODE, identity.vendor().to_vec()));
+        }
+        if self.dice.chance(wrong) {
+            self.wrong_value(&mut triples, identity.unpadded());
+        }
+        self.spoil_triples(&mut triples, wrong / 2);
+        self.payload_of(triples)
+    }
+
+    fn right_part(&mut self, identity: &[u8]) -> Vec<u8> {
+        let length = match self.dice.below(3) {
+            0 => identity.len(),
+            1 => self.dice.between(1, 3) as usize,
+            _ => self.dice.between(1, identity.len() as i64) as usize,
+        };
+        identity[identity.len() - length..].to_vec()
+    }
+
+    /// One value that the device must not take.
+    fn wrong_value(&mut self, triples: &mut Vec<Triple>, identity: &[u8]) {
+        let mut set = |identifier: u8, value: Vec<u8>| {
+            triples.retain(|(other, _)| *other != identifier);
+            triples.push((identifier, value));
+        };
+        match self.dice.below(12) {
+            0 => set(ADDRESS, vec![0]),
+            1 => set(ADDRESS, vec![255]),
+            2 => set(TYPE, vec![self.dice.pick(&[0x00, 0x02, 0x11, 0xFF])]),
+            3 => set(VENDOR_CODE, vec![identity[1], identity[0]]),
+            4 => set(VENDOR_CODE, vec![identity[0], identity[1] ^ 1]),
+            // From the left, padded, longer, one octet turned.
+            5 => set(IDENTITY, identity[..identity.len() - 1].to_vec()),
+            6 => set(IDENTITY, identity[..2].to_vec()),
+            7 => set(IDENTITY, [identity, b" "].concat()),
+            8 => set(IDENTITY, [b" ", identity].concat()),
+            9 => {
+                let mut turned = identity.to_vec();
+                let place = self.dice.below(turned.len());
+                turned[place] ^= 1 << self.dice.below(7);
+                set(IDENTITY, turned);
+            }
+            10 => set(MASK, vec![0xFF; identity.len()]),
+            _ => triples.retain(|(identifier, _)| *identifier != ADDRESS),
+        }
+    }
+
+    /// Order, repeats, unknown identifiers, wrong lengths.
+    fn spoil_triples(&mut self, triples: &mut Vec<Triple>, spoilt: usize) {
+        if self.dice.chance(500) {
+            self.dice.shuffle(triples);
+        }
+        if !self.dice.chance(spoilt) || triples.is_empty() {
+            return;
+        }
+        let place = self.dice.below(triples.len());
+        match self.dice.below(8) {
+            0 => triples.push(triples[place].clone()),
+            1 => triples.push((self.dice.pick(&[0, 5, 7, 8, 0x81, 0xFF]), vec![1])),
+            2 => triples[place].0 = self.dice.pick(&[0, 5, 7, 1, 2, 3, 4, 6]),
+            3 => triples[place].1.clear(),
+            4 => triples[place].1.push(0x20),
+            5 => {
+                triples[place].1.pop();
+            }
+            6 => triples.push((TYPE, vec![DEVICE_TYPE])),
+            _ => triples[place].1.resize(20, 0),
+        }
+    }
+
+    /// The payload, its head and outer length wrong now and then.
+    fn payload_of(&mut self, triples: Vec<Triple>) -> Vec<u8> {
+        let triples: Vec<(u8, &[u8])> =
+            triples.iter().map(|(identifier, value)| (*identifier, &value[..])).collect();
+        let mut payload = written(&triples);
+        if self.dice.chance(50) {
+            match self.dice.below(8) {
+                0 => payload[0] ^= 1,
+                1 => payload[1] ^= 1,
+                2 => payload[2] = payload[2].wrapping_add(1),
+                3 => payload[2] = payload[2].wrapping_sub(1),
+                4 => payload.push(self.dice.octet()),
+                5 => {
+                    // One octet more, and the length says so.
+                    payload.push(self.dice.pick(&[0, 1, 2, 4]));
+                    payload[2] = payload[2].wrapping_add(1);
+                }
+                6 => payload.truncate(self.dice.below(6)),
+                _ => {
+                    payload.pop();
+                }
+            }
+        }
+        payload
+    }
+}

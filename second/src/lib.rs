@@ -1,0 +1,20 @@
+//! The second program: the list of its parts.
+//!
+//! Everything is written from two documents only: document 01 (the law of
+//! codec, device and scanner) and the bench script (commands in, answers out).
+//! Quotation marks in the comments hold sentences of those two.
+
+pub mod bench;
+pub mod check;
+pub mod device;
+pub mod frame;
+pub mod generator;
+pub mod identity;
+pub mod lines;
+pub mod message;
+pub mod record;
+pub mod refusal;
+pub mod scan;
+pub mod script;
+pub mod words;
+pub mod xid;

@@ -1,0 +1,182 @@
+//! XID from address 0xFF: the parameters, the scan and the assignment.
+
+use crate::identity::{PADDED, VENDOR};
+use crate::record::{Link, Record, DEVICE_TYPE};
+
+/// "Payload: 0x81, 0xF0, ..."
+const FORMAT: u8 = 0x81;
+const GROUP: u8 = 0xF0;
+
+pub const IDENTITY: u8 = 1;
+pub const ADDRESS: u8 = 2;
+pub const MASK: u8 = 3;
+pub const TYPE: u8 = 4;
+pub const VENDOR_CODE: u8 = 6;
+
+/// The values found in a payload, each at most once.
+#[derive(Debug, Default, PartialEq, Eq)]
+struct Parameters<'frame> {
+    identity: Option<&'frame [u8]>,
+    address: Option<&'frame [u8]>,
+    mask: Option<&'frame [u8]>,
+    device_type: Option<&'frame [u8]>,
+    vendor: Option<&'frame [u8]>,
+}
+
+/// The payload of the answer to an XID frame, or silence. An assignment that
+/// is meant for this device is carried out.
+pub fn answer(record: &mut Record, payload: &[u8]) -> Option<Vec<u8>> {
+    let parameters = Parameters::read(payload)?;
+    if parameters.is_scan() {
+        parameters.scan(record)
+    } else {
+        parameters.assign(record)
+    }
+}
+
+impl<'frame> Parameters<'frame> {
+    /// "0x81, 0xF0, a length equal to all that follows, then triples of
+    /// identifier, length, value that fill it exactly."
+    fn read(payload: &'frame [u8]) -> Option<Parameters<'frame>> {
+        let [FORMAT, GROUP, length, field @ ..] = payload else {
+            return None;
+        };
+        if usize::from(*length) != field.len() {
+            return None;
+        }
+        let mut parameters = Parameters::default();
+        let mut rest = field;
+        while !rest.is_empty() {
+            let [identifier, length, following @ ..] = rest else {
+                return None;
+            };
+            let (value, next) = following.split_at_checked(usize::from(*length))?;
+            parameters.keep(*identifier, value)?;
+            rest = next;
+        }
+        Some(parameters)
+    }
+
+    /// "Identifiers 1 (identity, 1 to 19), 2 (address, 1), 3 (mask, 1 to 19),
+    /// 4 (type, 1), 6 (vendor, 2), any order. A repeat, another identifier,
+    /// another length: silence."
+    fn keep(&mut self, identifier: u8, value: &'frame [u8]) -> Option<()> {
+        let (place, lengths) = match identifier {
+            IDENTITY => (&mut self.identity, 1..=PADDED),
+            ADDRESS => (&mut self.address, 1..=1),
+            MASK => (&mut self.mask, 1..=PADDED),
+            TYPE => (&mut self.device_type, 1..=1),
+            VENDOR_CODE => (&mut self.vendor, VENDOR..=VENDOR),
+            _ => return None,
+        };
+        if place.is_some() || !lengths.contains(&value.len()) {
+            return None;
+        }
+        *place = Some(value);
+        Some(())
+    }
+
+    /// "Scan: exactly 1 and 3."
+    fn is_scan(&self) -> bool {
+        self.identity.is_some()
+            && self.mask.is_some()
+            && self.address.is_none()
+            && self.device_type.is_none()
+            && self.vendor.is_none()
+    }
+
+    /// 1 and 3 "of equal length", then the comparison from the left. "Answer,
+    /// in any state: 1 (unpadded, n octets), 2, 4 in that order."
+    fn scan(&self, record: &Record) -> Option<Vec<u8>> {
+        let identity = &record.make.identity;
+        if !identity.left_matches(self.identity?, self.mask?) {
+            return None;
+        }
+        Some(written(&[
+            (IDENTITY, identity.unpadded()),
+            (ADDRESS, &[record.address]),
+            (TYPE, &[DEVICE_TYPE]),
+        ]))
+    }
+
+    /// "Then any session ends, the address is taken, the state is
+    /// AddressAssigned, and the answer from the new address has 1 and 4."
+    fn assign(&self, record: &mut Record) -> Option<Vec<u8>> {
+        let address = self.address_for(record)?;
+        record.end_session(Link::AddressAssigned);
+        record.address = address;
+        Some(written(&[(IDENTITY, record.make.identity.unpadded()), (TYPE, &[DEVICE_TYPE])]))
+    }
+
+    /// "Assignment: 2 present, 3 absent, value 1 to 254." What is given of 1,
+    /// 4 and 6 must be this device's.
+    fn address_for(&self, record: &Record) -> Option<u8> {
+        let address = *self.address?.first()?;
+        let identity = &record.make.identity;
+        let meant = self.mask.is_none()
+            && (1..=254).contains(&address)
+            && self.identity.is_none_or(|value| identity.right_matches(value))
+            && self.device_type.is_none_or(|value| value == [DEVICE_TYPE])
+            && self.vendor.is_none_or(|value| value == identity.vendor());
+        meant.then_some(address)
+    }
+}
+
+/// A payload of 0x81, 0xF0, length and triples. What passes the length octet
+/// can't be said; no caller's triples do.
+pub fn written(triples: &[(u8, &[u8])]) -> Vec<u8> {
+    let mut field = Vec::new();
+    for (identifier, value) in triples {
+        field.extend([*identifier, value.len() as u8]);
+        field.extend(*value);
+    }
+    let mut payload = vec![FORMAT, GROUP, field.len() as u8];
+    payload.extend(field);
+    payload
+}
+
+#[cfg(test)]
+mod tests {
+    use super::*;
+
+    const SCAN_ALL: [u8; 9] = [0x81, 0xF0, 6, 1, 1, 0, 3, 1, 0];
+
+    #[test]
+    fn the_field_is_filled_exactly() {
+        assert!(Parameters::read(&SCAN_ALL).unwrap().is_scan());
+        for end in 0..SCAN_ALL.len() {
+            assert_eq!(Parameters::read(&SCAN_ALL[..end]), None);
+        }
+        assert_eq!(Parameters::read(&[0x81, 0xF0, 7, 1, 1, 0, 3, 1, 0, 0]), None);
+        assert_eq!(Parameters::read(&[0x81, 0xF0, 7, 1, 1, 0, 3, 1, 0, 4]), None);
+        assert_eq!(Parameters::read(&[0x80, 0xF0, 6, 1, 1, 0, 3, 1, 0]), None);
+        assert_eq!(Parameters::read(&[0x81, 0xF1, 6, 1, 1, 0, 3, 1, 0]), None);
+        assert_eq!(Parameters::read(&[0x81, 0xF0, 0]), Some(Parameters::default()));
+    }
+
+    #[test]
+    fn identifiers_and_their_lengths() {
+        for (identifier, lengths) in [(1, 1..=19), (2, 1..=1), (3, 1..=19), (4, 1..=1), (6, 2..=2)]
+        {
+            for length in 0..=25 {
+                let value = vec![0x55; length];
+                let read = written(&[(identifier, &value)]);
+                assert_eq!(Parameters::read(&read).is_some(), lengths.contains(&length));
+            }
+        }
+        for identifier in [0, 5, 7, 0xFF] {
+            assert_eq!(Parameters::read(&written(&[(identifier, &[1])])), None);
+        }
+    }
+
+    #[test]
+    fn a_repeat_is_silence() {
+        for (identifier, value) in [(1, &[1][..]), (2, &[1]), (3, &[1]), (4, &[1]), (6, &[1, 1])] {
+            assert!(Parameters::read(&written(&[(identifier, value)])).is_some());
+            assert_eq!(
+                Parameters::read(&written(&[(identifier, value), (identifier, value)])),
+                None
+            );
+        }
+    }
+}

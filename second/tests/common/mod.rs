@@ -1,0 +1,70 @@
+//! What the tests share: a bench that is asked line by line.
+#![allow(dead_code)]
+
+use second::bench::Bench;
+use second::{script, words};
+
+/// A bench at a table.
+#[derive(Default)]
+pub struct Table {
+    pub bench: Bench,
+}
+
+impl Table {
+    /// The answer to a line that has one.
+    pub fn ask(&mut self, line: &str) -> String {
+        script::answer(&mut self.bench, line.as_bytes()).expect("a line with an answer")
+    }
+
+    /// The answer's octets to a frame for device 1, or the word before the
+    /// buffer; the rest of the buffer must be untouched.
+    pub fn give(&mut self, frame: &str) -> String {
+        let answer = self.ask(&format!("frame 1 {frame} 80"));
+        let words: Vec<&str> = answer.split(' ').collect();
+        match words[..] {
+            ["answer", length, buffer] => {
+                let (octets, rest) = buffer.split_at(2 * length.parse::<usize>().unwrap());
+                assert_eq!(rest, "a5".repeat(rest.len() / 2));
+                octets.to_string()
+            }
+            ["silence", buffer] => {
+                assert_eq!(buffer, "a5".repeat(80));
+                "silence".to_string()
+            }
+            _ => panic!("{answer}"),
+        }
+    }
+
+    /// All the lines; their answers together.
+    pub fn run(&mut self, lines: &[&str]) -> Vec<String> {
+        lines.iter().map(|line| self.ask(line)).collect()
+    }
+}
+
+/// HEX of text.
+pub fn hex(text: &[u8]) -> String {
+    words::written(text)
+}
+
+/// A bench with the device of "Both sides of the edge": "range -20 to 100, is
+/// fresh". Its identity is KA1234, its present tilt is given.
+pub fn fresh(tilt: i16) -> Table {
+    let mut table = Table::default();
+    let line = format!("device {} 70 68 73 -20 100 {tilt}", hex(b"KA1234"));
+    assert_eq!(table.ask(&line), "device 1");
+    table
+}
+
+/// The same, "then assigned", with address 5.
+pub fn assigned(tilt: i16) -> Table {
+    let mut table = fresh(tilt);
+    assert_eq!(table.give("ffbf81f003020105"), "05bf81f00b01064b4131323334040101");
+    table
+}
+
+/// The same after SNRM.
+pub fn connected(tilt: i16) -> Table {
+    let mut table = assigned(tilt);
+    assert_eq!(table.give("0593"), "0573");
+    table
+}

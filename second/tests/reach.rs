@@ -1,0 +1,418 @@
+//! What the generator's scripts reach: every kind of state and answer is
+//! counted and must come often enough. `--nocapture` shows the counts.
+
+use std::collections::{BTreeMap, BTreeSet};
+
+use second::bench::Bench;
+use second::generator::generate;
+use second::lines::Lines;
+use second::record::{after, Answer, Drive, Link, Record, Session};
+use second::{frame, script, words};
+
+const SEEDS: u64 = 20;
+const LINES: usize = 20_000;
+
+#[derive(Default)]
+struct Tally {
+    counts: BTreeMap<String, usize>,
+    codes: BTreeSet<u8>,
+    controls: BTreeSet<u8>,
+    numbers: BTreeSet<(u8, u8)>,
+}
+
+impl Tally {
+    fn count(&mut self, kind: impl Into<String>) {
+        *self.counts.entry(kind.into()).or_default() += 1;
+    }
+
+    fn script(&mut self, seed: u64, lines: usize) {
+        let mut text = Vec::new();
+        generate(seed, lines, &mut text).unwrap();
+        let mut bench = Bench::default();
+        let mut source = Lines::new(&text[..]);
+        let mut line = Vec::new();
+        let mut seen = 0;
+        while source.next(&mut line).unwrap() {
+            seen += 1;
+            let before = device_of(&bench, &line).cloned();
+            match script::answer(&mut bench, &line) {
+                Some(answer) => self.line(before.as_ref(), &bench, &line, &answer),
+                None => self.count("no answer"),
+            }
+        }
+        assert_eq!(seen, lines);
+        self.count(format!("devices {}", bench.devices.len()));
+    }
+
+    fn line(&mut self, before: Option<&Record>, bench: &Bench, line: &[u8], answer: &str) {
+        let now = device_of(bench, line);
+        let line = String::from_utf8_lossy(line);
+        let asked: Vec<&str> = line.split(' ').collect();
+        let given: Vec<&str> = answer.split(' ').collect();
+        match (asked[0], given[0], before, now) {
+            (_, "error", _, _) => self.count(answer),
+            (command, "refused", _, _) => self.count(format!("{command} refused {}", given[1])),
+            ("scan" | "report", _, _, _) => self.scan(asked[0], &given, bench.scan.limit()),
+            ("frame" | "hear", _, Some(before), Some(now)) => {
+                self.frame(before, now, &asked, &given)
+            }
+            ("stopped", "done", Some(before), _) => self.stopped(before),
+            ("raise" | "clear", "done", Some(before), Some(now)) => self.alarm(before, now),
+            (command, word, _, _) => self.count(format!("{command} {word}")),
+        }
+    }
+
+    fn scan(&mut self, command: &str, given: &[&str], limit: u16) {
+        let listed = match given.get(2) {
+            None | Some(&"-") => 0,
+            Some(list) => list.split(',').count(),
+        };
+        let size = match listed {
+            0 => "none",
+            1 => "one",
+            2..=31 => "some",
+            _ => "32",
+        };
+        if given[0] == "going" {
+            return self.count("report going");
+        }
+        self.count(format!("{command} {} {size}", given[0]));
+        if command == "report" && given[0] != "limit" && given[1] == limit.to_string() {
+            self.count(format!("by hand {} at the limit", given[0]));
+        }
+    }
+
+    fn stopped(&mut self, before: &Record) {
+        match (before.unit.drive, &before.link) {
+            (Drive::MovingTo(_), _) => self.count("stopped with a result owed"),
+            (_, Link::Connected(_)) => self.count("stopped with nothing owed, connected"),
+            _ => self.count("stopped with nothing owed, not connected"),
+        }
+    }
+
+    fn alarm(&mut self, before: &Record, now: &Record) {
+        let changed = before.unit.raised != now.unit.raised;
+        let pending = before.session().and_then(|session| session.pending.as_ref());
+        if changed && matches!(pending, Some(Answer::Indication(_))) {
+            self.count("alarm changed while an indication is pending");
+        }
+        self.count(if changed { "alarm changed" } else { "alarm unchanged" });
+    }
+
+    fn frame(&mut self, before: &Record, now: &Record, asked: &[&str], given: &[&str]) {
+        let octets = words::hex(asked[2].as_bytes()).unwrap();
+        let mut output = [0; 76];
+        let octets = match asked[0] {
+            "hear" => {
+                let length = frame::decode(&octets, &mut output).unwrap();
+                &output[..length]
+            }
+            _ => &octets[..],
+        };
+        let answered = match given {
+            ["answer", length, buffer] => {
+                &words::hex(buffer.as_bytes()).unwrap()[..length.parse().unwrap()]
+            }
+            _ => &[],
+        };
+        self.answered(before, answered);
+        self.ended(before, now, answered);
+        if let (Some(session), [address, control, payload @ ..]) = (before.session(), octets) {
+            if *address == before.address && octets.len() <= 76 {
+                self.controls.insert(*control);
+                self.in_session(session, now, before, *control, payload, answered);
+            }
+        }
+    }
+
+    fn answered(&mut self, before: &Record, answer: &[u8]) {
+        let link = match before.link {
+            Link::NoAddress => "none",
+            Link::AddressAssigned => "assigned",
+            Link::Connected(_) => "connected",
+        };
+        let pending = before.session().is_some_and(|session| session.pending.is_some());
+        match answer {
+            [] => self.count(format!("silence in {link}")),
+            [_, 0x73] => self.count(format!("UA in {link}")),
+            [_, 0x1F] => self.count(format!("DM in {link}")),
+            [_, 0x97, _, _, cause] => self.count(format!("FRMR {cause} pending {pending}")),
+            [_, 0xBF, .., 2, 1, _, 4, 1, 1] => self.count(format!("XID scan in {link}")),
+            [_, 0xBF, ..] => self.count(format!("XID assignment in {link}")),
+            [_, control] if control & 0x1F == 0x11 => self.count("RR"),
+            [_, control, ..] if control & 1 == 0 => self.count("I"),
+            _ => panic!("{answer:?}"),
+        }
+    }
+
+    /// What the end of a session drops.
+    fn ended(&mut self, before: &Record, now: &Record, answer: &[u8]) {
+        let Some(session) = before.session() else {
+            return;
+        };
+        if now.session().is_some() && answer.get(1) != Some(&0x73) {
+            return;
+        }
+        match (&session.pending, before.unit.drive) {
+            (Some(Answer::Indication(_)), _) => self.count("ended with an indication pending"),
+            (Some(Answer::Message(_)), _) => self.count("ended with a message pending"),
+            _ => (),
+        }
+        match before.unit.drive {
+            Drive::MovingTo(_) => self.count("ended with a result owed, moving"),
+            Drive::Stopped { .. } => self.count("ended with a result waiting"),
+            Drive::Moving => self.count("ended moving, nothing owed"),
+            Drive::Still => self.count("ended still"),
+        }
+    }
+
+    fn in_session(
+        &mut self,
+        session: &Session,
+        now: &Record,
+        before: &Record,
+        control: u8,
+        payload: &[u8],
+        answer: &[u8],
+    ) {
+        let Some(later) = now.session().filter(|_| !answer.is_empty() && answer[1] != 0x73) else {
+            return;
+        };
+        self.numbers.insert((later.due, later.unacknowledged));
+        let acknowledged = later.unacknowledged != session.unacknowledged;
+        if acknowledged {
+            match session.pending {
+                Some(Answer::Indication(_)) => self.count("indication acknowledged"),
+                _ => self.count("message acknowledged"),
+            }
+        }
+        let i_frame = control & 1 == 0;
+        if i_frame && later.due == after(session.due) {
+            self.accepted(before, payload, answer, acknowledged);
+        } else if i_frame {
+            let again = if answer.len() > 2 { "pending answer again" } else { "RR" };
+            self.count(format!("I not accepted, {again}, acknowledging {acknowledged}"));
+        } else if control & 0x0F == 0x05 {
+            self.count(format!(
+                "RNR pending {} acknowledging {acknowledged}",
+                session.pending.is_some()
+            ));
+        } else if answer.len() > 2 {
+            self.sent_at_rr(session, later, acknowledged);
+        }
+    }
+
+    fn accepted(&mut self, before: &Record, message: &[u8], answer: &[u8], acknowledged: bool) {
+        self.count(format!("I accepted, acknowledging {acknowledged}"));
+        let Some(&code) = message.first() else {
+            return self.count("message of 0 octets");
+        };
+        self.codes.insert(code);
+        let known = if matches!(code, 4 | 5 | 6 | 0x12 | 0x33 | 0x34) {
+            format!("{code:02x}")
+        } else {
+            "other".into()
+        };
+        match answer {
+            [_, _] if message.len() < 3 => self.count("message shorter than 3"),
+            [_, _] => self.count(format!("message {known} RR")),
+            [_, _, _, 2, 0, 0x0B, why] => {
+                self.count(format!("message {known} failure {why:02x}"));
+                if *why == 5 {
+                    self.count(format!(
+                        "busy {}",
+                        format!("{:?}", before.unit.drive).split(['(', ' ']).next().unwrap()
+                    ));
+                }
+            }
+            _ => self.count(format!("message {known} success")),
+        }
+    }
+
+    fn sent_at_rr(&mut self, session: &Session, later: &Session, acknowledged: bool) {
+        let again = session.pending.is_some() && !acknowledged;
+        match later.pending.as_ref().unwrap() {
+            _ if again => self.count("answer again at RR"),
+            Answer::Indication(pairs) => self.count(format!("indication of {}", pairs.len())),
+            Answer::Message(result) if result.len() == 4 => self.count("result success"),
+            Answer::Message(_) => self.count("result failure 02"),
+        }
+    }
+}
+
+/// The device that a line's second word names.
+fn device_of<'bench>(bench: &'bench Bench, line: &[u8]) -> Option<&'bench Record> {
+    let k = line.split(|&octet| octet == b' ').nth(1)?;
+    bench.devices.get(words::device(k, bench.devices.len()).ok()?)
+}
+
+/// Kinds that must come at least so often in all the scripts together.
+const OFTEN: [(&str, usize); 104] = [
+    ("no answer", 1_000),
+    ("devices 0", 1),
+    ("devices 1", 1),
+    ("devices 32", 2),
+    ("error command", 500),
+    ("error words", 500),
+    ("error hex", 500),
+    ("error number", 500),
+    ("error room", 200),
+    ("error device", 500),
+    ("error long", 100),
+    ("error full", 100),
+    ("decode frame", 1_000),
+    ("decode refused 1", 200),
+    ("decode refused 2", 200),
+    ("decode refused 3", 200),
+    ("decode refused 4", 200),
+    ("decode refused 5", 200),
+    ("write line", 1_000),
+    ("write refused 5", 200),
+    ("write refused 9", 200),
+    ("device device", 200),
+    ("device refused 6", 500),
+    ("frame refused 5", 1_000),
+    ("hear refused 1", 200),
+    ("hear refused 2", 200),
+    ("hear refused 3", 500),
+    ("hear refused 4", 200),
+    ("hear refused 5", 500),
+    ("stopped refused 8", 500),
+    ("raise refused 8", 500),
+    ("clear refused 8", 200),
+    ("probe probe", 1_000),
+    ("probe refused 5", 500),
+    ("probe refused 7", 20),
+    ("report refused 7", 200),
+    ("report going", 10_000),
+    ("report complete none", 20),
+    ("report complete one", 10),
+    ("report complete some", 10),
+    ("report complete 32", 10),
+    ("report doubtful none", 20),
+    ("report doubtful one", 10),
+    ("report doubtful some", 10),
+    ("report limit none", 20),
+    ("report limit one", 10),
+    ("report limit some", 10),
+    ("report full 32", 20),
+    ("by hand full at the limit", 5),
+    ("by hand doubtful at the limit", 5),
+    ("by hand complete at the limit", 5),
+    ("scan complete none", 20),
+    ("scan complete one", 20),
+    ("scan complete some", 20),
+    ("scan complete 32", 5),
+    ("scan limit none", 20),
+    ("scan limit one", 20),
+    ("scan limit some", 20),
+    ("show state", 1_000),
+    ("stopped with a result owed", 1_000),
+    ("stopped with nothing owed, connected", 200),
+    ("stopped with nothing owed, not connected", 50),
+    ("alarm changed while an indication is pending", 200),
+    ("silence in none", 200),
+    ("silence in assigned", 500),
+    ("silence in connected", 1_000),
+    ("UA in assigned", 1_000),
+    ("UA in connected", 500),
+    ("DM in assigned", 500),
+    ("FRMR 1 pending false", 50),
+    ("FRMR 1 pending true", 200),
+    ("FRMR 8 pending false", 50),
+    ("FRMR 8 pending true", 200),
+    ("XID scan in none", 20),
+    ("XID scan in assigned", 50),
+    ("XID scan in connected", 500),
+    ("XID assignment in none", 100),
+    ("XID assignment in assigned", 50),
+    ("XID assignment in connected", 200),
+    ("ended with an indication pending", 100),
+    ("ended with a message pending", 200),
+    ("ended with a result owed, moving", 200),
+    ("ended with a result waiting", 100),
+    ("ended moving, nothing owed", 100),
+    ("indication acknowledged", 1_000),
+    ("message acknowledged", 1_000),
+    ("I accepted, acknowledging true", 1_000),
+    ("I accepted, acknowledging false", 1_000),
+    ("I not accepted, pending answer again, acknowledging false", 1_000),
+    ("I not accepted, RR, acknowledging true", 500),
+    ("I not accepted, RR, acknowledging false", 500),
+    ("RNR pending true acknowledging true", 500),
+    ("RNR pending true acknowledging false", 200),
+    ("RNR pending false acknowledging false", 500),
+    ("answer again at RR", 1_000),
+    ("indication of 1", 1_000),
+    ("indication of 3", 100),
+    ("indication of 6", 20),
+    ("result success", 500),
+    ("result failure 02", 500),
+    ("busy Moving", 200),
+    ("busy MovingTo", 1_000),
+    ("busy Stopped", 500),
+    ("message shorter than 3", 200),
+];
+
+/// The messages' outcomes that must come at least a hundred times.
+const OUTCOMES: [&str; 17] = [
+    "04 success",
+    "04 failure 24",
+    "05 success",
+    "05 failure 24",
+    "06 success",
+    "06 failure 24",
+    "12 success",
+    "12 failure 24",
+    "33 RR",
+    "33 failure 05",
+    "33 failure 13",
+    "33 failure 24",
+    "34 success",
+    "34 failure 05",
+    "34 failure 24",
+    "other failure 19",
+    "other failure 25",
+];
+
+#[test]
+fn everything_is_reached() {
+    let mut tally = Tally::default();
+    for seed in 0..SEEDS {
+        tally.script(seed, LINES);
+    }
+    for (kind, count) in &tally.counts {
+        println!("{count:8} {kind}");
+    }
+    println!("{:8} message codes", tally.codes.len());
+    println!("{:8} controls to a connected device", tally.controls.len());
+    println!("{:8} pairs of R and S", tally.numbers.len());
+    let mut rare = Vec::new();
+    for (kind, least) in OFTEN {
+        if tally.counts.get(kind).copied().unwrap_or(0) < least {
+            rare.push(kind.to_string());
+        }
+    }
+    for outcome in OUTCOMES {
+        let kind = format!("message {outcome}");
+        if tally.counts.get(&kind).copied().unwrap_or(0) < 100 {
+            rare.push(kind);
+        }
+    }
+    assert!(rare.is_empty(), "too rare: {rare:#?}");
+    assert_eq!(tally.codes.len(), 256);
+    assert_eq!(tally.controls.len(), 256);
+    assert_eq!(tally.numbers.len(), 64);
+}
+
+#[test]
+fn a_seed_determines_its_script() {
+    let script = |seed, lines| {
+        let mut text = Vec::new();
+        generate(seed, lines, &mut text).unwrap();
+        text
+    };
+    assert_eq!(script(5, 3_000), script(5, 3_000));
+    assert_ne!(script(5, 3_000), script(15, 3_000));
+    assert_eq!(script(5, 0), b"");
+}
