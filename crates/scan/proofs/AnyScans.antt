@@ -51,7 +51,7 @@ module _ (limit : ℕ) (heard : Bits → Bool) where
         count = count-is d ∙ any .count;
         list = list-is d ∙ any .list
             ∙ ap (λ (n : ℕ). map octetsOf (take room (hits (take n ms)))) (sym (count-is d));
-        over = ap ended (state-is d) ∙ ended-of x (any .ended);
+        ends = ap ended (state-is d) ∙ ended-of x (any .ended);
         fulls = (
           λ h. let (a, b, c) = any .fulls _ .0 (full-of x (sym (state-is d) ∙ h)) in (a, b),
           λ (a, b). state-is d ∙ ap stateOf (any .fulls _ .1 (a, b, refl)),

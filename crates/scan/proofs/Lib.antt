@@ -12,5 +12,6 @@ pub mod AnyScans
 pub mod Run
 pub mod Buses
 pub mod Demand
+pub mod Refusals
 pub mod Only
 pub mod Cases

@@ -36,13 +36,16 @@ pub record IdentityBus (ids : List (List ℕ)) (heard : Bits → Bool) : Type 0 
       → (heard p ≡ true) ↔ ((i : List ℕ) × List·Memᴰ i ids × (answersScan i (maskOf p) (octetsOf p) ≡ true))
 
 pub record AnyScan (limit : ℕ) (heard : Bits → Bool) (last : Scan) (after : ℕ → Scan) (ms : List Mark) : Type 0 where
+  -- the probes answered: as many as the limit lets, up to the 33rd identity's
   pub count : last .count ≡ min limit (place room ms)
   pub list : listOf last ≡ map octetsOf (take room (hits (take (last .count) ms)))
-  pub over : ended (last .state) ≡ true
+  pub ends : ended (last .state) ≡ true
+  -- "full" beats "limit", and names the 33rd identity; "limit" names the next probe's beginning
   pub fulls : (last .state ≡ Full) ↔ ((room < length (hits ms)) × (place room ms ≤ limit))
   pub full-names : last .state ≡ Full → beginningOf last ≡ getD (hits ms) room []
   pub limits : (last .state ≡ Limit) ↔ (limit < place room ms)
   pub limit-names : last .state ≡ Limit → beginningOf last ≡ getD (beginningsOf ms) limit []
+  -- no probe remains, it is not full, and a heard beginning had both halves silent; or none had
   pub doubtfuls : (last .state ≡ Doubtful)
       ↔ ((length (hits ms) ≤ room) × (length ms ≤ limit) × Doubt heard depth [])
   pub completes : (last .state ≡ Complete)
@@ -55,19 +58,26 @@ pub record AnyScan (limit : ℕ) (heard : Bits → Bool) (last : Scan) (after : 
 -- `all` are the identities, each once, ascending; `shorter` the different beginnings of 0 to 151 bits
 pub record BusScan (limit : ℕ) (ids : List (List ℕ)) (last : Scan) (ms : List Mark)
     (all : List (List ℕ)) (shorter : List Bits) : Type 0 where
+  -- the identities, each once, ascending
   pub ascending : Ascending lower all
   pub members : (x : List ℕ) → List·Memᴰ x all ↔ List·Memᴰ x ids
   pub once : Different all
+  -- one probe, and two for each different beginning
   pub counted : Shorter depth (map bitsOf ids) shorter
   pub probes : length ms ≡ 1 + 2 * length shorter
+  -- "doubtful" never
   pub ends : (last .state ≡ Complete) ⊎ ((last .state ≡ Limit) ⊎ (last .state ≡ Full))
+  -- "complete" exactly if there are at most 32 and the limit lets all the probes be asked
   pub completes : (last .state ≡ Complete) ↔ ((length ids ≤ room) × (1 + 2 * length shorter ≤ limit))
   pub complete-list : last .state ≡ Complete → listOf last ≡ all
   pub complete-count : last .state ≡ Complete → last .count ≡ 1 + 2 * length shorter
+  -- never more than 1 + 304n probes
   pub bound : last .count ≤ 1 + 304 * length ids
+  -- at "limit": limit probes answered, the next probe's beginning named, what is below it listed
   pub limit-count : last .state ≡ Limit → last .count ≡ limit
   pub limit-names : last .state ≡ Limit → beginningOf last ≡ getD (beginningsOf ms) limit []
   pub limit-list : last .state ≡ Limit → listOf last ≡ those (λ x. lower x (octetsOf (beginningOf last))) all
+  -- "full" exactly if there are at least 33 and the limit reaches the 33rd's place; it is named, those below it listed
   pub fulls : (last .state ≡ Full) ↔ ((room < length ids) × (place room ms ≤ limit))
   pub full-count : last .state ≡ Full → last .count ≡ place room ms
   pub full-names : last .state ≡ Full → octetsOf (beginningOf last) ≡ getD all room []

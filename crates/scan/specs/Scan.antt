@@ -2,7 +2,7 @@
 --   fresh limit      == a scan that has asked nothing
 --   probeOf p        == the probe of the beginning p: address, control and payload, 47 octets
 --   over s           == the row of the number 7: the record s takes no probe and no answer
---   probed s room    == what a probe asked of s gives, into a lent output of so many octets
+--   probed s lent    == what a probe asked of s gives, into a lent output of so many octets
 --   reported s heard == what an answer reported to s gives: the scan one step on
 --   reportedAll s answers == the scan s after the answers, reported one after the other
 --   driven heard n s == the scan s after n answers, each as `heard` says of the beginning that is asked

@@ -81,6 +81,7 @@ fn zero_half(beginning: [bool; BITS], bits: usize) -> bool
     !beginning[bits - 1]
 }
 
+// Whether one of the two holds.
 fn either(a: bool, b: bool) -> bool
     ensures { λ r. ⌜ r ≡ (a || b) ⌝ }
 {
@@ -110,6 +111,7 @@ fn finished(doubt: bool) -> State
     State::Complete
 }
 
+// The scan in another state.
 fn in_state(scan: Scan, state: State) -> Scan
     ensures { λ r. ⌜ r ≡ inState scan state ⌝ }
 {
@@ -166,6 +168,7 @@ fn note(scan: Scan, quiet: bool, doubt: bool, heard: bool) -> Scan
     let bits = scan.bits;
     let beginning = scan.beginning;
     let listed = scan.listed;
+    // What is next once all below the beginning is done: its first n bits, the last made a one.
     let n = climb(beginning, bits);
     let mut s = scan;
     s.count = scan.count + 1;

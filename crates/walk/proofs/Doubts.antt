@@ -13,7 +13,7 @@ use Rattle.identity.proofs.Identities.{and-parts}
 use Rattle.walk.specs.Beginnings.{then}
 use Rattle.walk.specs.Probes.{pass, hit, order, Doubt}
 
-or-parts : (a b : Bool) → (a || b) ≡ true → (a ≡ true) ⊎ (b ≡ true)
+pub or-parts : (a b : Bool) → (a || b) ≡ true → (a ≡ true) ⊎ (b ≡ true)
 or-parts true b e = inl refl
 or-parts false b e = inr e
 
