@@ -14,9 +14,10 @@ use Rattle.refusal.proofs.Only.{changes-only}
 use Rattle.refusal.proofs.Exactly.{exactly}
 use Rattle.record.specs.Allowed.{allowedDevice}
 use Rattle.record.specs.Fresh.{freshOf, dataAllowed, plateFrom, freshFrom, antennaFrom, blankDevice}
-use Rattle.record.specs.Changes.{endedAs, canBe, afterEvent, withAntenna, eventRows, happened}
+use Rattle.record.specs.Changes.{unsaidAt, endedAs, canBe, afterEvent, withAntenna, eventRows, happened}
 use Rattle.record.specs.declared.Link.{Link}
 use Rattle.record.specs.declared.Span.{Span}
+use Rattle.record.specs.declared.Station.{Station}
 use Rattle.record.specs.declared.Device.{Device}
 use Rattle.record.specs.declared.Event.{Event}
 
@@ -26,6 +27,10 @@ allowed-only device = only
 pub fresh-only : (i p h s : List ℕ) (w : Span) {r q : Outcome} {d e : Device}
     → Changes (freshOf i p h s w) blankDevice r d → Changes (freshOf i p h s w) blankDevice q e → (r ≡ q) × (d ≡ e)
 fresh-only i p h s w = changes-only
+
+pub unsaid-only : (station : Station) (address : ℕ) (link : Link) {t u : Station}
+    → t ≡ unsaidAt station address link → u ≡ unsaidAt station address link → t ≡ u
+unsaid-only station address link = only
 
 pub ended-only : (device : Device) (address : ℕ) (link : Link) {d e : Device}
     → d ≡ endedAs device address link → e ≡ endedAs device address link → d ≡ e

@@ -25,7 +25,7 @@ use Rattle.record.specs.Allowed.{identityAllowed, platesAllowed, product
 use Rattle.record.specs.Allowed.{stationAllowed, owedAllowed, allowedDevice}
 use Rattle.record.specs.Fresh.{identityFrom, productFrom, versionFrom, plateFrom, freshStation, freshFrom}
 use Rattle.record.specs.Fresh.{textsAllowed, dataAllowed}
-use Rattle.record.specs.Changes.{unsaid, endedAs, canBe, afterEvent, withAntenna, eventRows, happened}
+use Rattle.record.specs.Changes.{unsaidAt, endedAs, canBe, afterEvent, withAntenna, eventRows, happened}
 use Rattle.record.proofs.Laid.{texts-parts}
 use Rattle.record.specs.declared.Link.{Link}
 use Rattle.record.specs.declared.Link.the-variants.{NoAddress, AddressAssigned, Connected}
@@ -120,10 +120,10 @@ unowed-allowed AddressAssigned m = ap not (unowed-owes m)
 unowed-allowed (Connected s) m = refl
 
 -- at a session's end, at an address and in a link state that fit each other
-pub end-stays : (d : Device) (a : ℕ) (l : Link) → allowedDevice d ≡ true → linkAllowed (unsaid (d .station) a l) l ≡
+pub end-stays : (d : Device) (a : ℕ) (l : Link) → allowedDevice d ≡ true → linkAllowed (unsaidAt (d .station) a l) l ≡
     true
     → allowedDevice (endedAs d a l) ≡ true
-unfolding endedAs stationAllowed unsaid moves
+unfolding endedAs stationAllowed unsaidAt moves
 end-stays d a l e k =
     let s = sound d e in
     allowed-by (endedAs d a l)

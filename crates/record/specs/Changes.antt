@@ -1,5 +1,5 @@
 -- What a session's end leaves of a record, and what happens to it.
---   unsaid t a l    == the station t at the address a in the link state l, with nothing pending
+--   unsaidAt t a l    == the station t at the address a in the link state l, with nothing pending
 --   endedAs d a l   == the device d after its session's end, at the address a in the link state l
 --   canBe n e       == the event e can happen to the antenna n; afterEvent n e == the antenna then
 --   antennaHappened n e == the event e, of an antenna; happened d e == of a device
@@ -21,15 +21,15 @@ use Rattle.record.specs.declared.Event.the-variants.{Stopped, Raised, Cl
 
 -- "Ending a session drops the pending answer and any tilt result owed; alarms, subscription and a running movement
 -- stay."
-unfoldable pub unsaid : Station → ℕ → Link → Station
-unsaid t a l =
+unfoldable pub unsaidAt : Station → ℕ → Link → Station
+unsaidAt t a l =
     record { address = a; link = l; subscribed = t .subscribed; told = t .told; said = calm; reply = noReply }
 
 unfoldable pub endedAs : Device → ℕ → Link → Device
 endedAs d a l =
     record {
       plate = d .plate;
-      station = unsaid (d .station) a l;
+      station = unsaidAt (d .station) a l;
       antenna = moves (d .antenna) (unowedOf (d .antenna .motion));
     }
 

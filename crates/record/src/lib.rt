@@ -11,7 +11,7 @@ ghost use Rattle.antenna.specs.Motions.{inRange};
 ghost use Rattle.record.specs.Allowed.{identityAllowed, platesAllowed, numbersAllowed, pendingFits};
 ghost use Rattle.record.specs.Fresh.{textsAllowed, dataAllowed, identityFrom, productFrom, versionFrom};
 ghost use Rattle.record.specs.Fresh.{plateFrom, calm, noReply, freshAntenna, freshFrom, freshOf, blankDevice};
-ghost use Rattle.record.specs.Changes.{endedAs, antennaHappened, happened};
+ghost use Rattle.record.specs.Changes.{unsaidAt, endedAs, antennaHappened, happened};
 ghost use Rattle.record.specs.Allowed.{addressed, sessionAllowed, stationAllowed, owedAllowed, allowedDevice};
 use antenna::Alarms;
 use antenna::Angle;
@@ -427,6 +427,21 @@ pub fn fresh(
 
 // ---- what changes a record
 
+// The station at an address and in a link state, with nothing pending.
+pub fn unsaid(station: Station, address: u8, link: Link) -> Station
+    ensures { λ r. ⌜ r ≡ unsaidAt station address link ⌝ }
+{
+    let told = station.told;
+    Station {
+        address,
+        link,
+        subscribed: station.subscribed,
+        told,
+        said: calm(),
+        reply: no_reply(),
+    }
+}
+
 // The device after its session's end, at an address and in a link state: what was pending or owed is dropped.
 pub fn ended(device: Device, address: u8, link: Link) -> Device
     ensures { λ r. ⌜ r ≡ endedAs device address link ⌝ }
@@ -435,16 +450,8 @@ pub fn ended(device: Device, address: u8, link: Link) -> Device
     let station = device.station;
     let antenna = device.antenna;
     let motion = antenna.motion;
-    let told = station.told;
     let antenna = antenna::in_motion(antenna, antenna::unowed(motion));
-    let station = Station {
-        address,
-        link,
-        subscribed: station.subscribed,
-        told,
-        said: calm(),
-        reply: no_reply(),
-    };
+    let station = unsaid(station, address, link);
     Device {
         plate,
         station,
