@@ -17,7 +17,14 @@ unsaid-requires c κs = search needs
 
 returns : tie.Need-returns
 unfolding endedAs
-returns c = search (tests, sym (c .unsaid .ensures), sym (c .before .in-motion .ensures), sym (c .before .before .unowed .ensures))
+returns c =
+    search (
+      tests,
+      sym (c .unsaid .ensures),
+      sym (c .before .in-motion .ensures),
+      sym
+          (c .before .before .unowed .ensures),
+    )
 
 pub ended-spec : {M : Type 1} → statement M
 ended-spec = tie.close (tie.spec unowed-requires in-motion-requires unsaid-requires returns)

@@ -22,11 +22,18 @@ mul-result-2 : tie.Need-mul-result-2
 mul-result-2 c = search needs
 
 add-result : tie.Need-add-result
-add-result c = omega (arith, c .before .next .ensures, next-below (c .before .before .before .before .args .session .s))
+add-result c =
+    omega (arith, c .before .next .ensures, next-below (c .before .before .before .before .args .session .s))
 
 returns : tie.Need-returns
 unfolding countsOf vsOf
-returns c = search (tests, sym (c .before .next .ensures), sym (c .before .before .before .is-pending .ensures) ∙ c .before .before .if1 .taken)
+returns c =
+    search (
+      tests,
+      sym (c .before .next .ensures),
+      sym (c .before .before .before .is-pending .ensures)
+          ∙ c .before .before .if1 .taken,
+    )
 
 mul-result-3 : tie.Need-mul-result-3
 mul-result-3 c = search needs

@@ -14,7 +14,8 @@ next-requires c κs = search needs
 
 returns : tie.Need-returns
 unfolding acknowledges
-returns c = search (tests, sym (c .next .ensures), sym (c .before .before .is-pending .ensures) ∙ c .before .if1 .taken)
+returns c =
+    search (tests, sym (c .next .ensures), sym (c .before .before .is-pending .ensures) ∙ c .before .if1 .taken)
 
 returns-2 : tie.Need-returns-2
 unfolding acknowledges

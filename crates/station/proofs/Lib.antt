@@ -1,0 +1,3 @@
+-- The laws of a station that the link cites.
+pub mod Only
+pub mod Settled

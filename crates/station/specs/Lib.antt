@@ -1,0 +1,2 @@
+-- What the link cites of a station.
+pub mod Station
