@@ -1,5 +1,3 @@
 -- What the other crates cite of payloads.
 pub mod Payloads
 pub mod Tilts
-pub mod Texts
-pub mod Steps

@@ -3,7 +3,7 @@
 --   successOf c out  == the answer of success to the code c, with the data out
 --   failureOf c why  == the answer of failure to the code c, with its return code
 --   resultOf reached == the answer to a set tilt once its movement has ended
---   indicationOf now told == the alarm indication
+--   bodyMost         == how many octets of data a payload has room for
 --   payloadOf b      == the octets b, laid into a payload
 -- Assumes nothing.
 use mathlib.Core.Bool.{Bool, cond}
@@ -11,8 +11,6 @@ use mathlib.Core.List.{List, [], _∷_}
 use Prim.Native.Nat.{ℕ}
 use lib.ListN.{length, replicate}
 use Rattle.octets.specs.Octets.{lowOf, highOf, _atStartOf_}
-use Rattle.antenna.specs.declared.Alarms.{Alarms}
-use Rattle.antenna.specs.Alarms.{changesOf}
 use Rattle.record.specs.Allowed.{replyMost}
 use Rattle.record.specs.declared.Payload.{Payload}
 
@@ -32,10 +30,8 @@ failureOf code why = code ∷ 2 ∷ 0 ∷ 0x0B ∷ why ∷ []
 unfoldable pub resultOf : Bool → List ℕ
 resultOf reached = cond reached (successOf 0x33 []) (failureOf 0x33 0x02)
 
--- "An indication is code 0x07, length, then pairs alarm and 1 (raised) or 0, ascending, for alarms whose present state
--- differs from what was told."
-unfoldable pub indicationOf : Alarms → Alarms → List ℕ
-indicationOf present told = messageOf 0x07 (changesOf (present .flags) (told .flags))
+abbrev pub bodyMost : ℕ
+bodyMost = 71
 
 -- as many octets as there are, at the start of the 74 places, zeros behind them
 unfoldable pub payloadOf : List ℕ → Payload

@@ -1,4 +1,4 @@
--- `payload::put_changes` meets its promise: what is left of the flags is what is left to store. Assumes nothing.
+-- `report::put_changes` meets its promise: what is left of the flags is what is left to store. Assumes nothing.
 use borrow.Author.Needs.{needs}
 use mathlib.Core.Path.{_≡_, sym, _∙_}
 use Prim.Native.Nat.{_*_, _-_, _<_, _≤_}
@@ -6,9 +6,9 @@ use native.Mathlib.Omega.{arith}
 use lib.ListN.{length, drop}
 use Rattle.octets.proofs.Runs.{Run, run-all, run-two, run-is, run-done}
 use Rattle.antenna.specs.Alarms.{alarmCodes, changesAmong, changesOf}
-use Rattle.payload.proofs.Flags.{changes-here, changes-none, changes-done}
-use Rattle.payload.proofs.put_changes.Statement.{statement}
-use Rattle.payload.proofs.put_changes.Tie as tie
+use Rattle.report.proofs.Flags.{changes-here, changes-none, changes-done}
+use Rattle.report.proofs.put_changes.Statement.{statement}
+use Rattle.report.proofs.put_changes.Tie as tie
 
 abbrev Inv-loop : tie.InvT-loop
 Inv-loop out₀ present told codes n₀ i₀ out n i =

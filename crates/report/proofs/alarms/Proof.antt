@@ -1,12 +1,12 @@
--- `payload::alarms` meets its promise: what was stored, read back, is the data. Assumes nothing.
+-- `report::alarms` meets its promise: what was stored, read back, is the data. Assumes nothing.
 use borrow.Author.Needs.{needs}
 use mathlib.Core.Path.{_∙_}
 use native.Mathlib.Omega.{arith}
 use lib.ListN.{length-take}
 use Rattle.payload.specs.Payloads.{successOf}
-use Rattle.payload.proofs.Parts.{codes-few, put-back}
-use Rattle.payload.proofs.alarms.Statement.{statement}
-use Rattle.payload.proofs.alarms.Tie as tie
+use Rattle.report.proofs.Parts.{codes-few, laid-back}
+use Rattle.report.proofs.alarms.Statement.{statement}
+use Rattle.report.proofs.alarms.Tie as tie
 
 slice-aggregate-put-codes : tie.Need-slice-aggregate-put-codes
 slice-aggregate-put-codes c = search needs
@@ -21,14 +21,14 @@ slice-aggregate-laid : tie.Need-slice-aggregate-laid
 slice-aggregate-laid c = simp length-take (omega (arith, codes-few _ (c .before .before .put-codes .ensures)))
 
 laid-requires : tie.Need-laid-requires
-laid-requires c κs = simp length-take (omega (arith, codes-few _ (c .before .before .put-codes .ensures)))
+laid-requires c κs = search needs
 
 returns : tie.Need-returns
 unfolding successOf
 returns c =
     let stored = c .before .before .before .put-codes .ensures in
-    let back = put-back _ _ (omega (arith, codes-few _ stored, stored .count)) stored in
-    c .laid .ensures ∙ rw back
+    let few = codes-few _ stored in
+    c .laid .ensures ∙ laid-back _ _ _ (omega (arith, few)) (omega (arith, few)) stored
 
 pub alarms-spec : {M : Type 1} → statement M
 alarms-spec =

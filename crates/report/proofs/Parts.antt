@@ -11,9 +11,11 @@ use lib.Seq.{sets, take-all}
 use Rattle.octets.proofs.Runs.{Run, run-all, run-one, run-some, run-done}
 use Rattle.octets.proofs.Stores.{take-stored}
 use Rattle.antenna.specs.Alarms.{alarmCodes, codesOf, changesOf}
-use Rattle.payload.specs.Steps.{Puts}
-use Rattle.payload.specs.Texts.{textOf, withoutVendor}
-use Rattle.payload.proofs.Counts.{length-text, length-codes, length-changes}
+use Rattle.payload.specs.Payloads.{payloadOf, messageOf, bodyMost}
+use Rattle.payload.proofs.Places.{laid-whole}
+use Rattle.report.specs.Steps.{Puts}
+use Rattle.report.specs.Reports.{textOf, withoutVendor}
+use Rattle.report.proofs.Counts.{length-text, length-codes, length-changes}
 
 module _ (s : List ℕ) (n : ℕ) {k : ℕ} (whole : length s ≡ k) where
   -- no more of an array than there is
@@ -68,9 +70,29 @@ text-put t o at s₁ s₂ =
     record { count = done .0; octets = done .1 }
 
 -- how far a text of at most k octets goes
-pub text-few : (t : List ℕ) (k : ℕ) {o o' : List ℕ} {at n : ℕ}
-    → (length t ≤ k) × Puts o at (textOf t) n o' → n ≤ at + 1 + k
-text-few t k p = omega (arith, p .0, p .1 .count, length-text t)
+abbrev pub Text : ℕ → List ℕ → List ℕ → ℕ → ℕ → List ℕ → Type 0
+Text k t o at n o' = (length t ≤ k) × Puts o at (textOf t) n o'
+
+text-few : (k : ℕ) (t o : List ℕ) {at n : ℕ} {o' : List ℕ} → Text k t o at n o' → n ≤ at + 1 + k
+text-few k t o p = omega (arith, p .0, p .1 .count, length-text t)
+
+-- how far the texts of a plate go, behind the octet of success
+module _ (p : List ℕ) {o o₁ : List ℕ} {a : ℕ} (one : Text 20 p o 1 a o₁) where
+  pub one-few : a ≤ 71
+  one-few = omega (arith, text-few 20 p o one)
+
+  module _ (s : List ℕ) {o₂ : List ℕ} {b : ℕ} (two : Text 17 s o₁ a b o₂) where
+    pub two-few : b ≤ 71
+    two-few = omega (arith, text-few 20 p o one, text-few 17 s o₁ two)
+
+    module _ (h : List ℕ) {o₃ : List ℕ} {c : ℕ} (three : Text 14 h o₂ b c o₃) where
+      pub three-few : c ≤ 71
+      three-few = omega (arith, text-few 20 p o one, text-few 17 s o₁ two, text-few 14 h o₂ three)
+
+      pub four-few : (w : List ℕ) {o₄ : List ℕ} {d : ℕ} → Text 14 w o₃ c d o₄ → d ≤ 70
+      four-few w four =
+          omega
+          (arith, text-few 20 p o one, text-few 17 s o₁ two, text-few 14 h o₂ three, text-few 14 w o₃ four)
 
 -- octets stored behind the one of success, from the start
 pub success-put : (xs o : List ℕ) {o₁ o' : List ℕ} {n : ℕ}
@@ -79,11 +101,14 @@ success-put xs o s r =
     let done = run-done refl r in
     record { count = omega (arith, done .0); octets = done .1 ∙ ap (λ (l : List ℕ). sets l 1 xs) s }
 
--- what was stored from the start, read back
-pub put-back : (b o : List ℕ) {o' : List ℕ} {n : ℕ} → length b ≤ length o → Puts o 0 b n o' → take n o' ≡ b
-put-back b o {n = n} h p =
-    let e : n ≡ length b = omega (arith, p .count) in
-    rw (e, p .octets) (take-stored b o h)
+-- what was stored from the start, read back and laid
+module _ (code : ℕ) (b o : List ℕ) {o' : List ℕ} {n : ℕ} (few : n ≤ bodyMost) (room : n ≤ length o)
+    (p : Puts o 0 b n o') where
+  pub laid-back : payloadOf (messageOf code (take bodyMost (take n o'))) ≡ payloadOf (messageOf code b)
+  laid-back =
+      let e : n ≡ length b = omega (arith, p .count) in
+      let back : take n o' ≡ b = rw (e, p .octets) (take-stored b o (omega arith)) in
+      rw back (laid-whole code b (omega arith))
 
 -- success, and four texts behind it
 module _ (p s h w o : List ℕ) {o₁ o₂ o₃ o₄ : List ℕ} {a b c d : ℕ}

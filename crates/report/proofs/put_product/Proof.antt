@@ -1,12 +1,12 @@
--- `payload::put_version` meets its promise: no more is taken of the array than there is. Assumes nothing.
+-- `report::put_product` meets its promise: no more is taken of the array than there is. Assumes nothing.
 use borrow.Author.Needs.{needs}
 use mathlib.Core.Path.{_≡_, ap, _∙_}
 use Prim.Native.Nat.{ℕ}
 use native.Mathlib.Omega.{arith}
 use lib.ListN.{length, take, length-take}
-use Rattle.payload.proofs.Parts.{take-fewer, length-fewer}
-use Rattle.payload.proofs.put_version.Statement.{statement}
-use Rattle.payload.proofs.put_version.Tie as tie
+use Rattle.report.proofs.Parts.{take-fewer, length-fewer}
+use Rattle.report.proofs.put_product.Statement.{statement}
+use Rattle.report.proofs.put_product.Tie as tie
 
 fewer-requires : tie.Need-fewer-requires
 fewer-requires c κs = search needs
@@ -27,12 +27,12 @@ returns : tie.Need-returns
 returns c =
     let mid = c .before .before .before .before .before in
     let start = mid .before .before .args in
-    let whole : length (start .t1) ≡ 14 = search needs in
+    let whole : length (start .t1) ≡ 20 = search needs in
     let cut = ap (λ (k : ℕ). take k (start .t1)) (mid .fewer .ensures) ∙ take-fewer (start .t1) (start .len) whole in
     (length-fewer (start .t1) (start .len) whole, rw cut at (c .before .before .put-text .ensures))
 
-pub put-version-spec : {M : Type 1} → statement M
-put-version-spec =
+pub put-product-spec : {M : Type 1} → statement M
+put-product-spec =
     tie.close
     (tie.spec
     fewer-requires

@@ -1,11 +1,11 @@
--- `payload::put_serial` meets its promise: no more is taken of the array than there is, and the vendor is left out.
+-- `report::put_serial` meets its promise: no more is taken of the array than there is, and the vendor is left out.
 -- Assumes nothing.
 use borrow.Author.Needs.{needs}
 use mathlib.Core.Path.{_≡_}
 use lib.ListN.{length}
-use Rattle.payload.proofs.Parts.{serial-part, length-serial}
-use Rattle.payload.proofs.put_serial.Statement.{statement}
-use Rattle.payload.proofs.put_serial.Tie as tie
+use Rattle.report.proofs.Parts.{serial-part, length-serial}
+use Rattle.report.proofs.put_serial.Statement.{statement}
+use Rattle.report.proofs.put_serial.Tie as tie
 
 fewer-requires : tie.Need-fewer-requires
 fewer-requires c κs = search needs

@@ -6,8 +6,8 @@ use Prim.Native.Nat.{ℕ, suc, _+_, _*_, _≤_}
 use native.Mathlib.Omega.{arith}
 use lib.ListN.{length, length-append}
 use Rattle.antenna.specs.Alarms.{codesAmong, changesAmong, differs, stateOf}
 use Rattle.payload.specs.Payloads.{messageOf}
-use Rattle.payload.specs.Texts.{textOf}
+use Rattle.report.specs.Reports.{textOf}
 
 pub length-message : (code : ℕ) (d : List ℕ) → length (messageOf code d) ≡ 3 + length d
 unfolding messageOf

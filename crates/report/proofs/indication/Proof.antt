@@ -1,12 +1,12 @@
--- `payload::indication` meets its promise: what was stored, read back, is the data. Assumes nothing.
+-- `report::indication` meets its promise: what was stored, read back, is the data. Assumes nothing.
 use borrow.Author.Needs.{needs}
 use mathlib.Core.Path.{_∙_}
 use native.Mathlib.Omega.{arith}
 use lib.ListN.{length-take}
-use Rattle.payload.specs.Payloads.{indicationOf}
-use Rattle.payload.proofs.Parts.{changes-few, put-back}
-use Rattle.payload.proofs.indication.Statement.{statement}
-use Rattle.payload.proofs.indication.Tie as tie
+use Rattle.report.specs.Reports.{indicationOf}
+use Rattle.report.proofs.Parts.{changes-few, laid-back}
+use Rattle.report.proofs.indication.Statement.{statement}
+use Rattle.report.proofs.indication.Tie as tie
 
 slice-aggregate-put-changes : tie.Need-slice-aggregate-put-changes
 slice-aggregate-put-changes c = search needs
@@ -21,14 +21,14 @@ slice-aggregate-laid : tie.Need-slice-aggregate-laid
 slice-aggregate-laid c = simp length-take (omega (arith, changes-few _ _ (c .before .before .put-changes .ensures)))
 
 laid-requires : tie.Need-laid-requires
-laid-requires c κs = simp length-take (omega (arith, changes-few _ _ (c .before .before .put-changes .ensures)))
+laid-requires c κs = search needs
 
 returns : tie.Need-returns
 unfolding indicationOf
 returns c =
     let stored = c .before .before .before .put-changes .ensures in
-    let back = put-back _ _ (omega (arith, changes-few _ _ stored, stored .count)) stored in
-    c .laid .ensures ∙ rw back
+    let few = changes-few _ _ stored in
+    c .laid .ensures ∙ laid-back _ _ _ (omega (arith, few)) (omega (arith, few)) stored
 
 pub indication-spec : {M : Type 1} → statement M
 indication-spec =

@@ -1,4 +1,4 @@
--- `payload::put_codes` meets its promise: what is left of the flags is what is left to store. Assumes nothing.
+-- `report::put_codes` meets its promise: what is left of the flags is what is left to store. Assumes nothing.
 use borrow.Author.Needs.{needs}
 use mathlib.Core.Path.{_≡_}
 use Prim.Native.Nat.{_+_, _-_, _<_, _≤_}
@@ -6,10 +6,10 @@ use native.Mathlib.Omega.{arith}
 use lib.ListN.{length, drop}
 use Rattle.octets.proofs.Runs.{Run, run-all, run-one, run-is}
 use Rattle.antenna.specs.Alarms.{alarmCodes, codesAmong, codesOf}
-use Rattle.payload.proofs.Flags.{codes-on, codes-off, codes-done}
-use Rattle.payload.proofs.Parts.{success-put}
-use Rattle.payload.proofs.put_codes.Statement.{statement}
-use Rattle.payload.proofs.put_codes.Tie as tie
+use Rattle.report.proofs.Flags.{codes-on, codes-off, codes-done}
+use Rattle.report.proofs.Parts.{success-put}
+use Rattle.report.proofs.put_codes.Statement.{statement}
+use Rattle.report.proofs.put_codes.Tie as tie
 
 abbrev Inv-loop : tie.InvT-loop
 Inv-loop out₀ flags codes n₀ i₀ out n i =

@@ -1,0 +1,4 @@
+-- The laws of reports that the layers above cite.
+pub mod Counts
+pub mod Flags
+pub mod Parts
