@@ -24,7 +24,8 @@ use Rattle.payload.specs.Payloads.{payloadOf, successOf, failureOf}
 use Rattle.payload.specs.Tilts.{tiltOctets}
 use Rattle.report.specs.Reports.{informationOf}
 use Rattle.message.specs.Messages.{codeOf, askedOf, checks}
-use Rattle.message.specs.declared.Reply.the-variants.{None, Answer}
+use Rattle.message.specs.declared.Reply.{Reply}
+use Rattle.message.specs.declared.Reply.the-variants.{None}
 use Rattle.message.specs.declared.Carried.{Carried}
 
 unfoldable pub replies : List ℕ → Antenna → Alarms → Bool → Carried

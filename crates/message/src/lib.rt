@@ -17,7 +17,18 @@ use record::Plate;
 
 // Codes of the standard that this device does not carry out.
 const UNSUPPORTED: [u8; 12] = [
-    0x03, 0x0A, 0x0E, 0x0F, 0x10, 0x11, 0x31, 0x32, 0x40, 0x41, 0x42, 0x90,
+    0x03,
+    0x0A,
+    0x0E,
+    0x0F,
+    0x10,
+    0x11,
+    0x31,
+    0x32,
+    0x40,
+    0x41,
+    0x42,
+    0x90,
 ];
 
 // The codes that it does, and how many octets of data each has.
@@ -135,9 +146,7 @@ fn quiet(antenna: Antenna) -> Antenna
     let highest = antenna.highest;
     let tilt = antenna.tilt;
     let motion = antenna.motion;
-    let raised = Alarms {
-        flags: [false; 6],
-    };
+    let raised = Alarms { flags: [false; 6] };
     Antenna {
         lowest,
         highest,
@@ -176,9 +185,7 @@ fn operate(antenna: Antenna, told: Alarms, subscribed: bool, code: u8, t: Angle)
     ensures { λ r. ⌜ r ≡ operatedOf antenna told subscribed code t ⌝ }
 {
     if code == 0x06 {
-        let none = Alarms {
-            flags: [false; 6],
-        };
+        let none = Alarms { flags: [false; 6] };
         return replied(payload::done(0x06), quiet(antenna), none, subscribed);
     }
     if code == 0x12 {
@@ -194,7 +201,14 @@ fn operate(antenna: Antenna, told: Alarms, subscribed: bool, code: u8, t: Angle)
 }
 
 // The codes that only tell, and the others.
-fn perform(plate: Plate, antenna: Antenna, told: Alarms, subscribed: bool, code: u8, t: Angle) -> Carried
+fn perform(
+    plate: Plate,
+    antenna: Antenna,
+    told: Alarms,
+    subscribed: bool,
+    code: u8,
+    t: Angle,
+) -> Carried
     ensures { λ r. ⌜ r ≡ performedOf plate antenna told subscribed code t ⌝ }
 {
     if code == 0x04 {

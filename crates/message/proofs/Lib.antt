@@ -1,0 +1,3 @@
+-- The laws of messages that the layers above cite.
+pub mod Tables
+pub mod Judged
