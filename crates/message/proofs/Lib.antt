@@ -1,3 +1,4 @@
 -- The laws of messages that the layers above cite.
 pub mod Tables
 pub mod Judged
+pub mod Exact

@@ -4,7 +4,10 @@
 --   unsupported      == the codes of the standard that get 0x25
 --   table            == the messages that there are: k takes n, the code k with n octets of data in
 --   inTable t c      == the table t has the code c; takenBy t c == the data length that it defines for c
+--   misdeclared m    == "length field wrong"; barred m == "code one of .."; unknown m == "code not in the table"
+--   misfit m         == "data length not the defined one"
 --   drives c         == set tilt or get tilt
+--   busied n c       == "busy"; outside n c t == "out of range"
 --   checks n m       == the checks of m, in their order, for the antenna n
 -- Assumes nothing.
 use mathlib.Core.Bool.{Bool, true, false, cond, not, _&&_, _||_}
@@ -53,23 +56,42 @@ unfoldable pub takenBy : List Entry → ℕ → ℕ
 takenBy [] c = 0
 takenBy (k takes n ∷ rows) c = cond (eqb k c) n (takenBy rows c)
 
+-- "length field wrong"
+abbrev pub misdeclared : List ℕ → Bool
+misdeclared m = not (eqb (saidOf m) (length (dataOf m)))
+
+abbrev pub barred : List ℕ → Bool
+barred m = holds (codeOf m) unsupported
+
+-- "code not in the table below"
+abbrev pub unknown : List ℕ → Bool
+unknown m = not (inTable table (codeOf m))
+
+-- "data length not the defined one"
+abbrev pub misfit : List ℕ → Bool
+misfit m = not (eqb (length (dataOf m)) (takenBy table (codeOf m)))
+
 -- "Set and get tilt are busy while moving or while a result waits"
 abbrev pub drives : ℕ → Bool
 drives c = eqb c 0x33 || eqb c 0x34
 
+abbrev pub busied : Antenna → ℕ → Bool
+busied n c = drives c && busyOf (n .motion)
+
+-- "out of range"
+abbrev pub outside : Antenna → ℕ → Angle → Bool
+outside n c t = eqb c 0x33 && not (inRange n t)
+
 -- the drive's part of the checks: "busy, 0x05; out of range, 0x13"
 unfoldable pub driveChecks : Antenna → ℕ → Angle → List Row
-driveChecks n c t =
-    0x05 when (drives c && busyOf (n .motion))
-    ∷ 0x13 when (eqb c 0x33 && not (inRange n t))
-    ∷ []
+driveChecks n c t = 0x05 when busied n c ∷ 0x13 when outside n c t ∷ []
 
 -- "Checked in this order: .. length field wrong, 0x24; code one of .., then 0x25; code not in the table below, 0x19;
 -- data length not the defined one, 0x24; busy, 0x05; out of range, 0x13."
 unfoldable pub checks : Antenna → List ℕ → List Row
 checks n m =
-    0x24 when not (eqb (saidOf m) (length (dataOf m)))
-    ∷ 0x25 when holds (codeOf m) unsupported
-    ∷ 0x19 when not (inTable table (codeOf m))
-    ∷ 0x24 when not (eqb (length (dataOf m)) (takenBy table (codeOf m)))
+    0x24 when misdeclared m
+    ∷ 0x25 when barred m
+    ∷ 0x19 when unknown m
+    ∷ 0x24 when misfit m
     ∷ driveChecks n (codeOf m) (askedOf m)
