@@ -73,7 +73,7 @@ module _ (n : Antenna) (told : Alarms) (sub : Bool) where
       go false e false f = rw (e, f)
 
   -- what comes of a message, by what it says itself
-  settledBy : ℕ → Answer Carried → Check → Carried
+  unfoldable pub settledBy : ℕ → Answer Carried → Check → Carried
   settledBy c x Passed = outcome n told sub c x
   settledBy c x (Failed why) = replies (failureOf c why) n told sub
 
@@ -94,7 +94,7 @@ module _ (n : Antenna) (told : Alarms) (sub : Bool) where
     unfolding carriedOf
     carried-none h = rw (lt-ltb (length m) 3 h)
 
-    carried-is : 3 ≤ length m → carriedOf p n told sub m
+    pub carried-is : 3 ≤ length m → carriedOf p n told sub m
         ≡ settledBy (codeOf m)
         (answered (driveChecks n (codeOf m) (askedOf m)) (doneBy p n told sub (codeOf m) (askedOf m)))
         (checkedOf (codeOf m) (saidOf m) (length (dataOf m)))

@@ -2,3 +2,5 @@
 pub mod Tables
 pub mod Judged
 pub mod Exact
+pub mod Shapes
+pub mod Moves

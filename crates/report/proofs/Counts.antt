@@ -9,9 +9,6 @@ use Rattle.antenna.specs.Alarms.{codesAmong, changesAmong, differs, stateOf}
 use Rattle.payload.specs.Payloads.{messageOf}
 use Rattle.report.specs.Reports.{textOf}
 
-pub length-message : (code : ℕ) (d : List ℕ) → length (messageOf code d) ≡ 3 + length d
-unfolding messageOf
-length-message code d = omega arith
 
 pub length-text : (t : List ℕ) → length (textOf t) ≡ 1 + length t
 unfolding textOf
