@@ -37,8 +37,8 @@ pub fn laid(code: u8, body: &[u8]) -> Payload
 pub fn failure(code: u8, why: u8) -> Payload
     ensures { λ r. ⌜ r ≡ payloadOf (failureOf code why) ⌝ }
 {
-    let body = [0x0B, why];
-    laid(code, &body)
+    let reason = [0x0B, why];
+    laid(code, &reason)
 }
 
 // A success with no data out.

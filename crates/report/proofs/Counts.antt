@@ -9,7 +9,6 @@ use Rattle.antenna.specs.Alarms.{codesAmong, changesAmong, differs, stateOf}
 use Rattle.payload.specs.Payloads.{messageOf}
 use Rattle.report.specs.Reports.{textOf}
 
-
 pub length-text : (t : List ℕ) → length (textOf t) ≡ 1 + length t
 unfolding textOf
 length-text t = omega arith

@@ -62,11 +62,11 @@ fn state(on: bool) -> u8
 fn put_changes(present: [bool; 6], told: [bool; 6], out: &mut [u8]) -> usize
     ensures { λ r. ⌜ Puts (now (out .entry)) 0 (changesOf present told) r (now (out .exit)) ⌝ }
 {
-    let codes = antenna::CODES;
+    let known = antenna::CODES;
     let mut n = 0;
     let mut i = 0;
     while i < 6 {
-        let code = codes[i];
+        let code = known[i];
         let on = present[i];
         let was = told[i];
         i += 1;
