@@ -1,0 +1,9 @@
+-- The laws of messages that the layers above cite.
+pub mod Exact
+pub mod Judged
+pub mod Moves
+pub mod Only
+pub mod Samples
+pub mod Shapes
+pub mod Stays
+pub mod Tables

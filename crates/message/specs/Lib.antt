@@ -1,0 +1,4 @@
+-- What the other crates cite of messages.
+pub mod Messages
+pub mod Carried
+pub mod Steps

@@ -1,0 +1,97 @@
+-- Messages of layer 7: what is read in one, the two lists of codes, the table, the order of the checks.
+--   codeOf m, saidOf m, dataOf m == the code, the length field and the data of the message m
+--   askedOf m        == the tilt that the data of m asks
+--   unsupported      == the codes of the standard that get 0x25
+--   table            == the messages that there are: k takes n, the code k with n octets of data in
+--   inTable t c      == the table t has the code c; takenBy t c == the data length that it defines for c
+--   misdeclared m    == "length field wrong"; barred m == "code one of .."; unknown m == "code not in the table"
+--   misfit m         == "data length not the defined one"
+--   drives c         == set tilt or get tilt
+--   busied n c       == "busy"; outside n c t == "out of range"
+--   checks n m       == the checks of m, in their order, for the antenna n
+-- Assumes nothing.
+use mathlib.Core.Bool.{Bool, true, false, cond, not, _&&_, _||_}
+use mathlib.Core.List.{List, [], _∷_}
+use Prim.Native.Nat.{ℕ}
+use lib.Dec.{eqb}
+use lib.ListN.{length, getD, drop}
+use Rattle.octets.specs.Octets.{holds, pairOf}
+use Rattle.refusal.specs.Answer.{Row, _when_}
+use Rattle.antenna.specs.declared.Angle.{Angle}
+use Rattle.antenna.specs.declared.Antenna.{Antenna}
+use Rattle.antenna.specs.Motions.{inRange, busyOf}
+use Rattle.payload.specs.Tilts.{angleOf}
+
+infix 70 _takes_
+-- "Code, data length (two octets, low first), data."
+abbrev pub codeOf : List ℕ → ℕ
+codeOf m = getD m 0 0
+
+abbrev pub saidOf : List ℕ → ℕ
+saidOf m = pairOf (getD m 1 0) (getD m 2 0)
+
+abbrev pub dataOf : List ℕ → List ℕ
+dataOf m = drop 3 m
+
+-- "2 octets, low first, signed"
+abbrev pub askedOf : List ℕ → Angle
+askedOf m = angleOf (getD m 3 0) (getD m 4 0)
+
+-- "code one of 0x03, 0x0A, 0x0E, 0x0F, 0x10, 0x11, 0x31, 0x32, 0x40, 0x41, 0x42, 0x90, then 0x25"
+abbrev pub unsupported : List ℕ
+unsupported = 0x03 ∷ 0x0A ∷ 0x0E ∷ 0x0F ∷ 0x10 ∷ 0x11 ∷ 0x31 ∷ 0x32 ∷ 0x40 ∷ 0x41 ∷ 0x42 ∷ 0x90 ∷ []
+
+-- the columns "Code" and "Data in"
+pub data Entry : Type 0 where
+  _takes_ : ℕ → ℕ → Entry
+
+abbrev pub table : List Entry
+table = 0x04 takes 0 ∷ 0x05 takes 0 ∷ 0x06 takes 0 ∷ 0x12 takes 0 ∷ 0x33 takes 2 ∷ 0x34 takes 0 ∷ []
+
+unfoldable pub inTable : List Entry → ℕ → Bool
+inTable [] c = false
+inTable (k takes n ∷ rows) c = cond (eqb k c) true (inTable rows c)
+
+unfoldable pub takenBy : List Entry → ℕ → ℕ
+takenBy [] c = 0
+takenBy (k takes n ∷ rows) c = cond (eqb k c) n (takenBy rows c)
+
+-- "length field wrong"
+abbrev pub misdeclared : List ℕ → Bool
+misdeclared m = not (eqb (saidOf m) (length (dataOf m)))
+
+abbrev pub barred : List ℕ → Bool
+barred m = holds (codeOf m) unsupported
+
+-- "code not in the table below"
+abbrev pub unknown : List ℕ → Bool
+unknown m = not (inTable table (codeOf m))
+
+-- "data length not the defined one"
+abbrev pub misfit : List ℕ → Bool
+misfit m = not (eqb (length (dataOf m)) (takenBy table (codeOf m)))
+
+-- "Set and get tilt are busy while moving or while a result waits"
+abbrev pub drives : ℕ → Bool
+drives c = eqb c 0x33 || eqb c 0x34
+
+abbrev pub busied : Antenna → ℕ → Bool
+busied n c = drives c && busyOf (n .motion)
+
+-- "out of range"
+abbrev pub outside : Antenna → ℕ → Angle → Bool
+outside n c t = eqb c 0x33 && not (inRange n t)
+
+-- the drive's part of the checks: "busy, 0x05; out of range, 0x13"
+unfoldable pub driveChecks : Antenna → ℕ → Angle → List Row
+driveChecks n c t = 0x05 when busied n c ∷ 0x13 when outside n c t ∷ []
+
+-- "Checked in this order: .. length field wrong, 0x24; code one of .., then 0x25; code not in the table below, 0x19;
+-- data length not the defined one, 0x24; busy, 0x05; out of range, 0x13."
+unfoldable pub checks : Antenna → List ℕ → List Row
+checks n m =
+    0x24 when misdeclared m
+    ∷ 0x25 when barred m
+    ∷ 0x19 when unknown m
+    ∷ 0x24 when misfit m
+    ∷ driveChecks n (codeOf m) (askedOf m)

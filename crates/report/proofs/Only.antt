@@ -1,0 +1,22 @@
+-- Each promise of this crate allows one result. Assumes nothing.
+use mathlib.Core.Path.{_≡_}
+use Rattle.octets.proofs.Only.{only}
+use Rattle.antenna.specs.declared.Alarms.{Alarms}
+use Rattle.antenna.specs.Alarms.{codesOf}
+use Rattle.record.specs.declared.Payload.{Payload}
+use Rattle.record.specs.declared.Plate.{Plate}
+use Rattle.payload.specs.Payloads.{payloadOf, successOf}
+use Rattle.report.specs.Reports.{informationOf, indicationOf}
+
+module _ {r q : Payload} where
+  pub alarms-only : (raised : Alarms) → r ≡ payloadOf (successOf 0x04 (codesOf (raised .flags)))
+      → q ≡ payloadOf (successOf 0x04 (codesOf (raised .flags))) → r ≡ q
+  alarms-only raised = only
+
+  pub indication-only : (present told : Alarms) → r ≡ payloadOf (indicationOf present told)
+      → q ≡ payloadOf (indicationOf present told) → r ≡ q
+  indication-only present told = only
+
+  pub information-only : (p : Plate) → r ≡ payloadOf (successOf 0x05 (informationOf p))
+      → q ≡ payloadOf (successOf 0x05 (informationOf p)) → r ≡ q
+  information-only p = only

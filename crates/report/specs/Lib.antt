@@ -1,0 +1,3 @@
+-- What the other crates cite of reports.
+pub mod Reports
+pub mod Steps
