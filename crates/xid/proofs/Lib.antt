@@ -1,0 +1,4 @@
+-- The laws of scan and assignment that the layers above cite.
+pub mod Rows
+pub mod Shapes
+pub mod Judging
