@@ -3,20 +3,20 @@ use mathlib.Core.Path.{_≡_, refl, sym, ap, _∙_}
 use mathlib.Core.Bool.{Bool, true, false, cond, _&&_}
 use mathlib.Core.List.{List, [], _∷_}
 use mathlib.Core.Option.{Option, none, some}
-use Prim.Native.Nat.{ℕ, zero, suc, _<_, _≤_, min}
+use Prim.Native.Nat.{ℕ, zero, suc, _≤_, min}
 use native.Mathlib.Omega.{arith}
-use borrow.Author.Tests.{lt-leb}
 use lib.ListN.{length, getD, take, drop, length-take}
 use lib.Seq.{take-all, take-nil}
 use Rattle.identity.specs.Bits.{masked}
 use Rattle.identity.specs.Identity.{padded, same, answersScan}
+use Rattle.compare.specs.Rows.{endsWith}
 use Rattle.record.specs.Allowed.{addressed}
 use Rattle.params.specs.Field.{Param, paramsOf, valuesOf, octetsIn}
 use Rattle.params.specs.Walk.{valueAt, valuesAt, walkOf}
 use Rattle.params.specs.declared.Part.{Part}
 use Rattle.params.specs.declared.Part.the-variants.{Absent, At}
 use Rattle.params.specs.declared.Parts.{Parts}
-use Rattle.xid.specs.Match.{isScan, isAssignment, scanMatches, endsWith, identityMatches, kindMatches}
+use Rattle.xid.specs.Match.{isScan, isAssignment, scanMatches, identityMatches, kindMatches}
 use Rattle.xid.specs.Match.{vendorMatches, addressOf, assignmentMatches, assigned, judged, judgedParams, readOf}
 use Rattle.xid.specs.declared.Xid.{Xid}
 use Rattle.xid.specs.declared.Xid.the-variants.{Silence, Scan, Assignment}
@@ -34,10 +34,6 @@ pub take-within : (a b : ℕ) (s : List ℕ) → length s ≤ b → take (min a 
 take-within a b s h = take-min a b s ∙ take-all b (take a s) (omega (arith, length-take a s))
 
 -- ---- the end of the identity, the type, the vendor
-
-pub ends-longer : (s t : List ℕ) → length s < length t → false ≡ endsWith s t
-unfolding endsWith
-ends-longer s t h = rw (lt-leb (length t) (length s) h)
 
 module _ (m : List ℕ) {p : Part} where
   module _ (i : List ℕ) where

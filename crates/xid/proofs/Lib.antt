@@ -1,4 +1,3 @@
 -- The laws of scan and assignment that the layers above cite.
-pub mod Rows
 pub mod Shapes
 pub mod Judging

@@ -1,6 +1,6 @@
 -- What the parts found by the walk say of the values that are given. Assumes nothing.
 use mathlib.Core.Path.{_≡_, refl, sym, ap, _∙_}
-use mathlib.Core.Bool.{Bool, true, false, _&&_}
+use mathlib.Core.Bool.{Bool, true, false, not, _&&_}
 use mathlib.Core.List.{List}
 use Prim.Native.Nat.{ℕ}
 use lib.Dec.{eqb}
@@ -17,10 +17,35 @@ unfolding given valueAt isGiven
 given-at m Absent = refl
 given-at m (At from len) = refl
 
-abbrev scanShaped : Parts → Bool
+abbrev pub scanShaped : Parts → Bool
 scanShaped f =
     scanShape (isGiven (f .identity)) (isGiven (f .address)) (isGiven (f .mask)) (isGiven (f .kind))
     (isGiven (f .vendor))
+
+-- the shape of a scan, test by test
+module _ (f : Parts) where
+  pub no-identity : isGiven (f .identity) ≡ false → false ≡ scanShaped f
+  unfolding scanShape
+  no-identity t = rw t
+
+  module _ (i : isGiven (f .identity) ≡ true) where
+    pub no-mask : isGiven (f .mask) ≡ false → false ≡ scanShaped f
+    unfolding scanShape
+    no-mask t = rw (i, t)
+
+    module _ (m : isGiven (f .mask) ≡ true) where
+      pub an-address : isGiven (f .address) ≡ true → false ≡ scanShaped f
+      unfolding scanShape
+      an-address t = rw (i, m, t)
+
+      module _ (a : isGiven (f .address) ≡ false) where
+        pub a-kind : isGiven (f .kind) ≡ true → false ≡ scanShaped f
+        unfolding scanShape
+        a-kind t = rw (i, m, a, t)
+
+        pub a-vendor : {r : Bool} → isGiven (f .kind) ≡ false → r ≡ isGiven (f .vendor) → not r ≡ scanShaped f
+        unfolding scanShape
+        a-vendor k t = rw (i, m, a, k, t)
 
 module _ (m : List ℕ) (f : Parts) where
   pub scan-lengths : (x y : List ℕ) → scanShaped f ≡ true → x ≡ octetsIn (valueAt m (f .identity))

@@ -1,3 +1,2 @@
 -- What the other crates cite of scan and assignment.
 pub mod Match
-pub mod Answer

@@ -4,7 +4,6 @@
 --   isAssignment w      == w is an assignment: "2 present, 3 absent"
 --   scanMatches i w     == the scan w is answered by the identity i
 --   addressOf w         == the address value; `addressed` (1 to 254) says whether it is one
---   rightmost k s       == the k right-most octets of s
 --   identityMatches i x == "If 1 is given": its value x is the end of the identity i
 --   kindMatches x       == "If 4 .. is given": its value x is the device's type
 --   vendorMatches i x   == "If .. 6 is given": its value x is the vendor of the identity i
@@ -14,10 +13,11 @@
 use mathlib.Core.Bool.{Bool, true, false, cond, not, _&&_}
 use mathlib.Core.List.{List, [], _∷_}
 use mathlib.Core.Option.{Option, none, some}
-use Prim.Native.Nat.{ℕ, _-_}
-use lib.Dec.{leb, eqb}
-use lib.ListN.{length, getD, take, drop}
+use Prim.Native.Nat.{ℕ}
+use lib.Dec.{eqb}
+use lib.ListN.{length, getD, take}
 use Rattle.identity.specs.Identity.{vendor, same, answersScan}
+use Rattle.compare.specs.Rows.{endsWith}
 use Rattle.record.specs.Allowed.{addressed}
 use Rattle.params.specs.declared.Part.{Part}
 use Rattle.params.specs.declared.Part.the-variants.{Absent, At}
@@ -60,12 +60,6 @@ abbrev pub addressOf : Values → ℕ
 addressOf w = getD (octetsIn (w .address)) 0 0
 
 -- "If 1 is given, it isn't longer than the unpadded identity and equals its right-most octets."
-abbrev pub rightmost : ℕ → List ℕ → List ℕ
-rightmost k s = drop (length s - k) s
-
-unfoldable pub endsWith : List ℕ → List ℕ → Bool
-endsWith i v = leb (length v) (length i) && same v (rightmost (length v) i)
-
 unfoldable pub identityMatches : List ℕ → Option (List ℕ) → Bool
 identityMatches i none = true
 identityMatches i (some v) = endsWith i v

@@ -2,21 +2,16 @@
 // its caller: any plate, any octets. Headline: a scan is answered exactly if the padded identity under the mask is the
 // value, an assignment taken exactly if all that it names fits (proofs/Exactly.antt).
 ghost use mathlib.Core.Path.{_≡_};
-ghost use Prim.Native.Nat.{_≤_, min};
-ghost use lib.ListN.{length, take, getD};
-ghost use lib.Seq.{sets};
-ghost use Rattle.identity.specs.Bits.{masked};
-ghost use Rattle.identity.specs.Identity.{padded, same};
+ghost use Prim.Native.Nat.{min};
+ghost use lib.ListN.{take, getD};
 ghost use Rattle.record.specs.Allowed.{addressed, identityOf};
-ghost use Rattle.params.specs.Field.{_is_, tripleOf, octetsIn};
+ghost use Rattle.params.specs.Field.{octetsIn};
 ghost use Rattle.params.specs.Walk.{valueAt, valuesAt};
-ghost use Rattle.xid.specs.Match.{isGiven, scanShape, assignmentShape, isScan, scanMatches, endsWith};
+ghost use Rattle.xid.specs.Match.{isGiven, scanShape, assignmentShape, isScan, scanMatches};
 ghost use Rattle.xid.specs.Match.{identityMatches, kindMatches, vendorMatches, assigned, judged, readOf};
-ghost use Rattle.xid.specs.Answer.{Puts, opening, scanAnswer, assignmentAnswer, held};
 use params::Found;
 use params::Part;
 use params::Parts;
-use record::Payload;
 use record::Plate;
 
 // The device's type: a single-antenna tilt device.
@@ -29,71 +24,11 @@ pub enum Xid {
     Assignment { address: u8 },
 }
 
-// ---- comparing
-
-// Whether two rows of octets are the same.
-fn is_same(a: &[u8], b: &[u8]) -> bool
-    ensures { λ r. ⌜ r ≡ same (now (a .entry)) (now (b .entry)) ⌝ }
-{
-    if a.len() != b.len() {
-        return false;
-    }
-    let mut i = 0;
-    while i < a.len() {
-        if a[i] != b[i] {
-            return false;
-        }
-        i += 1;
-    }
-    true
-}
-
+// The smaller of two numbers.
 fn fewer(a: usize, b: usize) -> usize
     ensures { λ r. ⌜ r ≡ min a b ⌝ }
 {
     if a < b { a } else { b }
-}
-
-// Whether octets under a mask are the value, which isn't masked.
-fn under_mask(s: &[u8], mask: &[u8], value: &[u8]) -> bool
-    ensures { λ r. ⌜ r ≡ same (masked (now (s .entry)) (now (mask .entry))) (now (value .entry)) ⌝ }
-{
-    let n = fewer(s.len(), mask.len());
-    if value.len() != n {
-        return false;
-    }
-    let mut i = 0;
-    while i < n {
-        if s[i] & mask[i] != value[i] {
-            return false;
-        }
-        i += 1;
-    }
-    true
-}
-
-// Whether `s` ends with `tail`.
-fn ends_with(s: &[u8], tail: &[u8]) -> bool
-    ensures { λ r. ⌜ r ≡ endsWith (now (s .entry)) (now (tail .entry)) ⌝ }
-{
-    if s.len() < tail.len() {
-        return false;
-    }
-    let start = s.len() - tail.len();
-    is_same(tail, &s[start..])
-}
-
-// The identity, its first `len` octets, padded with 0x20.
-fn pad(octets: [u8; 19], len: usize) -> [u8; 19]
-    ensures { λ r. ⌜ r ≡ padded (take len octets) ⌝ }
-{
-    let mut row = octets;
-    let mut i = len;
-    while i < 19 {
-        row[i] = 0x20;
-        i += 1;
-    }
-    row
 }
 
 // ---- what is given
@@ -160,10 +95,10 @@ fn scan_matches(octets: [u8; 19], len: usize, payload: &[u8], parts: Parts) -> b
 {
     let identity = parts.identity;
     let mask = parts.mask;
-    let row = pad(octets, len);
+    let row = compare::padded(octets, len);
     let m = value(payload, mask);
     let v = value(payload, identity);
-    under_mask(&row, m, v)
+    compare::under_mask(&row, m, v)
 }
 
 // ---- an assignment
@@ -202,7 +137,7 @@ fn identity_matches(octets: [u8; 19], len: usize, payload: &[u8], part: Part) ->
         Part::At { from, len: count } => {
             let n = fewer(len, 19);
             let tail = params::value_at(payload, from, count);
-            ends_with(&octets[..n], tail)
+            compare::ends_with(&octets[..n], tail)
         }
     }
 }
@@ -215,7 +150,7 @@ fn kind_matches(payload: &[u8], part: Part) -> bool
         Part::At { from, len } => {
             let own = [KIND];
             let asked = params::value_at(payload, from, len);
-            is_same(asked, &own)
+            compare::same(asked, &own)
         }
     }
 }
@@ -228,7 +163,7 @@ fn vendor_matches(octets: [u8; 19], len: usize, payload: &[u8], part: Part) -> b
         Part::At { from, len: count } => {
             let n = fewer(len, 2);
             let asked = params::value_at(payload, from, count);
-            is_same(asked, &octets[..n])
+            compare::same(asked, &octets[..n])
         }
     }
 }

@@ -17,63 +17,80 @@ use Rattle.xid.proofs.value.Reads as value-reads
 use Rattle.xid.proofs.vendor_matches.Reads as vendor-matches-reads
 
 value-requires : tie.Need-value-requires
-value-requires c κs = search needs
+value-requires c κs = tt
 
 first-octet-requires : tie.Need-first-octet-requires
-first-octet-requires c κs = search needs
+first-octet-requires c κs = tt
 
 is-addressed-requires : tie.Need-is-addressed-requires
-is-addressed-requires c κs = search needs
+is-addressed-requires c κs = tt
 
 identity-matches-requires : tie.Need-identity-matches-requires
-identity-matches-requires c κs = search needs
+identity-matches-requires c κs = tt
 
 kind-matches-requires : tie.Need-kind-matches-requires
-kind-matches-requires c κs = search needs
+kind-matches-requires c κs = tt
 
 vendor-matches-requires : tie.Need-vendor-matches-requires
-vendor-matches-requires c κs = search needs
+vendor-matches-requires c κs = tt
 
 returns : tie.Need-returns
 returns c =
-    let a = c .before .before .before .before .before .before .before .before .before .before .before .args in
-    let value = ap (λ (l : List ℕ). getD l 0 0) (c .before .before .before .before .before .before .before .before .before .value .ensures) in
-    let address = c .before .before .before .before .before .before .before .before .first-octet .ensures ∙ value in
-    assigned-all _ (a .payload .now) (a .parts) address (sym (c .before .before .before .before .before .before .before .is-addressed .ensures) ∙ c .before .before .before .before .before .before .if1 .taken)
-    (sym (c .before .before .before .before .before .identity-matches .ensures) ∙ c .before .before .before .before .if2 .taken)
-    (sym (c .before .before .before .kind-matches .ensures) ∙ c .before .before .if3 .taken) (sym (c .before .vendor-matches .ensures) ∙ c .if4 .taken)
+    let kind = c .before .before in
+    let own = kind .before .before in
+    let good = own .before .before in
+    let read = good .before .before in
+    let a = read .before .before .before .args in
+    let value = ap (λ (l : List ℕ). getD l 0 0) (read .before .value .ensures) in
+    assigned-all _ (a .payload .now) (a .parts) (read .first-octet .ensures ∙ value)
+    (sym (good .before .is-addressed .ensures) ∙ good .if1 .taken)
+    (sym (own .before .identity-matches .ensures) ∙ own .if2 .taken)
+    (sym (kind .before .kind-matches .ensures) ∙ kind .if3 .taken)
+    (sym (c .before .vendor-matches .ensures) ∙ c .if4 .taken)
 
 returns-2 : tie.Need-returns-2
 returns-2 c =
-    let a = c .before .before .before .before .before .before .before .before .before .before .before .args in
-    let value = ap (λ (l : List ℕ). getD l 0 0) (c .before .before .before .before .before .before .before .before .before .value .ensures) in
-    let address = c .before .before .before .before .before .before .before .before .first-octet .ensures ∙ value in
-    vendor-not _ (a .payload .now) (a .parts) address (sym (c .before .before .before .before .before .before .before .is-addressed .ensures) ∙ c .before .before .before .before .before .before .if1 .taken)
-    (sym (c .before .before .before .before .before .identity-matches .ensures) ∙ c .before .before .before .before .if2 .taken)
-    (sym (c .before .before .before .kind-matches .ensures) ∙ c .before .before .if3 .taken) (sym (c .before .vendor-matches .ensures) ∙ c .if4 .left)
+    let kind = c .before .before in
+    let own = kind .before .before in
+    let good = own .before .before in
+    let read = good .before .before in
+    let a = read .before .before .before .args in
+    let value = ap (λ (l : List ℕ). getD l 0 0) (read .before .value .ensures) in
+    vendor-not _ (a .payload .now) (a .parts) (read .first-octet .ensures ∙ value)
+    (sym (good .before .is-addressed .ensures) ∙ good .if1 .taken)
+    (sym (own .before .identity-matches .ensures) ∙ own .if2 .taken)
+    (sym (kind .before .kind-matches .ensures) ∙ kind .if3 .taken)
+    (sym (c .before .vendor-matches .ensures) ∙ c .if4 .left)
 
 returns-3 : tie.Need-returns-3
 returns-3 c =
-    let a = c .before .before .before .before .before .before .before .before .before .args in
-    let value = ap (λ (l : List ℕ). getD l 0 0) (c .before .before .before .before .before .before .before .value .ensures) in
-    let address = c .before .before .before .before .before .before .first-octet .ensures ∙ value in
-    kind-not _ (a .payload .now) (a .parts) address (sym (c .before .before .before .before .before .is-addressed .ensures) ∙ c .before .before .before .before .if1 .taken)
-    (sym (c .before .before .before .identity-matches .ensures) ∙ c .before .before .if2 .taken) (sym (c .before .kind-matches .ensures) ∙ c .if3 .left)
+    let own = c .before .before in
+    let good = own .before .before in
+    let read = good .before .before in
+    let a = read .before .before .before .args in
+    let value = ap (λ (l : List ℕ). getD l 0 0) (read .before .value .ensures) in
+    kind-not _ (a .payload .now) (a .parts) (read .first-octet .ensures ∙ value)
+    (sym (good .before .is-addressed .ensures) ∙ good .if1 .taken)
+    (sym (own .before .identity-matches .ensures) ∙ own .if2 .taken)
+    (sym (c .before .kind-matches .ensures) ∙ c .if3 .left)
 
 returns-4 : tie.Need-returns-4
 returns-4 c =
-    let a = c .before .before .before .before .before .before .before .args in
-    let value = ap (λ (l : List ℕ). getD l 0 0) (c .before .before .before .before .before .value .ensures) in
-    let address = c .before .before .before .before .first-octet .ensures ∙ value in
-    identity-not _ (a .payload .now) (a .parts) address (sym (c .before .before .before .is-addressed .ensures) ∙ c .before .before .if1 .taken)
+    let good = c .before .before in
+    let read = good .before .before in
+    let a = read .before .before .before .args in
+    let value = ap (λ (l : List ℕ). getD l 0 0) (read .before .value .ensures) in
+    identity-not _ (a .payload .now) (a .parts) (read .first-octet .ensures ∙ value)
+    (sym (good .before .is-addressed .ensures) ∙ good .if1 .taken)
     (sym (c .before .identity-matches .ensures) ∙ c .if2 .left)
 
 returns-5 : tie.Need-returns-5
 returns-5 c =
-    let a = c .before .before .before .before .before .args in
-    let value = ap (λ (l : List ℕ). getD l 0 0) (c .before .before .before .value .ensures) in
-    let address = c .before .before .first-octet .ensures ∙ value in
-    address-not _ (a .payload .now) (a .parts) address (sym (c .before .is-addressed .ensures) ∙ c .if1 .left)
+    let read = c .before .before in
+    let a = read .before .before .before .args in
+    let value = ap (λ (l : List ℕ). getD l 0 0) (read .before .value .ensures) in
+    address-not _ (a .payload .now) (a .parts) (read .first-octet .ensures ∙ value)
+    (sym (c .before .is-addressed .ensures) ∙ c .if1 .left)
 
 pub assign-spec : {M : Type 1} → statement M
 assign-spec =

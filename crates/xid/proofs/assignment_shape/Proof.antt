@@ -11,14 +11,16 @@ use Rattle.xid.proofs.assignment_shape.Lts as lts
 use Rattle.xid.proofs.is_given.Reads as is-given-reads
 
 is-given-requires : tie.Need-is-given-requires
-is-given-requires c κs = search needs
+is-given-requires c κs = tt
 
 is-given-requires-2 : tie.Need-is-given-requires-2
-is-given-requires-2 c κs = search needs
+is-given-requires-2 c κs = tt
 
 returns : tie.Need-returns
 unfolding assignmentShape
-returns c = search (tests, sym (c .is-given2 .ensures), sym (c .before .before .is-given .ensures) ∙ c .before .if1 .taken)
+returns c =
+    let address = sym (c .before .before .is-given .ensures) ∙ c .before .if1 .taken in
+    search (tests, sym (c .is-given2 .ensures), address)
 
 returns-2 : tie.Need-returns-2
 unfolding assignmentShape

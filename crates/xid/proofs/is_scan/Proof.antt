@@ -11,13 +11,13 @@ use Rattle.xid.proofs.scan_shape.Reads as scan-shape-reads
 use Rattle.xid.proofs.value.Reads as value-reads
 
 scan-shape-requires : tie.Need-scan-shape-requires
-scan-shape-requires c κs = search needs
+scan-shape-requires c κs = tt
 
 value-requires : tie.Need-value-requires
-value-requires c κs = search needs
+value-requires c κs = tt
 
 value-requires-2 : tie.Need-value-requires-2
-value-requires-2 c κs = search needs
+value-requires-2 c κs = tt
 
 returns : tie.Need-returns
 returns c =

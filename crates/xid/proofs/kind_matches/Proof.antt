@@ -6,7 +6,7 @@ use Rattle.xid.proofs.kind_matches.Tie as tie
 use Rattle.xid.proofs.kind_matches.Reads as reads
 use Rattle.xid.proofs.kind_matches.Lts as lts
 use Rattle.params.proofs.value_at.Reads as value-at-reads
-use Rattle.xid.proofs.is_same.Reads as is-same-reads
+use Rattle.compare.proofs.same.Reads as same-reads
 
 enum-told : tie.Need-enum-told
 enum-told c = search needs
@@ -15,21 +15,23 @@ enum-known-part : tie.Need-enum-known-part
 enum-known-part c = search needs
 
 value-at-requires : tie.Need-value-at-requires
-value-at-requires c κs = search needs
+value-at-requires c κs = tt
 
-slice-aggregate-is-same : tie.Need-slice-aggregate-is-same
-slice-aggregate-is-same c = search needs
+slice-aggregate-same : tie.Need-slice-aggregate-same
+slice-aggregate-same c = search needs
 
-is-same-requires : tie.Need-is-same-requires
-is-same-requires c κs = search needs
+same-requires : tie.Need-same-requires
+same-requires c κs = tt
 
 returns : tie.Need-returns
 returns c = kind-absent _ (c .enum-told .given .1)
 
 returns-2 : tie.Need-returns-2
 returns-2 c =
-    let a = c .before .before .before .before .before .before .before .args in
-    kind-given (a .payload .now) (c .before .before .before .before .part .given .1) (c .before .before .value-at .ensures) (c .is-same .ensures)
+    let value = c .before .before in
+    let part = value .before .before in
+    let a = part .before .before .before .args in
+    kind-given (a .payload .now) (part .part .given .1) (value .value-at .ensures) (c .same .ensures)
 
 pub kind-matches-spec : {M : Type 1} → statement M
 kind-matches-spec =
@@ -38,7 +40,7 @@ kind-matches-spec =
     enum-told
     enum-known-part
     value-at-requires
-    slice-aggregate-is-same
-    is-same-requires
+    slice-aggregate-same
+    same-requires
     returns
     returns-2)

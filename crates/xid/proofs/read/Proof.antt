@@ -10,7 +10,7 @@ use Rattle.params.proofs.walk.Reads as walk-reads
 use Rattle.xid.proofs.judge.Reads as judge-reads
 
 walk-requires : tie.Need-walk-requires
-walk-requires c κs = search needs
+walk-requires c κs = tt
 
 enum-told : tie.Need-enum-told
 enum-told c = search needs
@@ -19,17 +19,20 @@ enum-known-found : tie.Need-enum-known-found
 enum-known-found c = search needs
 
 judge-requires : tie.Need-judge-requires
-judge-requires c κs = search needs
+judge-requires c κs = tt
 
 returns : tie.Need-returns
 returns c =
-    let a = c .before .before .before .before .before .before .args in
-    read-malformed _ (a .payload .now) (walk-malformed _ (c .before .before .walk .ensures) (c .enum-told .given .1))
+    let walk = c .before .before in
+    let a = walk .before .before .before .before .args in
+    read-malformed _ (a .payload .now) (walk-malformed _ (walk .walk .ensures) (c .enum-told .given .1))
 
 returns-2 : tie.Need-returns-2
 returns-2 c =
-    let a = c .before .before .before .before .before .before .before .before .args in
-    read-formed _ (a .payload .now) _ (walk-formed _ (c .before .before .before .before .walk .ensures) (c .before .before .found .given .1))
+    let found = c .before .before in
+    let walk = found .before .before in
+    let a = walk .before .before .before .before .args in
+    read-formed _ (a .payload .now) _ (walk-formed _ (walk .walk .ensures) (found .found .given .1))
     (c .judge .ensures)
 
 pub read-spec : {M : Type 1} → statement M

@@ -1,8 +1,6 @@
 -- `xid::scan_shape` meets its promise: one test after the other. Assumes nothing.
-use Rattle.xid.specs.Match.{isGiven}
-use Rattle.xid.specs.Match.{scanShape}
 use mathlib.Core.Path.{sym, _∙_}
-use Rattle.octets.proofs.Rules.{tests}
+use Rattle.xid.proofs.Shapes.{no-identity, no-mask, an-address, a-kind, a-vendor}
 use borrow.Author.Needs.{needs}
 use Rattle.xid.proofs.scan_shape.Statement.{statement}
 use Rattle.xid.proofs.scan_shape.Tie as tie
@@ -11,39 +9,57 @@ use Rattle.xid.proofs.scan_shape.Lts as lts
 use Rattle.xid.proofs.is_given.Reads as is-given-reads
 
 is-given-requires : tie.Need-is-given-requires
-is-given-requires c κs = search needs
+is-given-requires c κs = tt
 
 is-given-requires-2 : tie.Need-is-given-requires-2
-is-given-requires-2 c κs = search needs
+is-given-requires-2 c κs = tt
 
 is-given-requires-3 : tie.Need-is-given-requires-3
-is-given-requires-3 c κs = search needs
+is-given-requires-3 c κs = tt
 
 returns : tie.Need-returns
-unfolding scanShape
-returns c = search (tests, sym (c .before .is-given3 .ensures) ∙ c .if3 .taken, sym (c .before .before .before .is-given2 .ensures) ∙ c .before .before .if2 .taken, sym (c .before .before .before .before .before .is-given .ensures) ∙ c .before .before .before .before .if1 .taken)
+returns c =
+    let mask = c .before .before in
+    let own = mask .before .before in
+    an-address (own .before .before .args .parts) (sym (own .before .is-given .ensures) ∙ own .if1 .taken)
+    (sym (mask .before .is-given2 .ensures) ∙ mask .if2 .taken) (sym (c .before .is-given3 .ensures) ∙ c .if3 .taken)
 
 is-given-requires-4 : tie.Need-is-given-requires-4
-is-given-requires-4 c κs = search needs
+is-given-requires-4 c κs = tt
 
 returns-2 : tie.Need-returns-2
-unfolding scanShape
-returns-2 c = search (tests, sym (c .before .is-given4 .ensures) ∙ c .if4 .taken, sym (c .before .before .before .is-given3 .ensures) ∙ c .before .before .if3 .left, sym (c .before .before .before .before .before .is-given2 .ensures) ∙ c .before .before .before .before .if2 .taken, sym (c .before .before .before .before .before .before .before .is-given .ensures) ∙ c .before .before .before .before .before .before .if1 .taken)
+returns-2 c =
+    let address = c .before .before in
+    let mask = address .before .before in
+    let own = mask .before .before in
+    a-kind (own .before .before .args .parts) (sym (own .before .is-given .ensures) ∙ own .if1 .taken)
+    (sym (mask .before .is-given2 .ensures) ∙ mask .if2 .taken)
+    (sym (address .before .is-given3 .ensures) ∙ address .if3 .left)
+    (sym (c .before .is-given4 .ensures) ∙ c .if4 .taken)
 
 is-given-requires-5 : tie.Need-is-given-requires-5
-is-given-requires-5 c κs = search needs
+is-given-requires-5 c κs = tt
 
 returns-3 : tie.Need-returns-3
-unfolding scanShape
-returns-3 c = search (tests, sym (c .is-given5 .ensures), sym (c .before .before .is-given4 .ensures) ∙ c .before .if4 .left, sym (c .before .before .before .before .is-given3 .ensures) ∙ c .before .before .before .if3 .left, sym (c .before .before .before .before .before .before .is-given2 .ensures) ∙ c .before .before .before .before .before .if2 .taken, sym (c .before .before .before .before .before .before .before .before .is-given .ensures) ∙ c .before .before .before .before .before .before .before .if1 .taken)
+returns-3 c =
+    let kind = c .before in
+    let address = kind .before .before in
+    let mask = address .before .before in
+    let own = mask .before .before in
+    a-vendor (own .before .before .args .parts) (sym (own .before .is-given .ensures) ∙ own .if1 .taken)
+    (sym (mask .before .is-given2 .ensures) ∙ mask .if2 .taken)
+    (sym (address .before .is-given3 .ensures) ∙ address .if3 .left)
+    (sym (kind .before .is-given4 .ensures) ∙ kind .if4 .left) (c .is-given5 .ensures)
 
 returns-4 : tie.Need-returns-4
-unfolding scanShape
-returns-4 c = search (tests, sym (c .before .is-given2 .ensures) ∙ c .if2 .left, sym (c .before .before .before .is-given .ensures) ∙ c .before .before .if1 .taken)
+returns-4 c =
+    let own = c .before .before in
+    no-mask (own .before .before .args .parts) (sym (own .before .is-given .ensures) ∙ own .if1 .taken)
+    (sym (c .before .is-given2 .ensures) ∙ c .if2 .left)
 
 returns-5 : tie.Need-returns-5
-unfolding scanShape
-returns-5 c = search (tests, sym (c .before .is-given .ensures) ∙ c .if1 .left)
+returns-5 c =
+    no-identity (c .before .before .args .parts) (sym (c .before .is-given .ensures) ∙ c .if1 .left)
 
 pub scan-shape-spec : {M : Type 1} → statement M
 scan-shape-spec =

@@ -9,7 +9,7 @@ use Rattle.xid.proofs.vendor_matches.Reads as reads
 use Rattle.xid.proofs.vendor_matches.Lts as lts
 use Rattle.params.proofs.value_at.Reads as value-at-reads
 use Rattle.xid.proofs.fewer.Reads as fewer-reads
-use Rattle.xid.proofs.is_same.Reads as is-same-reads
+use Rattle.compare.proofs.same.Reads as same-reads
 
 enum-told : tie.Need-enum-told
 enum-told c = search needs
@@ -18,28 +18,30 @@ enum-known-part : tie.Need-enum-known-part
 enum-known-part c = search needs
 
 fewer-requires : tie.Need-fewer-requires
-fewer-requires c κs = search needs
+fewer-requires c κs = tt
 
 value-at-requires : tie.Need-value-at-requires
-value-at-requires c κs = search needs
+value-at-requires c κs = tt
 
 array-share-prefix-octets : tie.Need-array-share-prefix-octets
 array-share-prefix-octets c = search needs
 
-slice-aggregate-is-same : tie.Need-slice-aggregate-is-same
-slice-aggregate-is-same c = simp length-take (omega arith)
+slice-aggregate-same : tie.Need-slice-aggregate-same
+slice-aggregate-same c = simp length-take (omega arith)
 
-is-same-requires : tie.Need-is-same-requires
-is-same-requires c κs = search needs
+same-requires : tie.Need-same-requires
+same-requires c κs = tt
 
 returns : tie.Need-returns
 returns c = vendor-absent _ _ (c .enum-told .given .1)
 
 returns-2 : tie.Need-returns-2
 returns-2 c =
-    let a = c .before .before .before .before .before .before .before .before .args in
-    vendor-given (a .payload .now) (c .before .before .before .before .before .part .given .1) (c .before .before .value-at .ensures) (a .t1) (a .len) (search needs)
-    (c .before .before .before .fewer .ensures) (c .is-same .ensures)
+    let value = c .before .before in
+    let part = value .before .before .before in
+    let a = part .before .before .before .args in
+    vendor-given (a .payload .now) (part .part .given .1) (value .value-at .ensures) (a .t1) (a .len) (search needs)
+    (value .before .fewer .ensures) (c .same .ensures)
 
 pub vendor-matches-spec : {M : Type 1} → statement M
 vendor-matches-spec =
@@ -50,7 +52,7 @@ vendor-matches-spec =
     fewer-requires
     value-at-requires
     array-share-prefix-octets
-    slice-aggregate-is-same
-    is-same-requires
+    slice-aggregate-same
+    same-requires
     returns
     returns-2)

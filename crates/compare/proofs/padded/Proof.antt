@@ -1,14 +1,14 @@
--- `xid::pad` meets its promise: what is left to pad comes to the same as all. Assumes nothing.
+-- `compare::padded` meets its promise: what is left to pad comes to the same as all. Assumes nothing.
 use borrow.Author.Needs.{needs}
 use mathlib.Core.Path.{_≡_, refl, sym, _∙_}
 use Prim.Native.Nat.{_-_}
 use lib.ListN.{replicate}
 use lib.Seq.{sets}
-use Rattle.xid.proofs.Rows.{pad-more, pad-done, padded-is}
-use Rattle.xid.proofs.pad.Statement.{statement}
-use Rattle.xid.proofs.pad.Tie as tie
-use Rattle.xid.proofs.pad.Reads as reads
-use Rattle.xid.proofs.pad.Lts as lts
+use Rattle.compare.proofs.Laws.{pad-more, pad-done, padded-is}
+use Rattle.compare.proofs.padded.Statement.{statement}
+use Rattle.compare.proofs.padded.Tie as tie
+use Rattle.compare.proofs.padded.Reads as reads
+use Rattle.compare.proofs.padded.Lts as lts
 
 abbrev Inv-loop : tie.InvT-loop
 Inv-loop len row₀ i₀ row i = sets row i (replicate (19 - i) 0x20) ≡ sets row₀ len (replicate (19 - len) 0x20)
@@ -36,7 +36,7 @@ returns c =
     let a = c .before .before .args in
     pad-done _ _ (c .before .loop .inv) (c .loop-test .left) ∙ padded-is (a .octets) (a .len) (search needs)
 
-pub pad-spec : {M : Type 1} → statement M
-pad-spec =
+pub padded-spec : {M : Type 1} → statement M
+padded-spec =
     tie.close
     (tie.spec Inv-loop μ-loop loop-holds array-write-row add-i loop-less loop-again returns)

@@ -1,11 +1,11 @@
--- Rows of octets compared by a loop, and a row padded by one. Assumes nothing.
+-- Rows of octets compared by a loop, and an identity padded by one. Assumes nothing.
 use mathlib.Core.Path.{_≡_, refl, sym, ap, _∙_}
 use mathlib.Core.Bool.{Bool, true, false, _&&_}
 use mathlib.Core.List.{List, [], _∷_, _++_, append-nil}
 use Prim.Native.Nat.{ℕ, zero, suc, _+_, _-_, _<_, _≤_, min}
 use native.Mathlib.Numerals.{add-one}
 use native.Mathlib.Omega.{arith}
-use borrow.Author.Tests.{eq-eqb, ne-eqb, le-leb, leb-true, leb-false}
+use borrow.Author.Tests.{eq-eqb, ne-eqb, le-leb, lt-leb, leb-true, leb-false}
 use lib.Bits.{bitAnd}
 use lib.Dec.{eqb, leb}
 use lib.ListN.{length, getD, take, drop, set, replicate, drop-of-length-le, length-take, length-drop, length-replicate}
@@ -13,7 +13,7 @@ use lib.Seq.{sets, sets-eq, take-all, length-take-le}
 use Rattle.octets.proofs.Rest.{rest}
 use Rattle.identity.specs.Bits.{masked}
 use Rattle.identity.specs.Identity.{padded, same}
-use Rattle.xid.specs.Match.{endsWith}
+use Rattle.compare.specs.Rows.{endsWith}
 
 -- ---- the same row
 
@@ -83,6 +83,10 @@ module _ (s m b : List ℕ) (i : ℕ) {w : Bool} (v : same (masked (drop i s) (d
       empty (x ∷ l) e = let no : ⊥ = omega (arith, e) in absurd no
 
 -- ---- the right-most octets
+
+pub ends-longer : (s t : List ℕ) → length s < length t → false ≡ endsWith s t
+unfolding endsWith
+ends-longer s t h = rw (lt-leb (length t) (length s) h)
 
 pub ends-right : (s t : List ℕ) → length t ≤ length s
     → same t (take (length s - (length s - length t)) (drop (length s - length t) s)) ≡ endsWith s t

@@ -1,15 +1,15 @@
--- `xid::is_same` meets its promise: what is left of both is the same exactly if both are. Assumes nothing.
+-- `compare::same` meets its promise: what is left of both is the same exactly if both are. Assumes nothing.
 use borrow.Author.Needs.{needs}
 use mathlib.Core.Path.{_≡_, refl, sym}
 use Prim.Native.Nat.{_-_, _≤_}
 use native.Mathlib.Omega.{arith}
 use lib.ListN.{length, drop}
 use Rattle.identity.specs.Identity.{same}
-use Rattle.xid.proofs.Rows.{same-differ, same-not, same-more, same-done}
-use Rattle.xid.proofs.is_same.Statement.{statement}
-use Rattle.xid.proofs.is_same.Tie as tie
-use Rattle.xid.proofs.is_same.Reads as reads
-use Rattle.xid.proofs.is_same.Lts as lts
+use Rattle.compare.proofs.Laws.{same-differ, same-not, same-more, same-done}
+use Rattle.compare.proofs.same.Statement.{statement}
+use Rattle.compare.proofs.same.Tie as tie
+use Rattle.compare.proofs.same.Reads as reads
+use Rattle.compare.proofs.same.Lts as lts
 
 abbrev Inv-loop : tie.InvT-loop
 Inv-loop a b i₀ i = (i ≤ length a) × (same (drop i a) (drop i b) ≡ same a b)
@@ -54,8 +54,8 @@ returns-3 c =
     let a = c .before .before .before .args in
     same-done (a .a .now) (a .b .now) (c .before .loop .i) (c .before .loop .inv .1) (search needs) (search needs)
 
-pub is-same-spec : {M : Type 1} → statement M
-is-same-spec =
+pub same-spec : {M : Type 1} → statement M
+same-spec =
     tie.close
     (tie.spec
     Inv-loop

@@ -1,4 +1,4 @@
--- `xid::under_mask` meets its promise: what is left, masked, is what is left of the value exactly if all is.
+-- `compare::under_mask` meets its promise: what is left, masked, is what is left of the value exactly if all is.
 -- Assumes nothing.
 use borrow.Author.Needs.{needs}
 use mathlib.Core.Path.{_≡_, refl, sym, _∙_}
@@ -7,12 +7,12 @@ use native.Mathlib.Omega.{arith}
 use lib.ListN.{length, drop}
 use Rattle.identity.specs.Bits.{masked}
 use Rattle.identity.specs.Identity.{same}
-use Rattle.xid.proofs.Rows.{same-differ, length-masked, masked-not, masked-more, masked-done}
-use Rattle.xid.proofs.under_mask.Statement.{statement}
-use Rattle.xid.proofs.under_mask.Tie as tie
-use Rattle.xid.proofs.under_mask.Reads as reads
-use Rattle.xid.proofs.under_mask.Lts as lts
-use Rattle.xid.proofs.fewer.Reads as fewer-reads
+use Rattle.compare.proofs.Laws.{same-differ, length-masked, masked-not, masked-more, masked-done}
+use Rattle.compare.proofs.under_mask.Statement.{statement}
+use Rattle.compare.proofs.under_mask.Tie as tie
+use Rattle.compare.proofs.under_mask.Reads as reads
+use Rattle.compare.proofs.under_mask.Lts as lts
+use Rattle.compare.proofs.fewer.Reads as fewer-reads
 
 abbrev Inv-loop : tie.InvT-loop
 Inv-loop s mask value n i₀ i =
@@ -22,13 +22,13 @@ abbrev μ-loop : tie.MeasureT-loop
 μ-loop s mask value n i₀ i = n - i
 
 fewer-requires : tie.Need-fewer-requires Inv-loop μ-loop
-fewer-requires c κs = search needs
+fewer-requires c κs = tt
 
 returns : tie.Need-returns Inv-loop μ-loop
 returns c =
     let a = c .before .before .before .before .before .args in
-    sym (same-differ _ _ (λ e. c .if1 .taken
-    (sym e ∙ length-masked (a .s .now) (a .mask .now) ∙ sym (c .before .fewer .ensures))))
+    let long = length-masked (a .s .now) (a .mask .now) ∙ sym (c .before .fewer .ensures) in
+    sym (same-differ _ _ (λ e. c .if1 .taken (sym e ∙ long)))
 
 loop-holds : tie.Need-loop-holds Inv-loop μ-loop
 loop-holds c = (search needs, refl)
@@ -46,7 +46,8 @@ returns-2 : tie.Need-returns-2 Inv-loop μ-loop
 returns-2 c =
     let test = c .before .before .before .before in
     let a = test .before .before .before .before .before .before .before .args in
-    masked-not (a .s .now) (a .mask .now) (a .value .now) _ (test .before .loop .inv .1) (search needs) (search needs) (search needs) (c .if2 .taken)
+    masked-not (a .s .now) (a .mask .now) (a .value .now) _ (test .before .loop .inv .1) (search needs) (search needs)
+    (search needs) (c .if2 .taken)
 
 add-i : tie.Need-add-i Inv-loop μ-loop
 add-i c = search needs
@@ -59,8 +60,8 @@ loop-again c =
     let test = c .before .before .before .before in
     let a = test .before .before .before .before .before .before .before .args in (
       search needs,
-      masked-more (a .s .now) (a .mask .now) (a .value .now) _ (test .before .loop .inv .1) (search needs)
-          (search needs) (search needs) (c .if2 .left),
+      masked-more (a .s .now) (a .mask .now) (a .value .now) (test .before .loop .i) (test .before .loop .inv .1)
+          (search needs) (search needs) (search needs) (c .if2 .left),
     )
 
 returns-3 : tie.Need-returns-3 Inv-loop μ-loop
