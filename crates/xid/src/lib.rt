@@ -15,7 +15,7 @@ use params::Parts;
 use record::Plate;
 
 // The device's type: a single-antenna tilt device.
-const KIND: u8 = 0x01;
+pub const KIND: u8 = 0x01;
 
 // What a payload means: nothing to answer; a scan that is answered; an assignment that is taken.
 pub enum Xid {

@@ -1,0 +1,2 @@
+-- The laws of the answers that the layers above cite.
+pub mod Stored
