@@ -99,7 +99,7 @@ member-holds n (k ∷ ns) h =
     holds-not n k ns (λ (e : k ≡ n). h (List·Memᴰ·head (sym e)))
     (member-holds n ns (λ (m : List·Memᴰ n ns). h (List·Memᴰ·tail m)))
 
-once-different : (ns : List ℕ) → noneTwice ns ≡ true → Different ns
+pub once-different : (ns : List ℕ) → noneTwice ns ≡ true → Different ns
 unfolding noneTwice
 once-different [] e = tt
 once-different (n ∷ ns) e =

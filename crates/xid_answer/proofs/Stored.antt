@@ -58,7 +58,8 @@ module _ (i o : List ℕ) {o₁ o₂ o₃ : List ℕ} {a : ℕ} where
       let kind = tripleOf (4 is (deviceType ∷ [])) in
       let xs = opening (length i + 8) ++ (own ++ (from ++ (kind ++ []))) in
       let all : Run o 0 xs o 0 xs = run-all in
-      let opened : Run o₁ 3 (own ++ (from ++ (kind ++ []))) o 0 xs = run-some (opening (length i + 8)) s refl refl all in
+      let opened : Run o₁ 3 (own ++ (from ++ (kind ++ []))) o 0 xs =
+      run-some (opening (length i + 8)) s refl refl all in
       let first : Run o₂ a (from ++ (kind ++ [])) o 0 xs = run-some own (p .octets) (p .place) refl opened in
       let second : Run o₃ b (kind ++ []) o 0 xs = run-some from (q .octets) (q .place) refl first in
       let third : Run o₄ n [] o 0 xs = run-some kind (r .octets) (r .place) refl second in

@@ -67,7 +67,8 @@ loop-again c =
 returns-3 : tie.Need-returns-3 Inv-loop μ-loop
 returns-3 c =
     let a = c .before .before .before .before .before .before .before .args in
-    masked-done (a .s .now) (a .mask .now) (a .value .now) (c .before .loop .i) (c .before .loop .inv .1) (search needs) (search needs)
+    masked-done (a .s .now) (a .mask .now) (a .value .now) (c .before .loop .i) (c .before .loop .inv .1)
+    (search needs) (search needs)
 
 pub under-mask-spec : {M : Type 1} → statement M
 under-mask-spec =
