@@ -1,0 +1,2 @@
+-- What the other crates cite of rows compared.
+pub mod Rows

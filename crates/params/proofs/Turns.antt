@@ -1,0 +1,182 @@
+-- One turn of the walk: what stands at a place, what is left from there on, and what becomes of it. Assumes nothing.
+use mathlib.Core.Path.{_≡_, refl, sym, ap, _∙_, subst}
+use mathlib.Core.Bool.{Bool, true, false, cond}
+use mathlib.Core.List.{List, [], _∷_}
+use mathlib.Core.Logic.{_⊎_, inl, inr, ⊎-elim}
+use mathlib.Core.Option.{Option, none, some}
+use Prim.Native.Nat.{ℕ, zero, suc, _+_, _-_, _<_, _≤_}
+use native.Mathlib.Nat.{zero-add, not-suc-le-zero, le-of-suc-le-suc}
+use native.Mathlib.Omega.{arith}
+use borrow.Author.Tests.{leb-true, leb-false, ltb-true, ltb-false, le-leb, lt-leb, le-ltb, lt-ltb, eq-eqb}
+use lib.Dec.{ltb, leb, eqb}
+use lib.ListN.{length, getD, take, drop, drop-of-length-le, length-drop}
+use lib.Seq.{take-all, take-nil, drop-drop, length-take-le}
+use Rattle.octets.proofs.Rest.{rest}
+use Rattle.params.specs.Field.{Param, _is_, before, triplesAfter, triplesOf, opened}
+use Rattle.params.specs.Walk.{standsAt, takesPart, withPart, taken, takenFrom}
+use Rattle.params.specs.declared.Stands.{Stands}
+use Rattle.params.specs.declared.Stands.the-variants.{End, Broken, Triple}
+use Rattle.params.specs.declared.Part.the-variants.{At}
+use Rattle.params.specs.declared.Parts.{Parts}
+use Rattle.params.specs.declared.Found.{Found}
+use Rattle.params.specs.declared.Found.the-variants.{Malformed, Formed}
+
+-- a part of a slice: past its end, as far as it goes, whole
+module _ (s : List ℕ) (from len : ℕ) where
+  pub part-past : length s ≤ from → take (length s - length s) (drop (length s) s) ≡ take len (drop from s)
+  part-past h =
+      let n : length s - length s ≡ 0 = omega arith in
+      rw (drop-of-length-le s h, n) (sym (take-nil len))
+
+  pub part-rest : length s - from < len → take (length s - from) (drop from s) ≡ take len (drop from s)
+  part-rest h =
+      take-all (length s - from) (drop from s) (omega (arith, length-drop from s))
+      ∙ sym (take-all len (drop from s) (omega (arith, length-drop from s)))
+
+  pub part-whole : take (from + len - from) (drop from s) ≡ take len (drop from s)
+  part-whole = let n : from + len - from ≡ len = omega arith in rw n
+
+-- the octets of a triple: the test that is left once it is known that there are two
+module _ (s : List ℕ) (at : ℕ) (inside : at < length s) (two : 2 ≤ length s - at) where
+  pub stands-short : (n : ℕ) → n ≡ getD s (at + 1) 0 → length s - at - 2 < n → Broken ≡ standsAt s at
+  unfolding standsAt
+  stands-short n e h =
+      let a = lt-leb (length s) at inside in
+      let b = le-ltb (length s - at) 2 two in
+      let d = lt-ltb (length s - at - 2) n h in
+      simp (a, b, sym e, d)
+
+  pub stands-whole : (n : ℕ) → n ≡ getD s (at + 1) 0 → n ≤ length s - at - 2
+      → Triple (getD s at 0) (at + 2) n ≡ standsAt s at
+  unfolding standsAt
+  stands-whole n e h =
+      let a = lt-leb (length s) at inside in
+      let b = le-ltb (length s - at) 2 two in
+      let d = le-ltb (length s - at - 2) n h in
+      simp (a, b, sym e, d)
+
+pub opens-right : (m : List ℕ) (x : ℕ) → 3 ≤ length m → getD m 0 0 ≡ 0x81 → getD m 1 0 ≡ 0xF0 → x ≡ getD m 2 0
+    → eqb x (length m - 3) ≡ opened m
+unfolding opened
+opens-right m x h a b e =
+    simp (le-leb 3 (length m) h, eq-eqb (getD m 0 0) 0x81 a, eq-eqb (getD m 1 0) 0xF0 b, sym e)
+
+-- what it says that this stands at a place
+abbrev pub Means : List ℕ → ℕ → Stands → Type 0
+Means m at End = length m ≤ at
+Means m at Broken =
+    (at < length m) × ((length m < at + 2) ⊎ ((at + 2 ≤ length m) × (length m < at + 2 + getD m (at + 1) 0)))
+Means m at (Triple n from len) =
+    (at + 2 + len ≤ length m) × (n ≡ getD m at 0) × (from ≡ at + 2) × (len ≡ getD m (at + 1) 0)
+
+pub means : (m : List ℕ) (at : ℕ) → Means m at (standsAt m at)
+unfolding standsAt
+means m at =
+    go (leb (length m) at) refl (ltb (length m - at) 2) refl (ltb (length m - at - 2) (getD m (at + 1) 0)) refl
+  where
+    go : (a : Bool) → leb (length m) at ≡ a → (b : Bool) → ltb (length m - at) 2 ≡ b
+        → (d : Bool) → ltb (length m - at - 2) (getD m (at + 1) 0) ≡ d
+        → Means m at (cond a End (cond b Broken (cond d Broken (Triple (getD m at 0) (at + 2) (getD m (at + 1) 0)))))
+    go true e b f d g = leb-true _ _ e
+    go false e true f d g =
+        let h = leb-false (length m) at e in
+        let i = ltb-true (length m - at) 2 f in
+        (h, inl (omega arith))
+    go false e false f true g =
+        let h = leb-false (length m) at e in
+        let i = ltb-false (length m - at) 2 f in
+        let j = ltb-true (length m - at - 2) (getD m (at + 1) 0) g in
+        (h, inr (omega arith, omega arith))
+    go false e false f false g =
+        let h = leb-false (length m) at e in
+        let i = ltb-false (length m - at) 2 f in
+        let j = ltb-false (length m - at - 2) (getD m (at + 1) 0) g in
+        (omega arith, refl, refl, refl)
+
+pub told : (m : List ℕ) (at : ℕ) {r x : Stands} → r ≡ standsAt m at → r ≡ x → Means m at x
+told m at e f = subst (Means m at) (sym e ∙ f) (means m at)
+
+-- the octets of a value passed over: they are there, or they are not
+pub skip : (k : ℕ) (xs : List ℕ) → k ≤ length xs → triplesAfter k xs ≡ triplesOf (drop k xs)
+unfolding triplesAfter
+skip zero xs h = refl
+skip (suc k) [] h = absurd (not-suc-le-zero h)
+skip (suc k) (x ∷ xs) h = skip k xs (le-of-suc-le-suc h)
+
+pub skip-past : (k : ℕ) (xs : List ℕ) → length xs < k → triplesAfter k xs ≡ none
+unfolding triplesAfter
+skip-past zero xs h = absurd (not-suc-le-zero h)
+skip-past (suc k) [] h = refl
+skip-past (suc k) (x ∷ xs) h = skip-past k xs (le-of-suc-le-suc h)
+
+module _ (m : List ℕ) (at : ℕ) where
+  pub triples-end : Means m at End → triplesOf (drop at m) ≡ some []
+  unfolding triplesAfter
+  triples-end h = rw (drop-of-length-le m h)
+
+  two-on : at + 2 ≤ length m → drop at m ≡ getD m at 0 ∷ getD m (at + 1) 0 ∷ drop (at + 2) m
+  two-on h =
+      let n : at + 1 + 1 ≡ at + 2 = omega arith in
+      rest m at (omega arith)
+      ∙ ap (λ (l : List ℕ). getD m at 0 ∷ l)
+      (rest m (at + 1) (omega arith) ∙ ap (λ (j : ℕ). getD m (at + 1) 0 ∷ drop j m) n)
+
+  pub triples-broken : Means m at Broken → triplesOf (drop at m) ≡ none
+  unfolding triplesAfter before
+  triples-broken h =
+      ⊎-elim
+      (λ (k : length m < at + 2). rw (rest m at (h .0), drop-of-length-le m {i = at + 1} (omega arith)))
+      (λ (k : (at + 2 ≤ length m) × (length m < at + 2 + getD m (at + 1) 0)).
+      let past : length (drop (at + 2) m) < getD m (at + 1) 0 = rw length-drop (omega (arith, k .0, k .1)) in
+      rw (two-on (k .0), skip-past (getD m (at + 1) 0) (drop (at + 2) m) past))
+      (h .1)
+
+  pub triples-whole : {n from len : ℕ} → Means m at (Triple n from len)
+      → triplesOf (drop at m) ≡ before (n is take len (drop from m)) (triplesOf (drop (from + len) m))
+  unfolding triplesAfter
+  triples-whole {n} {from} {len} h =
+      let fits : len ≤ length (drop (at + 2) m) = rw length-drop (omega (arith, h .0)) in
+      rw (h .2, h .1, two-on (omega (arith, h .0)), ← h .3, skip len (drop (at + 2) m) fits, drop-drop)
+
+  pub value-whole : {n from len : ℕ} → Means m at (Triple n from len) → length (take len (drop from m)) ≡ len
+  value-whole {n} {from} {len} h = length-take-le len (drop from m) (rw length-drop (omega (arith, h .0, h .2)))
+
+-- what becomes of a triple: it is taken, or the payload is malformed
+module _ (f : Parts) (at n : ℕ) (v : List ℕ) where
+  taken-one : (x : Option (List Param)) → takesPart f n (length v) ≡ true
+      → takenFrom f at (before (n is v) x)
+      ≡ takenFrom (withPart f n (At (at + 2) (length v))) (at + 2 + length v) x
+  unfolding takenFrom before taken
+  taken-one none e = refl
+  taken-one (some ps) e = rw e
+
+  taken-not : (x : Option (List Param)) → takesPart f n (length v) ≡ false
+      → takenFrom f at (before (n is v) x) ≡ Malformed
+  unfolding takenFrom before taken
+  taken-not none e = refl
+  taken-not (some ps) e = rw e
+
+-- a turn of the loop, where what is left comes to w
+module _ (f : Parts) (m : List ℕ) (at : ℕ) {w : Found} (v : takenFrom f at (triplesOf (drop at m)) ≡ w) where
+  pub turn-end : Means m at End → Formed f ≡ w
+  unfolding takenFrom taken
+  turn-end h = rw (triples-end m at h) at v
+
+  pub turn-broken : Means m at Broken → Malformed ≡ w
+  unfolding takenFrom
+  turn-broken h = rw (triples-broken m at h) at v
+
+  module _ {n from len : ℕ} (h : Means m at (Triple n from len)) where
+    pub turn-not : takesPart f n len ≡ false → Malformed ≡ w
+    turn-not e =
+        let x = triplesOf (drop (from + len) m) in
+        let e' : takesPart f n (length (take len (drop from m))) ≡ false = rw (value-whole m at h) e in
+        sym (taken-not f at n (take len (drop from m)) x e') ∙ (rw (triples-whole m at h) at v)
+
+    pub turn-more : {g : Parts} → takesPart f n len ≡ true → g ≡ withPart f n (At from len)
+        → takenFrom g (from + len) (triplesOf (drop (from + len) m)) ≡ w
+    turn-more e s =
+        let x = triplesOf (drop (from + len) m) in
+        let e' : takesPart f n (length (take len (drop from m))) ≡ true = rw (value-whole m at h) e in
+        let one = taken-one f at n (take len (drop from m)) x e' in
+        rw (s, h .2) (sym (rw (value-whole m at h, h .2) at one) ∙ (rw (triples-whole m at h, h .2) at v))

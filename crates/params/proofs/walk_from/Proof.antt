@@ -1,0 +1,101 @@
+-- `params::walk_from` meets its promise: what is left from the place on comes to the same as all. The measure is what
+-- is left of the length. Assumes nothing.
+use borrow.Author.Needs.{needs}
+use mathlib.Core.Path.{_≡_, refl, sym, _∙_}
+use Prim.Native.Nat.{_-_}
+use native.Mathlib.Omega.{arith}
+use lib.ListN.{length, drop}
+use Rattle.params.specs.Field.{triplesOf}
+use Rattle.params.specs.Walk.{noParts, takenFrom}
+use Rattle.params.proofs.Turns.{told, turn-end, turn-broken, turn-not, turn-more}
+use Rattle.params.proofs.walk_from.Statement.{statement}
+use Rattle.params.proofs.walk_from.Tie as tie
+use Rattle.params.proofs.walk_from.Reads as reads
+use Rattle.params.proofs.walk_from.Lts as lts
+use Rattle.params.proofs.stands_at.Reads as stands-at-reads
+use Rattle.params.proofs.takes.Reads as takes-reads
+use Rattle.params.proofs.with_part.Reads as with-part-reads
+
+abbrev Inv-loop : tie.InvT-loop
+Inv-loop s start parts₀ at₀ parts at =
+    takenFrom parts at (triplesOf (drop at s)) ≡ takenFrom noParts start (triplesOf (drop start s))
+
+abbrev μ-loop : tie.MeasureT-loop
+μ-loop s start parts₀ at₀ parts at = length s - at
+
+loop-holds : tie.Need-loop-holds Inv-loop μ-loop
+loop-holds c = refl
+
+stands-at-requires : tie.Need-stands-at-requires Inv-loop μ-loop
+stands-at-requires c κs = search needs
+
+enum-told : tie.Need-enum-told Inv-loop μ-loop
+enum-told c = search needs
+
+returns : tie.Need-returns Inv-loop μ-loop
+returns c =
+    let at = c .before .before .before .loop in
+    turn-end _ _ _ (at .inv) (told _ _ (c .before .before .stands-at .ensures) (c .enum-told .given .1))
+
+enum-told-2 : tie.Need-enum-told-2 Inv-loop μ-loop
+enum-told-2 c = search needs
+
+returns-2 : tie.Need-returns-2 Inv-loop μ-loop
+returns-2 c =
+    let at = c .before .before .before .loop in
+    turn-broken _ _ _ (at .inv) (told _ _ (c .before .before .stands-at .ensures) (c .enum-told2 .given .1))
+
+enum-known-found : tie.Need-enum-known-found Inv-loop μ-loop
+enum-known-found c = search needs
+
+takes-requires : tie.Need-takes-requires Inv-loop μ-loop
+takes-requires c κs = search needs
+
+with-part-requires : tie.Need-with-part-requires Inv-loop μ-loop
+with-part-requires c κs = search needs
+
+add-at : tie.Need-add-at Inv-loop μ-loop
+add-at c =
+    let found = c .before .before .before .before in
+    let h = told _ _ (found .before .before .stands-at .ensures) (found .found .given .1) in
+    omega (arith, h .0, h .2)
+
+loop-less : tie.Need-loop-less Inv-loop μ-loop
+loop-less c =
+    let found = c .before .before .before .before in
+    let h = told _ _ (found .before .before .stands-at .ensures) (found .found .given .1) in
+    omega (arith, h .0, h .2)
+
+loop-again : tie.Need-loop-again Inv-loop μ-loop
+loop-again c =
+    let found = c .before .before .before .before in
+    let h = told _ _ (found .before .before .stands-at .ensures) (found .found .given .1) in
+    let takes = sym (c .before .before .takes .ensures) ∙ c .before .if1 .taken in
+    turn-more _ _ _ (found .before .before .before .loop .inv) h takes (c .with-part .ensures)
+
+returns-3 : tie.Need-returns-3 Inv-loop μ-loop
+returns-3 c =
+    let found = c .before .before .before in
+    let h = told _ _ (found .before .before .stands-at .ensures) (found .found .given .1) in
+    let not = sym (c .before .takes .ensures) ∙ c .if1 .left in
+    turn-not _ _ _ (found .before .before .before .loop .inv) h not
+
+pub walk-from-spec : {M : Type 1} → statement M
+walk-from-spec =
+    tie.close
+    (tie.spec
+    Inv-loop
+    μ-loop
+    loop-holds
+    stands-at-requires
+    enum-told
+    returns
+    enum-told-2
+    returns-2
+    enum-known-found
+    takes-requires
+    with-part-requires
+    add-at
+    loop-less
+    loop-again
+    returns-3)

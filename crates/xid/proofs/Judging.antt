@@ -1,0 +1,131 @@
+-- How the tests of the code, one after the other, come to what the definition says. Assumes nothing.
+use mathlib.Core.Path.{_≡_, refl, sym, ap, _∙_}
+use mathlib.Core.Bool.{Bool, true, false, cond, _&&_}
+use mathlib.Core.List.{List, [], _∷_}
+use mathlib.Core.Option.{Option, none, some}
+use Prim.Native.Nat.{ℕ, zero, suc, _≤_, min}
+use native.Mathlib.Omega.{arith}
+use lib.ListN.{length, getD, take, drop, length-take}
+use lib.Seq.{take-all, take-nil}
+use Rattle.identity.specs.Bits.{masked}
+use Rattle.identity.specs.Identity.{padded, same, answersScan}
+use Rattle.compare.specs.Rows.{endsWith}
+use Rattle.record.specs.Allowed.{addressed}
+use Rattle.params.specs.Field.{Param, paramsOf, valuesOf, octetsIn}
+use Rattle.params.specs.Walk.{valueAt, valuesAt, walkOf}
+use Rattle.params.specs.declared.Part.{Part}
+use Rattle.params.specs.declared.Part.the-variants.{Absent, At}
+use Rattle.params.specs.declared.Parts.{Parts}
+use Rattle.xid.specs.Match.{isScan, isAssignment, scanMatches, identityMatches, kindMatches}
+use Rattle.xid.specs.Match.{vendorMatches, addressOf, assignmentMatches, assigned, judged, judgedParams, readOf}
+use Rattle.xid.specs.declared.Xid.{Xid}
+use Rattle.xid.specs.declared.Xid.the-variants.{Silence, Scan, Assignment}
+
+-- the first octets of the first octets
+pub take-min : (a b : ℕ) (s : List ℕ) → take (min a b) s ≡ take b (take a s)
+take-min zero b s = let n : min zero b ≡ 0 = omega arith in rw n (sym (take-nil b))
+take-min (suc a) zero s = let n : min (suc a) zero ≡ 0 = omega arith in rw n
+take-min (suc a) (suc b) [] = take-nil (min (suc a) (suc b))
+take-min (suc a) (suc b) (x ∷ s) =
+    let n : min (suc a) (suc b) ≡ suc (min a b) = omega arith in
+    rw n (ap (λ (l : List ℕ). x ∷ l) (take-min a b s))
+
+pub take-within : (a b : ℕ) (s : List ℕ) → length s ≤ b → take (min a b) s ≡ take a s
+take-within a b s h = take-min a b s ∙ take-all b (take a s) (omega (arith, length-take a s))
+
+-- ---- the end of the identity, the type, the vendor
+
+module _ (m : List ℕ) {p : Part} where
+  module _ (i : List ℕ) where
+    pub identity-absent : p ≡ Absent → true ≡ identityMatches i (valueAt m p)
+    unfolding identityMatches valueAt
+    identity-absent e = rw e
+
+    pub vendor-absent : p ≡ Absent → true ≡ vendorMatches i (valueAt m p)
+    unfolding vendorMatches valueAt
+    vendor-absent e = rw e
+
+  pub kind-absent : p ≡ Absent → true ≡ kindMatches (valueAt m p)
+  unfolding kindMatches valueAt
+  kind-absent e = rw e
+
+  module _ {from len : ℕ} {v : List ℕ} (e : p ≡ At from len) (f : v ≡ take len (drop from m)) where
+    pub kind-given : {r : Bool} → r ≡ same v (0x01 ∷ []) → r ≡ kindMatches (valueAt m p)
+    unfolding kindMatches valueAt
+    kind-given g = g ∙ rw (e, f)
+
+    module _ (octets : List ℕ) (count : ℕ) (h : length octets ≡ 19) {n : ℕ} where
+      pub identity-given : {r : Bool} → n ≡ min count 19 → r ≡ endsWith (take n octets) v
+          → r ≡ identityMatches (take count octets) (valueAt m p)
+      unfolding identityMatches valueAt
+      identity-given k g = g ∙ rw (e, f, k, take-within count 19 octets (omega arith))
+
+      pub vendor-given : {r : Bool} → n ≡ min count 2 → r ≡ same v (take n octets)
+          → r ≡ vendorMatches (take count octets) (valueAt m p)
+      unfolding vendorMatches valueAt
+      vendor-given k g = g ∙ rw (e, f, k, take-min count 2 octets)
+
+-- ---- the scan's comparison
+
+pub scan-given : (i m : List ℕ) (f : Parts) {row mask value : List ℕ} {r : Bool} → row ≡ padded i
+    → mask ≡ octetsIn (valueAt m (f .mask)) → value ≡ octetsIn (valueAt m (f .identity))
+    → r ≡ same (masked row mask) value → r ≡ scanMatches i (valuesAt m f)
+unfolding scanMatches answersScan valuesAt
+scan-given i m f a b c g = g ∙ rw (a, b, c)
+
+-- ---- an assignment, test by test
+
+module _ (i m : List ℕ) (f : Parts) {a : ℕ} (e : a ≡ getD (octetsIn (valueAt m (f .address))) 0 0) where
+  pub address-not : addressed a ≡ false → Silence ≡ assigned i (valuesAt m f)
+  unfolding assigned assignmentMatches valuesAt
+  address-not t = rw (← e, t)
+
+  module _ (good : addressed a ≡ true) where
+    pub identity-not : identityMatches i (valueAt m (f .identity)) ≡ false → Silence ≡ assigned i (valuesAt m f)
+    unfolding assigned assignmentMatches valuesAt
+    identity-not t = rw (← e, good, t)
+
+    module _ (own : identityMatches i (valueAt m (f .identity)) ≡ true) where
+      pub kind-not : kindMatches (valueAt m (f .kind)) ≡ false → Silence ≡ assigned i (valuesAt m f)
+      unfolding assigned assignmentMatches valuesAt
+      kind-not t = rw (← e, good, own, t)
+
+      module _ (kind : kindMatches (valueAt m (f .kind)) ≡ true) where
+        pub vendor-not : vendorMatches i (valueAt m (f .vendor)) ≡ false → Silence ≡ assigned i (valuesAt m f)
+        unfolding assigned assignmentMatches valuesAt
+        vendor-not t = rw (← e, good, own, kind, t)
+
+        pub assigned-all : vendorMatches i (valueAt m (f .vendor)) ≡ true → Assignment a ≡ assigned i (valuesAt m f)
+        unfolding assigned assignmentMatches valuesAt
+        assigned-all t = rw (← e, good, own, kind, t)
+
+-- ---- either, or silence
+
+module _ (i m : List ℕ) (f : Parts) where
+  pub judged-scan : isScan (valuesAt m f) ≡ true → scanMatches i (valuesAt m f) ≡ true → Scan ≡ judged i (valuesAt m f)
+  unfolding judged
+  judged-scan s t = rw (s, t)
+
+  pub judged-other : isScan (valuesAt m f) ≡ true → scanMatches i (valuesAt m f) ≡ false
+      → Silence ≡ judged i (valuesAt m f)
+  unfolding judged
+  judged-other s t = rw (s, t)
+
+  pub judged-assignment : {r : Xid} → isScan (valuesAt m f) ≡ false → isAssignment (valuesAt m f) ≡ true
+      → r ≡ assigned i (valuesAt m f) → r ≡ judged i (valuesAt m f)
+  unfolding judged
+  judged-assignment s t g = g ∙ rw (s, t)
+
+  pub judged-neither : isScan (valuesAt m f) ≡ false → isAssignment (valuesAt m f) ≡ false
+      → Silence ≡ judged i (valuesAt m f)
+  unfolding judged
+  judged-neither s t = rw (s, t)
+
+  pub read-formed : {r : Xid} → (ps : List Param) × (paramsOf m ≡ some ps) × (valuesAt m f ≡ valuesOf ps)
+      → r ≡ judged i (valuesAt m f) → r ≡ readOf i m
+  unfolding readOf judgedParams
+  read-formed w g = g ∙ rw (w .1, w .2)
+
+pub read-malformed : (i m : List ℕ) → paramsOf m ≡ none → Silence ≡ readOf i m
+unfolding readOf judgedParams
+read-malformed i m e = rw e

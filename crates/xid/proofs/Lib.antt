@@ -1,0 +1,8 @@
+-- The laws of scan and assignment that the layers above cite.
+pub mod Shapes
+pub mod Judging
+pub mod Told
+pub mod Exactly
+pub mod Probe
+pub mod Examples
+pub mod Only

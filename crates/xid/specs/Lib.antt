@@ -1,0 +1,3 @@
+-- What the other crates cite of scan and assignment.
+pub mod Match
+pub mod Meaning

@@ -1,0 +1,56 @@
+-- Scans and assignments, of any device, in the words of 01: what the theorems of this crate speak of.
+--   ScanOf m v k           == the payload m is a scan for the value v under the mask k: "exactly 1 and 3, of equal
+--                             length"
+--   AssignmentOf m a x y z == the payload m is an assignment of the address value a: "2 present, 3 absent"; x, y and
+--                             z are the identity, type and vendor, where they are given
+--   IfGiven x P            == P holds of the value x, if it is given
+--   EndOf i v              == v "isn't longer than the unpadded identity and equals its right-most octets"
+--   Meant i a x y z        == such an assignment is for a device with the identity i
+--   Answers i m            == the payload m is a scan that the identity i answers
+--   Takes i m a            == the payload m is an assignment of the address a, meant for the identity i
+-- Assumes nothing.
+use mathlib.Core.Path.{_≡_}
+use mathlib.Core.List.{List, [], _∷_}
+use mathlib.Core.Option.{Option, none, some}
+use Prim.Native.Nat.{ℕ, _≤_}
+use lib.ListN.{length, take}
+use Rattle.identity.specs.Bits.{masked}
+use Rattle.identity.specs.Identity.{vendor, padded}
+use Rattle.compare.specs.Rows.{rightmost}
+use Rattle.params.specs.Field.{Param, WellFormed, Values, valuesOf}
+use Rattle.xid.specs.Match.{deviceType}
+
+pub record ScanOf (m v k : List ℕ) : Type 0 where
+  pub params : List Param
+  pub formed : WellFormed m params
+  pub values : valuesOf params
+      ≡ record { identity = some v; address = none; mask = some k; kind = none; vendor = none }
+  pub equal : length v ≡ length k
+
+pub record AssignmentOf (m : List ℕ) (a : ℕ) (x y z : Option (List ℕ)) : Type 0 where
+  pub params : List Param
+  pub formed : WellFormed m params
+  pub values : valuesOf params ≡ record { identity = x; address = some (a ∷ []); mask = none; kind = y; vendor = z }
+
+abbrev pub IfGiven : Option (List ℕ) → (List ℕ → Type 0) → Type 0
+IfGiven none P = Unit {0}
+IfGiven (some v) P = P v
+
+abbrev pub EndOf : List ℕ → List ℕ → Type 0
+EndOf i v = (length v ≤ length i) × (v ≡ rightmost (length v) i)
+
+pub record Meant (i : List ℕ) (a : ℕ) (x y z : Option (List ℕ)) : Type 0 where
+  pub least : 1 ≤ a
+  pub most : a ≤ 254
+  pub own : IfGiven x (EndOf i)
+  pub kind : IfGiven y (λ (v : List ℕ). v ≡ deviceType ∷ [])
+  pub maker : IfGiven z (λ (v : List ℕ). v ≡ take vendor i)
+
+-- "The identity is padded with 0x20 to 19, its left-most octets are masked and must equal the value of 1, which isn't
+-- masked."
+abbrev pub Answers : List ℕ → List ℕ → Type 0
+Answers i m = (v : List ℕ) × (k : List ℕ) × ScanOf m v k × (masked (padded i) k ≡ v)
+
+abbrev pub Takes : List ℕ → List ℕ → ℕ → Type 0
+Takes i m a =
+    (x : Option (List ℕ)) × (y : Option (List ℕ)) × (z : Option (List ℕ)) × AssignmentOf m a x y z × Meant i a x y z

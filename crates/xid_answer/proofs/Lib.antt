@@ -1,0 +1,4 @@
+-- The laws of the answers that the layers above cite.
+pub mod Stored
+pub mod Lengths
+pub mod Only

@@ -1,0 +1,16 @@
+-- Each promise of this crate allows one result. Assumes nothing.
+use mathlib.Core.Path.{_≡_}
+use Prim.Native.Nat.{ℕ}
+use Rattle.octets.proofs.Only.{only}
+use Rattle.record.specs.Allowed.{identityOf}
+use Rattle.record.specs.declared.Plate.{Plate}
+use Rattle.record.specs.declared.Payload.{Payload}
+use Rattle.xid_answer.specs.Answer.{scanAnswer, assignmentAnswer, held}
+
+pub scan-answer-only : (p : Plate) (a : ℕ) {r q : Payload}
+    → r ≡ held (scanAnswer (identityOf p) a) → q ≡ held (scanAnswer (identityOf p) a) → r ≡ q
+scan-answer-only p a = only
+
+pub assignment-answer-only : (p : Plate) {r q : Payload}
+    → r ≡ held (assignmentAnswer (identityOf p)) → q ≡ held (assignmentAnswer (identityOf p)) → r ≡ q
+assignment-answer-only p = only

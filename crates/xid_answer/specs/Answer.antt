@@ -1,0 +1,42 @@
+-- The payloads of the answers. 01, "XID: scan and assignment". i are the octets of the identity, unpadded.
+--   scanParams i a     == the parameters of the answer to a scan, from the address a; scanAnswer i a == its payload
+--   assignmentParams i == those of the answer to an assignment; assignmentAnswer i == its payload
+--   held b             == the octets b in a payload of the record, zeros behind them
+--   opening k          == the three octets before the triples, with the length k
+--   Puts o at b n o'   == the octets b are stored in o from `at` on, as far as it goes: o' is left, n the place behind
+-- Assumes nothing.
+use mathlib.Core.Path.{_≡_}
+use mathlib.Core.List.{List, [], _∷_}
+use Prim.Native.Nat.{ℕ, _+_}
+use lib.ListN.{length, replicate}
+use lib.Seq.{sets}
+use Rattle.octets.specs.Octets.{_atStartOf_}
+use Rattle.record.specs.Allowed.{replyMost}
+use Rattle.record.specs.declared.Payload.{Payload}
+use Rattle.params.specs.Field.{Param, _is_, payloadOf}
+use Rattle.xid.specs.Match.{deviceType}
+
+-- "Answer, in any state: 1 (unpadded, n octets), 2, 4 in that order"
+unfoldable pub scanParams : List ℕ → ℕ → List Param
+scanParams i a = 1 is i ∷ 2 is (a ∷ []) ∷ 4 is (deviceType ∷ []) ∷ []
+
+-- "the answer from the new address has 1 and 4"
+unfoldable pub assignmentParams : List ℕ → List Param
+assignmentParams i = 1 is i ∷ 4 is (deviceType ∷ []) ∷ []
+
+-- "Answers .. begin 0x81, 0xF0, length"
+unfoldable pub scanAnswer : List ℕ → ℕ → List ℕ
+scanAnswer i a = payloadOf (scanParams i a)
+
+unfoldable pub assignmentAnswer : List ℕ → List ℕ
+assignmentAnswer i = payloadOf (assignmentParams i)
+
+unfoldable pub held : List ℕ → Payload
+held b = record { octets = b atStartOf replicate replyMost 0; len = length b }
+
+abbrev pub opening : ℕ → List ℕ
+opening k = 0x81 ∷ 0xF0 ∷ k ∷ []
+
+pub record Puts (o : List ℕ) (at : ℕ) (b : List ℕ) (n : ℕ) (o' : List ℕ) : Type 0 where
+  pub place : n ≡ at + length b
+  pub octets : o' ≡ sets o at b
