@@ -1,4 +1,5 @@
--- Each return code is given exactly when 01 says: its test holds, and none before it. 0x24 has two places in the order.
+-- Each return code is given exactly when 01 says: its test holds, and none before it. 0x24 has two places in the
+-- order.
 -- Assumes nothing.
 use mathlib.Core.Path.{_≡_, refl, sym, _∙_}
 use mathlib.Core.Bool.{Bool, true, false}
@@ -25,7 +26,9 @@ other : {A : Type 0} {j k : ℕ} → eqb j k ≡ false → _≡_ {A = Answer A} 
 other {j = j} {k = k} d e = true-not-false (sym (eq-eqb j k (refuses-same e)) ∙ d)
 
 module _ (d : Carried) where
-  only-25 : (b₁ b₂ b₃ b₄ b₅ b₆ : Bool) → answered (rows b₁ b₂ b₃ b₄ b₅ b₆) d ≡ refuses 0x25 → (b₁ ≡ false) × (b₂ ≡ true)
+  only-25 : (b₁ b₂ b₃ b₄ b₅ b₆ : Bool)
+      → answered (rows b₁ b₂ b₃ b₄ b₅ b₆) d ≡ refuses 0x25
+      → (b₁ ≡ false) × (b₂ ≡ true)
   unfolding answered
   only-25 true b₂ b₃ b₄ b₅ b₆ e = absurd (other {j = 0x24} refl e)
   only-25 false true b₃ b₄ b₅ b₆ e = (refl, refl)
@@ -35,7 +38,9 @@ module _ (d : Carried) where
   only-25 false false false false false true e = absurd (other {j = 0x13} refl e)
   only-25 false false false false false false e = absurd (gives-not-refuses e)
 
-  only-19 : (b₁ b₂ b₃ b₄ b₅ b₆ : Bool) → answered (rows b₁ b₂ b₃ b₄ b₅ b₆) d ≡ refuses 0x19 → (b₁ ≡ false) × (b₂ ≡ false) × (b₃ ≡ true)
+  only-19 : (b₁ b₂ b₃ b₄ b₅ b₆ : Bool)
+      → answered (rows b₁ b₂ b₃ b₄ b₅ b₆) d ≡ refuses 0x19
+      → (b₁ ≡ false) × (b₂ ≡ false) × (b₃ ≡ true)
   unfolding answered
   only-19 true b₂ b₃ b₄ b₅ b₆ e = absurd (other {j = 0x24} refl e)
   only-19 false true b₃ b₄ b₅ b₆ e = absurd (other {j = 0x25} refl e)
@@ -45,7 +50,9 @@ module _ (d : Carried) where
   only-19 false false false false false true e = absurd (other {j = 0x13} refl e)
   only-19 false false false false false false e = absurd (gives-not-refuses e)
 
-  only-05 : (b₁ b₂ b₃ b₄ b₅ b₆ : Bool) → answered (rows b₁ b₂ b₃ b₄ b₅ b₆) d ≡ refuses 0x05 → (b₁ ≡ false) × (b₂ ≡ false) × (b₃ ≡ false) × (b₄ ≡ false) × (b₅ ≡ true)
+  only-05 : (b₁ b₂ b₃ b₄ b₅ b₆ : Bool)
+      → answered (rows b₁ b₂ b₃ b₄ b₅ b₆) d ≡ refuses 0x05
+      → (b₁ ≡ false) × (b₂ ≡ false) × (b₃ ≡ false) × (b₄ ≡ false) × (b₅ ≡ true)
   unfolding answered
   only-05 true b₂ b₃ b₄ b₅ b₆ e = absurd (other {j = 0x24} refl e)
   only-05 false true b₃ b₄ b₅ b₆ e = absurd (other {j = 0x25} refl e)
@@ -55,7 +62,9 @@ module _ (d : Carried) where
   only-05 false false false false false true e = absurd (other {j = 0x13} refl e)
   only-05 false false false false false false e = absurd (gives-not-refuses e)
 
-  only-13 : (b₁ b₂ b₃ b₄ b₅ b₆ : Bool) → answered (rows b₁ b₂ b₃ b₄ b₅ b₆) d ≡ refuses 0x13 → (b₁ ≡ false) × (b₂ ≡ false) × (b₃ ≡ false) × (b₄ ≡ false) × (b₅ ≡ false) × (b₆ ≡ true)
+  only-13 : (b₁ b₂ b₃ b₄ b₅ b₆ : Bool)
+      → answered (rows b₁ b₂ b₃ b₄ b₅ b₆) d ≡ refuses 0x13
+      → (b₁ ≡ false) × (b₂ ≡ false) × (b₃ ≡ false) × (b₄ ≡ false) × (b₅ ≡ false) × (b₆ ≡ true)
   unfolding answered
   only-13 true b₂ b₃ b₄ b₅ b₆ e = absurd (other {j = 0x24} refl e)
   only-13 false true b₃ b₄ b₅ b₆ e = absurd (other {j = 0x25} refl e)
@@ -92,34 +101,62 @@ module _ (d : Carried) where
     pub given-25 : answered (checks n m) d ≡ refuses 0x25
         ↔ (misdeclared m ≡ false) × (barred m ≡ true)
     unfolding checks driveChecks answered
-    given-25 = (only-25 (misdeclared m) (barred m) (unknown m) (misfit m) (busied n (codeOf m)) (outside n (codeOf m) (askedOf m)), λ w. rw (w .0, w .1))
+    given-25 = (
+      only-25 (misdeclared m) (barred m) (unknown m)
+          (misfit m) (busied n (codeOf m)) (outside n (codeOf m) (askedOf m)),
+      λ w. rw (w .0, w .1),
+    )
 
     -- "code not in the table below, 0x19"
     pub given-19 : answered (checks n m) d ≡ refuses 0x19
         ↔ (misdeclared m ≡ false) × (barred m ≡ false) × (unknown m ≡ true)
     unfolding checks driveChecks answered
-    given-19 = (only-19 (misdeclared m) (barred m) (unknown m) (misfit m) (busied n (codeOf m)) (outside n (codeOf m) (askedOf m)), λ w. rw (w .0, w .1, w .2))
+    given-19 = (
+      only-19 (misdeclared m) (barred m) (unknown m)
+          (misfit m) (busied n (codeOf m)) (outside n (codeOf m) (askedOf m)),
+      λ w. rw (w .0, w .1, w .2),
+    )
 
     -- "busy, 0x05"
     pub given-05 : answered (checks n m) d ≡ refuses 0x05
-        ↔ (misdeclared m ≡ false) × (barred m ≡ false) × (unknown m ≡ false) × (misfit m ≡ false) × (busied n (codeOf m) ≡ true)
+        ↔ (misdeclared m ≡ false) × (barred m ≡ false) × (unknown m ≡ false) × (misfit m ≡ false)
+        × (busied n (codeOf m) ≡ true)
     unfolding checks driveChecks answered
-    given-05 = (only-05 (misdeclared m) (barred m) (unknown m) (misfit m) (busied n (codeOf m)) (outside n (codeOf m) (askedOf m)), λ w. rw (w .0, w .1, w .2, w .3, w .4))
+    given-05 = (
+      only-05 (misdeclared m) (barred m) (unknown m)
+          (misfit m) (busied n (codeOf m)) (outside n (codeOf m) (askedOf m)),
+      λ w. rw (w .0, w .1, w .2, w .3, w .4),
+    )
 
     -- "out of range, 0x13"
     pub given-13 : answered (checks n m) d ≡ refuses 0x13
-        ↔ (misdeclared m ≡ false) × (barred m ≡ false) × (unknown m ≡ false) × (misfit m ≡ false) × (busied n (codeOf m) ≡ false) × (outside n (codeOf m) (askedOf m) ≡ true)
+        ↔ (misdeclared m ≡ false) × (barred m ≡ false) × (unknown m ≡ false) × (misfit m ≡ false)
+        × (busied n (codeOf m) ≡ false) × (outside n (codeOf m) (askedOf m) ≡ true)
     unfolding checks driveChecks answered
-    given-13 = (only-13 (misdeclared m) (barred m) (unknown m) (misfit m) (busied n (codeOf m)) (outside n (codeOf m) (askedOf m)), λ w. rw (w .0, w .1, w .2, w .3, w .4, w .5))
+    given-13 = (
+      only-13 (misdeclared m) (barred m) (unknown m)
+          (misfit m) (busied n (codeOf m)) (outside n (codeOf m) (askedOf m)),
+      λ w. rw (w .0, w .1, w .2, w .3, w .4, w .5),
+    )
 
     -- "length field wrong, 0x24 .. data length not the defined one, 0x24"
     pub given-24 : answered (checks n m) d ≡ refuses 0x24
-        ↔ (misdeclared m ≡ true) ⊎ ((misdeclared m ≡ false) × (barred m ≡ false) × (unknown m ≡ false) × (misfit m ≡ true))
+        ↔ (misdeclared m ≡ true) ⊎ ((misdeclared m ≡ false) × (barred m ≡ false) × (unknown m ≡ false)
+        × (misfit m ≡ true))
     unfolding checks driveChecks answered
-    given-24 = (only-24 (misdeclared m) (barred m) (unknown m) (misfit m) (busied n (codeOf m)) (outside n (codeOf m) (askedOf m)), ⊎-elim (λ w. rw w) (λ w. rw (w .0, w .1, w .2, w .3)))
+    given-24 = (
+      only-24 (misdeclared m) (barred m) (unknown m)
+          (misfit m) (busied n (codeOf m)) (outside n (codeOf m) (askedOf m)),
+      ⊎-elim (λ w. rw w) (λ w. rw (w .0, w .1, w .2, w .3)),
+    )
 
     -- no check fails: what the message asks is done
     pub given-none : answered (checks n m) d ≡ gives d
-        ↔ (misdeclared m ≡ false) × (barred m ≡ false) × (unknown m ≡ false) × (misfit m ≡ false) × (busied n (codeOf m) ≡ false) × (outside n (codeOf m) (askedOf m) ≡ false)
+        ↔ (misdeclared m ≡ false) × (barred m ≡ false) × (unknown m ≡ false) × (misfit m ≡ false)
+        × (busied n (codeOf m) ≡ false) × (outside n (codeOf m) (askedOf m) ≡ false)
     unfolding checks driveChecks answered
-    given-none = (only-done (misdeclared m) (barred m) (unknown m) (misfit m) (busied n (codeOf m)) (outside n (codeOf m) (askedOf m)), λ w. rw (w .0, w .1, w .2, w .3, w .4, w .5))
+    given-none = (
+      only-done (misdeclared m) (barred m) (unknown m)
+          (misfit m) (busied n (codeOf m)) (outside n (codeOf m) (askedOf m)),
+      λ w. rw (w .0, w .1, w .2, w .3, w .4, w .5),
+    )

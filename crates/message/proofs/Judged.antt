@@ -4,12 +4,11 @@ use mathlib.Core.Path.{_≡_, refl, sym, ap, _∙_}
 use mathlib.Core.Bool.{Bool, true, false, cond, not}
 use mathlib.Core.List.{List, [], _∷_}
 use Prim.Native.Nat.{ℕ, _-_, _<_, _≤_}
-use native.Mathlib.Omega.{arith}
 use borrow.Author.Tests.{lt-ltb, le-ltb, eqb-true}
 use lib.Dec.{eqb}
-use lib.ListN.{length, getD, drop, length-drop}
+use lib.ListN.{length, getD, length-drop}
 use Rattle.octets.specs.Octets.{holds, pairOf}
-use Rattle.refusal.specs.Answer.{Answer, Row, _when_, gives, refuses, answered}
+use Rattle.refusal.specs.Answer.{Answer, Row, _when_, answered}
 use Rattle.antenna.specs.declared.Alarms.{Alarms}
 use Rattle.antenna.specs.declared.Angle.{Angle}
 use Rattle.antenna.specs.declared.Antenna.{Antenna}
@@ -23,7 +22,7 @@ use Rattle.message.specs.declared.Check.{Check}
 use Rattle.message.specs.declared.Check.the-variants.{Passed, Failed}
 use Rattle.message.specs.declared.Carried.{Carried}
 use Rattle.message.specs.Messages.{codeOf, saidOf, dataOf, askedOf, unsupported, table, inTable, takenBy}
-use Rattle.message.specs.Messages.{drives, driveChecks, checks}
+use Rattle.message.specs.Messages.{driveChecks, checks}
 use Rattle.message.specs.Carried.{replies, unanswered, doneBy, outcome, carriedOf}
 use Rattle.message.specs.Steps.{repliedOf, fitsOf, checkedOf, aimed, setOf, getOf, operatedOf, performedOf}
 

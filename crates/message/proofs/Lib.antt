@@ -1,5 +1,6 @@
 -- The laws of messages that the layers above cite.
 pub mod Exact
+pub mod Fails
 pub mod Judged
 pub mod Moves
 pub mod Only

@@ -1,21 +1,20 @@
--- What a message changes. Set tilt alone starts a movement, exactly where it is due; clear alarms alone changes what is
--- raised and told; subscribe alone changes the subscription; nothing else changes anything. Assumes nothing.
+-- What a message changes. Set tilt alone starts a movement, exactly where it is due; clear alarms alone changes what
+-- is raised and told; subscribe alone changes the subscription; nothing else changes anything. Assumes nothing.
 use mathlib.Core.Path.{_≡_, refl, sym, ap, _∙_}
 use mathlib.Core.Bool.{Bool, true, false, cond, not}
 use mathlib.Core.List.{List, [], _∷_}
 use mathlib.Core.Logic.{_↔_, _⊎_, inl, inr, ⊎-elim}
-use Prim.Native.Nat.{ℕ, _<_, _≤_}
+use Prim.Native.Nat.{ℕ, _≤_}
 use native.Mathlib.Omega.{arith}
 use borrow.Author.Tests.{ltb-true, ltb-false, eqb-true}
 use lib.Dec.{ltb, eqb}
 use lib.ListN.{length, getD}
 use Rattle.octets.specs.Octets.{holds}
 use Rattle.octets.proofs.Words.{true-not-false}
-use Rattle.refusal.specs.Answer.{Answer, gives, refuses, answered}
+use Rattle.refusal.specs.Answer.{answered}
 use Rattle.antenna.specs.declared.Alarms.{Alarms}
 use Rattle.antenna.specs.declared.Angle.{Angle}
 use Rattle.antenna.specs.declared.Antenna.{Antenna}
-use Rattle.antenna.specs.declared.Motion.{Motion}
 use Rattle.antenna.specs.declared.Aim.{Aim}
 use Rattle.antenna.specs.declared.Aim.the-variants.{Busy, Outside, Started}
 use Rattle.antenna.specs.Alarms.{alarmCodes, codesOf}
@@ -26,7 +25,7 @@ use Rattle.record.specs.Fresh.{calm}
 use Rattle.payload.specs.Payloads.{payloadOf, successOf, failureOf}
 use Rattle.payload.proofs.Laws.{length-success}
 use Rattle.report.proofs.Counts.{length-codes}
-use Rattle.payload.specs.Tilts.{angleOf, tiltOctets}
+use Rattle.payload.specs.Tilts.{tiltOctets}
 use Rattle.report.specs.Reports.{informationOf}
 use Rattle.message.specs.declared.Check.{Check}
 use Rattle.message.specs.declared.Check.the-variants.{Passed, Failed}

@@ -1,14 +1,13 @@
 -- Cases of 01's "Both sides of the edge" that a message decides, computed. "The device has range -20 to 100."
 -- Assumes nothing.
 use mathlib.Core.Path.{_≡_, refl}
-use mathlib.Core.Bool.{Bool, false}
+use mathlib.Core.Bool.{false}
 use mathlib.Core.List.{List, [], _∷_}
 use Prim.Native.Nat.{ℕ}
 use lib.IntN.{ℤ, pos, negsuc}
 use lib.ListN.{take}
 use Rattle.octets.specs.Octets.{holds, _atStartOf_}
 use Rattle.refusal.specs.Answer.{answered}
-use Rattle.antenna.specs.declared.Angle.{Angle}
 use Rattle.antenna.specs.declared.Antenna.{Antenna}
 use Rattle.antenna.specs.declared.Motion.the-variants.{Still, Owing}
 use Rattle.antenna.specs.Angles.{atMost}
@@ -18,7 +17,6 @@ use Rattle.record.specs.Fresh.{calm}
 use Rattle.payload.specs.Payloads.{payloadOf, successOf, failureOf, messageOf}
 use Rattle.payload.specs.Tilts.{tiltOctets, angleOf}
 use Rattle.message.specs.declared.Carried.{Carried}
-use Rattle.message.specs.declared.Reply.the-variants.{None}
 use Rattle.message.specs.Messages.{driveChecks, checks, inTable, takenBy}
 use Rattle.message.specs.Carried.{carriedOf, outcome, doneBy, replies, unanswered}
 
@@ -47,7 +45,8 @@ module _ (p : Plate) where
   -- "33 02 00 32 00": no answer now, and a movement that owes its result, to the tilt 50
   pub set-50 : carriedOf p (at-rest (pos 0)) calm false (0x33 ∷ 0x02 ∷ 0x00 ∷ 0x32 ∷ 0x00 ∷ [])
       ≡ unanswered (moves (at-rest (pos 0)) (Owing (record { tenths = pos 50 }))) calm false
-  unfolding carriedOf outcome answered checks driveChecks holds inTable takenBy busyOf inRange atMost doneBy started angleOf
+  unfolding carriedOf outcome answered checks driveChecks holds inTable takenBy busyOf inRange atMost doneBy
+      started angleOf
   set-50 = refl
 
   -- 101 is out of range, and a data length of 1 is not the defined one

@@ -1,15 +1,14 @@
 -- Messages that pass the checks of their form, octet by octet. Assumes nothing.
-use mathlib.Core.Path.{_≡_, refl, sym, ap, _∙_}
+use mathlib.Core.Path.{_≡_, refl}
 use mathlib.Core.Bool.{Bool, true, false, cond}
 use mathlib.Core.List.{List, [], _∷_}
-use Prim.Native.Nat.{ℕ, suc, _+_, _*_, _<_, _≤_}
+use Prim.Native.Nat.{ℕ, _≤_}
 use native.Mathlib.Omega.{arith}
 use borrow.Author.Tests.{eqb-true}
 use lib.Dec.{eqb}
 use lib.ListN.{length, getD}
-use Rattle.octets.specs.Octets.{holds, pairOf}
+use Rattle.octets.specs.Octets.{holds}
 use Rattle.octets.proofs.Words.{true-not-false}
-use Rattle.message.specs.declared.Check.{Check}
 use Rattle.message.specs.declared.Check.the-variants.{Passed, Failed}
 use Rattle.message.specs.Messages.{codeOf, saidOf, dataOf, unsupported, table, inTable, takenBy}
 use Rattle.message.specs.Steps.{fitsOf, checkedOf}
@@ -20,7 +19,8 @@ failed-not-passed e = true-not-false (cc)
 -- a message that passes has the length that it says and that the table defines
 pub passed-sizes : (c said size : ℕ) → checkedOf c said size ≡ Passed → (said ≡ size) × (size ≡ takenBy table c)
 unfolding checkedOf fitsOf
-passed-sizes c said size = go (eqb said size) refl (holds c unsupported) (inTable table c) (eqb size (takenBy table c)) refl
+passed-sizes c said size =
+    go (eqb said size) refl (holds c unsupported) (inTable table c) (eqb size (takenBy table c)) refl
   where
     go : (a : Bool) → eqb said size ≡ a → (b i s : Bool) → eqb size (takenBy table c) ≡ s
         → cond a (cond b (Failed 0x25) (cond i (cond s Passed (Failed 0x24)) (Failed 0x19))) (Failed 0x24) ≡ Passed

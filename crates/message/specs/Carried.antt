@@ -6,7 +6,7 @@
 --   outcome n told sub c x  == what comes of the checks' answer x
 --   carriedOf p n told sub m == the message m, carried out by a device with the plate p
 -- Assumes nothing.
-use mathlib.Core.Bool.{Bool, true, false, cond}
+use mathlib.Core.Bool.{Bool, true, cond}
 use mathlib.Core.List.{List, []}
 use Prim.Native.Nat.{ℕ}
 use lib.Dec.{ltb, eqb}

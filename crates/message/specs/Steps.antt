@@ -4,7 +4,7 @@
 --   aimed n told sub t a  == what comes of a set tilt, by what becomes of its aim; setOf, getOf == of set and get tilt
 --   operatedOf ..         == of what changes something or asks the drive; performedOf .. == of any code
 -- Assumes nothing.
-use mathlib.Core.Bool.{Bool, true, false, cond}
+use mathlib.Core.Bool.{Bool, true, cond}
 use mathlib.Core.List.{[]}
 use Prim.Native.Nat.{ℕ}
 use lib.Dec.{eqb}

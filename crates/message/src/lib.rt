@@ -1,13 +1,13 @@
 // Messages of layer 7: one is checked, in 01's order, and carried out. Assumes nothing of its caller.
-// Headline: set tilt alone starts a movement, and exactly where the message is 33 02 00 and two octets, nothing moves or
-// waits, and the tilt asked is in range (proofs/Moves.antt); each return code is given exactly when 01 says
+// Headline: set tilt alone starts a movement, and exactly where the message is 33 02 00 and two octets, nothing moves
+// or waits, and the tilt asked is in range (proofs/Moves.antt); each return code is given exactly when 01 says
 // (proofs/Exact.antt).
 ghost use mathlib.Core.Path.{_≡_};
 ghost use lib.ListN.{getD};
 ghost use Rattle.octets.specs.Octets.{holds};
 ghost use Rattle.message.specs.Messages.{unsupported, askedOf};
 ghost use Rattle.message.specs.Carried.{unanswered, quieted, carriedOf};
-ghost use Rattle.message.specs.Steps.{repliedOf, fitsOf, checkedOf, aimed, setOf, getOf, operatedOf, performedOf};
+ghost use Rattle.message.specs.Steps.{repliedOf, fitsOf, checkedOf, setOf, getOf, operatedOf, performedOf};
 use antenna::Aim;
 use antenna::Alarms;
 use antenna::Angle;

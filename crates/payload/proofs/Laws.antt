@@ -1,12 +1,12 @@
 -- What the payloads of this crate are: how long, what lies in them, and the rows that 01 spells out. Assumes nothing.
-use mathlib.Core.Path.{_≡_, refl, sym, ap, _∙_}
-use mathlib.Core.Bool.{Bool, true, false}
+use mathlib.Core.Path.{_≡_, refl}
+use mathlib.Core.Bool.{true, false}
 use mathlib.Core.List.{List, [], _∷_}
-use Prim.Native.Nat.{ℕ, _+_, _<_, _≤_}
+use Prim.Native.Nat.{ℕ, _+_, _≤_}
 use native.Mathlib.Omega.{arith}
-use lib.IntN.{ℤ, pos, negsuc}
+use lib.IntN.{pos, negsuc}
 use lib.ListN.{length, take, replicate, length-take}
-use mir.Val.{SFits, ofZ, toZ}
+use mir.Val.{SFits, ofZ}
 use mir.Syntax.{w16}
 use mir.Facts.{toZ-ofZ}
 use Rattle.octets.specs.Octets.{Octets, lowOf, highOf}

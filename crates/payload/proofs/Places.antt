@@ -1,7 +1,7 @@
 -- How a message comes to lie in a payload: code and length in front, the data stored behind them. Assumes nothing.
-use mathlib.Core.Path.{_≡_, refl, sym, ap, ap₂, _∙_}
+use mathlib.Core.Path.{_≡_, refl, sym, ap₂, _∙_}
 use mathlib.Core.Bool.{Bool, true, false}
-use mathlib.Core.List.{List, [], _∷_}
+use mathlib.Core.List.{List, _∷_}
 use Prim.Native.Nat.{ℕ, suc, _+_, _≤_, min}
 use native.Mathlib.Omega.{arith}
 use borrow.Author.Tests.{leb-true, leb-false}
@@ -14,8 +14,8 @@ use Rattle.record.specs.declared.Payload.{Payload}
 use Rattle.payload.specs.Payloads.{messageOf, payloadOf, bodyMost}
 
 -- no more of a list than there is
-pub take-fewer : (s : List ℕ) (k : ℕ) → take (min (length s) k) s ≡ take k s
-take-fewer s k = go (leb (length s) k) refl
+pub take-room : (s : List ℕ) (k : ℕ) → take (min (length s) k) s ≡ take k s
+take-room s k = go (leb (length s) k) refl
   where
     go : (t : Bool) → leb (length s) k ≡ t → take (min (length s) k) s ≡ take k s
     go true t =
@@ -29,7 +29,7 @@ module _ (code : ℕ) (d : List ℕ) {o : List ℕ} {n : ℕ} (count : n ≡ min
   pub laid-is : _≡_ {A = Payload} (record { octets = o; len = n + 3 }) (payloadOf (messageOf code (take bodyMost d)))
   unfolding payloadOf messageOf
   laid-is =
-      let e : take bodyMost d ≡ take n d = sym (rw count (take-fewer d bodyMost)) in
+      let e : take bodyMost d ≡ take n d = sym (rw count (take-room d bodyMost)) in
       let m : length (take n d) ≡ n = simp length-take (omega arith) in
       let b = code ∷ lowOf n ∷ highOf n ∷ take n d in
       let zeros : List ℕ = replicate 74 0 in

@@ -1,14 +1,13 @@
 -- What the test of a sign says of a 16-bit number's pattern. Assumes nothing.
-use mathlib.Core.Path.{_≡_, refl}
+use mathlib.Core.Path.{_≡_}
 use mathlib.Core.Bool.{true, false}
-use Prim.Native.Nat.{ℕ, _-_, _<_, _≤_}
+use Prim.Native.Nat.{ℕ, _-_, _<_}
 use native.Mathlib.Omega.{arith}
-use borrow.Author.Tests.{ltb-true, ltb-false}
+use borrow.Author.Tests.{ltb-true}
 use lib.IntN.{ℤ, pos, negsuc}
 use lib.Signed.{ltZ}
 use mir.Syntax.{w16}
-use mir.Val.{SFits, toZ, ofZ}
-use mir.Facts.{toZ-ofZ}
+use mir.Val.{SFits, ofZ}
 
 pub below : (z : ℤ) → SFits w16 z → ltZ z (pos 0) ≡ true → 65535 - ofZ w16 z < 32768
 below (pos n) f e = omega (arith, ltb-true n 0 e)

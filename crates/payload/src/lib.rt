@@ -1,5 +1,5 @@
-// Payloads of layer 7: code, length and data at the start of 74 zeros; successes, failures, the tilt result, a tilt told.
-// Assumes nothing of its caller.
+// Payloads of layer 7: code, length and data at the start of 74 zeros; successes, failures, the tilt result, a tilt
+// told. Assumes nothing of its caller.
 // Headline: no payload has more than 74 octets, and get tilt -15 is 34 03 00 00 F1 FF (proofs/Laws.antt).
 ghost use mathlib.Core.Path.{_≡_};
 ghost use mathlib.Core.List.{[]};

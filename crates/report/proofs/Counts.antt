@@ -1,12 +1,11 @@
 -- How many octets the lists have that payloads are made of. Assumes nothing.
-use mathlib.Core.Path.{_≡_, refl}
+use mathlib.Core.Path.{_≡_}
 use mathlib.Core.Bool.{Bool, true, false, cond}
 use mathlib.Core.List.{List, [], _∷_, _++_}
 use Prim.Native.Nat.{ℕ, suc, _+_, _*_, _≤_}
 use native.Mathlib.Omega.{arith}
 use lib.ListN.{length, length-append}
 use Rattle.antenna.specs.Alarms.{codesAmong, changesAmong, differs, stateOf}
-use Rattle.payload.specs.Payloads.{messageOf}
 use Rattle.report.specs.Reports.{textOf}
 
 pub length-text : (t : List ℕ) → length (textOf t) ≡ 1 + length t

@@ -1,9 +1,9 @@
 -- How long the reports are, and when an indication says something. Assumes nothing.
-use mathlib.Core.Path.{_≡_, refl, sym, ap, _∙_}
-use mathlib.Core.Bool.{Bool, true, false, cond, not, _&&_}
+use mathlib.Core.Path.{_≡_, refl, sym, ap}
+use mathlib.Core.Bool.{Bool, true, false, cond, _&&_}
 use mathlib.Core.List.{List, [], _∷_}
 use mathlib.Core.Logic.{_↔_}
-use Prim.Native.Nat.{ℕ, suc, _+_, _<_, _≤_}
+use Prim.Native.Nat.{ℕ, _≤_}
 use native.Mathlib.Omega.{arith}
 use borrow.Author.Tests.{leb-true}
 use lib.Dec.{leb}
@@ -11,9 +11,9 @@ use lib.ListN.{length, take, length-take, length-drop}
 use Rattle.octets.proofs.Words.{true-not-false}
 use Rattle.antenna.specs.declared.Alarms.{Alarms}
 use Rattle.antenna.specs.Alarms.{alarmCodes, codesOf, changesAmong, changesOf, differs, anyDiffer, stateOf}
-use Rattle.record.specs.Allowed.{identityOf, productOf, hardwareOf, softwareOf, platesAllowed, identityAllowed}
+use Rattle.record.specs.Allowed.{productOf, hardwareOf, softwareOf, platesAllowed, identityAllowed}
 use Rattle.record.specs.declared.Plate.{Plate}
-use Rattle.payload.specs.Payloads.{successOf, messageOf}
+use Rattle.payload.specs.Payloads.{successOf}
 use Rattle.payload.proofs.Laws.{length-message, length-success}
 use Rattle.report.specs.Reports.{serialOf, informationOf, indicationOf}
 use Rattle.report.proofs.Counts.{length-texts, length-codes, length-changes}

@@ -2,7 +2,7 @@
 use mathlib.Core.Path.{_≡_, refl, sym, ap, _∙_}
 use mathlib.Core.Bool.{Bool, true, false}
 use mathlib.Core.List.{List, [], _∷_, _++_, append-nil}
-use Prim.Native.Nat.{ℕ, zero, suc, _+_, _-_, _<_, _≤_, min}
+use Prim.Native.Nat.{ℕ, zero, suc, _+_, _-_, _≤_, min}
 use native.Mathlib.Omega.{arith}
 use borrow.Author.Tests.{leb-true, leb-false}
 use lib.Dec.{leb}
@@ -12,7 +12,7 @@ use Rattle.octets.proofs.Runs.{Run, run-all, run-one, run-some, run-done}
 use Rattle.octets.proofs.Stores.{take-stored}
 use Rattle.antenna.specs.Alarms.{alarmCodes, codesOf, changesOf}
 use Rattle.payload.specs.Payloads.{payloadOf, messageOf, bodyMost}
-use Rattle.payload.proofs.Places.{laid-whole}
+use Rattle.payload.proofs.Places.{take-room, laid-whole}
 use Rattle.report.specs.Steps.{Puts}
 use Rattle.report.specs.Reports.{textOf, withoutVendor}
 use Rattle.report.proofs.Counts.{length-text, length-codes, length-changes}
@@ -20,15 +20,7 @@ use Rattle.report.proofs.Counts.{length-text, length-codes, length-chan
 module _ (s : List ℕ) (n : ℕ) {k : ℕ} (whole : length s ≡ k) where
   -- no more of an array than there is
   pub take-fewer : take (min n k) s ≡ take n s
-  take-fewer = go (leb n k) refl
-    where
-      go : (t : Bool) → leb n k ≡ t → take (min n k) s ≡ take n s
-      go true t = let e : min n k ≡ n = omega (arith, leb-true n k t) in rw e
-      go false t =
-          let e : min n k ≡ k = omega (arith, leb-false n k t) in
-          let a : take k s ≡ s = take-all k s (omega arith) in
-          let b : take n s ≡ s = take-all n s (omega (arith, leb-false n k t)) in
-          rw (e, a, b)
+  take-fewer = let e : min n k ≡ min (length s) n = omega arith in rw e (take-room s n)
 
   pub length-fewer : length (take n s) ≤ k
   length-fewer = simp length-take (omega arith)
@@ -116,8 +108,9 @@ module _ (p s h w o : List ℕ) {o₁ o₂ o₃ o₄ : List ℕ} {a b c d : ℕ}
     (put₃ : Puts o₂ b (textOf h) c o₃) (put₄ : Puts o₃ c (textOf w) d o₄) where
   pub texts-put : Puts o 0 (0 ∷ (textOf p ++ (textOf s ++ (textOf h ++ textOf w)))) d o₄
   texts-put =
-      let one : Run o₁ a (textOf s ++ (textOf h ++ textOf w)) (set o 0 0) 1
-      (textOf p ++ (textOf s ++ (textOf h ++ textOf w))) = run-some (textOf p) (put₁ .octets) (put₁ .count) refl run-all in
+      let more = textOf s ++ (textOf h ++ textOf w) in
+      let one : Run o₁ a more (set o 0 0) 1 (textOf p ++ more)
+      = run-some (textOf p) (put₁ .octets) (put₁ .count) refl run-all in
       let two = run-some (textOf s) (put₂ .octets) (put₂ .count) refl one in
       let three = run-some (textOf h) (put₃ .octets) (put₃ .count) refl two in
       success-put _ o refl (run-some (textOf w) (put₄ .octets) (put₄ .count) (sym (append-nil (textOf w))) three)

@@ -1,7 +1,6 @@
 -- `message::asked` meets its promise: the data's two octets, as a tilt. Assumes nothing.
 use borrow.Author.Needs.{needs}
-use mathlib.Core.Path.{sym}
-use Rattle.octets.proofs.Rules.{tests}
+use mathlib.Core.Path.{_∙_}
 use Rattle.message.proofs.asked.Statement.{statement}
 use Rattle.message.proofs.asked.Tie as tie
 
@@ -15,7 +14,7 @@ angle-requires : tie.Need-angle-requires
 angle-requires c κs = search needs
 
 returns : tie.Need-returns
-returns c = search (tests, sym (c .angle .ensures), sym (c .before .octet2 .ensures), sym (c .before .before .octet .ensures))
+returns c = c .angle .ensures ∙ rw (c .before .before .octet .ensures, c .before .octet2 .ensures)
 
 pub asked-spec : {M : Type 1} → statement M
 asked-spec = tie.close (tie.spec octet-requires octet-requires-2 angle-requires returns)

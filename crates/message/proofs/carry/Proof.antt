@@ -55,7 +55,8 @@ returns-2 : tie.Need-returns-2
 returns-2 c =
     let seen = c .before .before .before .before in
     let read = seen .before in
-    carried-passed _ _ _ _ _ (read .before .before .before .before .if1 .left) (read .before .before .before .octet .ensures)
+    let first = read .before .before .before in
+    carried-passed _ _ _ _ _ (first .before .if1 .left) (first .octet .ensures)
     (read .before .before .octet2 .ensures) (read .before .octet3 .ensures) (read .pair .ensures)
     (seen .checked .ensures) (c .before .before .enum-told .given .1) (c .before .asked .ensures) (c .perform .ensures)
 
@@ -63,7 +64,8 @@ returns-3 : tie.Need-returns-3
 returns-3 c =
     let seen = c .before .before .before .before .before in
     let read = seen .before in
-    carried-failed _ _ _ _ _ (read .before .before .before .before .if1 .left) (read .before .before .before .octet .ensures)
+    let first = read .before .before .before in
+    carried-failed _ _ _ _ _ (first .before .if1 .left) (first .octet .ensures)
     (read .before .before .octet2 .ensures) (read .before .octet3 .ensures) (read .pair .ensures)
     (seen .checked .ensures) (c .before .before .before .check .given .1)
     (reply-is _ _ _ _ (c .before .failure .ensures) (c .replied .ensures))

@@ -18,7 +18,8 @@ fits-requires c κs = search needs
 
 returns-2 : tie.Need-returns-2
 unfolding checkedOf
-returns-2 c = search (tests, sym (c .fits2 .ensures), sym (c .before .before .is-unsupported .ensures) ∙ c .before .if2 .left)
+returns-2 c =
+    search (tests, sym (c .fits2 .ensures), sym (c .before .before .is-unsupported .ensures) ∙ c .before .if2 .left)
 
 returns-3 : tie.Need-returns-3
 unfolding checkedOf

@@ -64,7 +64,8 @@ loop-again-2 : tie.Need-loop-again-2 Inv-loop μ-loop
 loop-again-2 c =
     let at = c .before .before .loop in
     let h : at .i < 6 = omega arith in
-    let k : at .i < length (c .before .before .before .before .before .before .before .before .args .t1) = omega arith in (
+    let start = c .before .before .before .before .before .before .before .before .args in
+    let k : at .i < length (start .t1) = omega arith in (
       search needs,
       search needs,
       search needs,
