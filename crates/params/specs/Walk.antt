@@ -40,6 +40,10 @@ partOf f n =
     (cond (eqb n 2) (f .address)
     (cond (eqb n 3) (f .mask) (cond (eqb n 4) (f .kind) (cond (eqb n 6) (f .vendor) Absent))))
 
+abbrev pub partsOf : Part → Part → Part → Part → Part → Parts
+partsOf identity address mask kind vendor =
+    record { identity = identity; address = address; mask = mask; kind = kind; vendor = vendor }
+
 unfoldable pub withPart : Parts → ℕ → Part → Parts
 withPart f n p =
     cond (eqb n 1) (record { identity = p; address = f .address; mask = f .mask; kind = f .kind; vendor = f .vendor })

@@ -3,8 +3,6 @@ use Rattle.params.specs.Field.{identityLong}
 use Rattle.octets.proofs.Rules.{tests}
 use Rattle.params.proofs.identity_long.Statement.{statement}
 use Rattle.params.proofs.identity_long.Tie as tie
-use Rattle.params.proofs.identity_long.Reads as reads
-use Rattle.params.proofs.identity_long.Lts as lts
 
 returns : tie.Need-returns
 unfolding identityLong

@@ -4,8 +4,6 @@ use Rattle.octets.proofs.Rules.{tests}
 use borrow.Author.Needs.{needs}
 use Rattle.params.proofs.is_absent.Statement.{statement}
 use Rattle.params.proofs.is_absent.Tie as tie
-use Rattle.params.proofs.is_absent.Reads as reads
-use Rattle.params.proofs.is_absent.Lts as lts
 
 enum-told : tie.Need-enum-told
 enum-told c = search needs

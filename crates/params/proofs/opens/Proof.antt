@@ -1,14 +1,10 @@
 -- `params::opens` meets its promise: one test after the other. Assumes nothing.
 use Rattle.params.proofs.Turns.{opens-right}
 use Rattle.params.specs.Field.{opened}
-use mathlib.Core.Path.{sym, _∙_}
 use Rattle.octets.proofs.Rules.{tests}
 use borrow.Author.Needs.{needs}
 use Rattle.params.proofs.opens.Statement.{statement}
 use Rattle.params.proofs.opens.Tie as tie
-use Rattle.params.proofs.opens.Reads as reads
-use Rattle.params.proofs.opens.Lts as lts
-use Rattle.params.proofs.wide.Reads as wide-reads
 
 returns : tie.Need-returns
 unfolding opened

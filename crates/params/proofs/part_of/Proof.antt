@@ -3,8 +3,6 @@ use Rattle.params.specs.Walk.{partOf}
 use Rattle.octets.proofs.Rules.{tests}
 use Rattle.params.proofs.part_of.Statement.{statement}
 use Rattle.params.proofs.part_of.Tie as tie
-use Rattle.params.proofs.part_of.Reads as reads
-use Rattle.params.proofs.part_of.Lts as lts
 
 returns : tie.Need-returns
 unfolding partOf

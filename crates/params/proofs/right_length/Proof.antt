@@ -1,13 +1,10 @@
 -- `params::right_length` meets its promise: one test after the other. Assumes nothing.
 use Rattle.params.specs.Field.{rightLength}
-use mathlib.Core.Path.{sym, _∙_}
+use mathlib.Core.Path.{sym}
 use Rattle.octets.proofs.Rules.{tests}
 use borrow.Author.Needs.{needs}
 use Rattle.params.proofs.right_length.Statement.{statement}
 use Rattle.params.proofs.right_length.Tie as tie
-use Rattle.params.proofs.right_length.Reads as reads
-use Rattle.params.proofs.right_length.Lts as lts
-use Rattle.params.proofs.identity_long.Reads as identity-long-reads
 
 identity-long-requires : tie.Need-identity-long-requires
 identity-long-requires c κs = search needs

@@ -1,14 +1,10 @@
 -- `params::stands_at` meets its promise: one test after the other. Assumes nothing.
 use Rattle.params.proofs.Turns.{stands-short, stands-whole}
 use Rattle.params.specs.Walk.{standsAt}
-use mathlib.Core.Path.{sym, _∙_}
 use Rattle.octets.proofs.Rules.{tests}
 use borrow.Author.Needs.{needs}
 use Rattle.params.proofs.stands_at.Statement.{statement}
 use Rattle.params.proofs.stands_at.Tie as tie
-use Rattle.params.proofs.stands_at.Reads as reads
-use Rattle.params.proofs.stands_at.Lts as lts
-use Rattle.params.proofs.wide.Reads as wide-reads
 
 returns : tie.Need-returns
 unfolding standsAt

@@ -5,11 +5,6 @@ use Rattle.octets.proofs.Rules.{tests}
 use borrow.Author.Needs.{needs}
 use Rattle.params.proofs.takes.Statement.{statement}
 use Rattle.params.proofs.takes.Tie as tie
-use Rattle.params.proofs.takes.Reads as reads
-use Rattle.params.proofs.takes.Lts as lts
-use Rattle.params.proofs.is_absent.Reads as is-absent-reads
-use Rattle.params.proofs.part_of.Reads as part-of-reads
-use Rattle.params.proofs.right_length.Reads as right-length-reads
 
 right-length-requires : tie.Need-right-length-requires
 right-length-requires c κs = search needs

@@ -3,8 +3,6 @@ use Rattle.params.proofs.Turns.{part-past, part-rest, part-whole}
 use borrow.Author.Needs.{needs}
 use Rattle.params.proofs.value_at.Statement.{statement}
 use Rattle.params.proofs.value_at.Tie as tie
-use Rattle.params.proofs.value_at.Reads as reads
-use Rattle.params.proofs.value_at.Lts as lts
 
 sub-result : tie.Need-sub-result
 sub-result c = search needs

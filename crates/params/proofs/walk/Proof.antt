@@ -6,10 +6,6 @@ use Rattle.params.proofs.Kept.{taken-all}
 use borrow.Author.Needs.{needs}
 use Rattle.params.proofs.walk.Statement.{statement}
 use Rattle.params.proofs.walk.Tie as tie
-use Rattle.params.proofs.walk.Reads as reads
-use Rattle.params.proofs.walk.Lts as lts
-use Rattle.params.proofs.opens.Reads as opens-reads
-use Rattle.params.proofs.walk_from.Reads as walk-from-reads
 
 opens-requires : tie.Need-opens-requires
 opens-requires c κs = search needs

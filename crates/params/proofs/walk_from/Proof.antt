@@ -10,11 +10,6 @@ use Rattle.params.specs.Walk.{noParts, takenFrom}
 use Rattle.params.proofs.Turns.{told, turn-end, turn-broken, turn-not, turn-more}
 use Rattle.params.proofs.walk_from.Statement.{statement}
 use Rattle.params.proofs.walk_from.Tie as tie
-use Rattle.params.proofs.walk_from.Reads as reads
-use Rattle.params.proofs.walk_from.Lts as lts
-use Rattle.params.proofs.stands_at.Reads as stands-at-reads
-use Rattle.params.proofs.takes.Reads as takes-reads
-use Rattle.params.proofs.with_part.Reads as with-part-reads
 
 abbrev Inv-loop : tie.InvT-loop
 Inv-loop s start parts₀ at₀ parts at =
