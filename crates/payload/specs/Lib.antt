@@ -1,3 +1,4 @@
 -- What the other crates cite of payloads.
 pub mod Payloads
+pub mod Puts
 pub mod Tilts

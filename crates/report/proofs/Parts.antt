@@ -13,7 +13,7 @@ use Rattle.octets.proofs.Stores.{take-stored}
 use Rattle.antenna.specs.Alarms.{alarmCodes, codesOf, changesOf}
 use Rattle.payload.specs.Payloads.{payloadOf, messageOf, bodyMost}
 use Rattle.payload.proofs.Places.{take-room, laid-whole}
-use Rattle.report.specs.Steps.{Puts}
+use Rattle.payload.specs.Puts.{Puts}
 use Rattle.report.specs.Reports.{textOf, withoutVendor}
 use Rattle.report.proofs.Counts.{length-text, length-codes, length-changes}
 

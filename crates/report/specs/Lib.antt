@@ -1,3 +1,2 @@
 -- What the other crates cite of reports.
 pub mod Reports
-pub mod Steps

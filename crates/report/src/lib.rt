@@ -9,7 +9,7 @@ ghost use lib.ListN.{length, take};
 ghost use Rattle.antenna.specs.Alarms.{codesOf, changesOf, stateOf, differs};
 ghost use Rattle.payload.specs.Payloads.{payloadOf, successOf};
 ghost use Rattle.report.specs.Reports.{textOf, withoutVendor, informationOf, indicationOf};
-ghost use Rattle.report.specs.Steps.{Puts};
+ghost use Rattle.payload.specs.Puts.{Puts};
 use antenna::Alarms;
 use record::Payload;
 use record::Plate;

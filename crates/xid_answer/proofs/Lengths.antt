@@ -15,7 +15,8 @@ use Rattle.record.specs.Allowed.{replyMost}
 use Rattle.params.specs.Field.{_is_, payloadOf, rightLength, identityLong, identifiers, WellFormed, noneTwice}
 use Rattle.params.proofs.Exact.{once-different}
 use Rattle.params.proofs.Kept.{of-both}
-use Rattle.xid_answer.specs.Answer.{scanParams, assignmentParams, scanAnswer, assignmentAnswer, held}
+use Rattle.xid_answer.specs.Answer.{scanParams, assignmentParams, scanAnswer, assignmentAnswer}
+use Rattle.payload.specs.Payloads.{payloadOf as held}
 use Rattle.xid_answer.proofs.Stored.{scan-length, assignment-length, length-scan, length-assignment}
 
 -- "length field n+8"

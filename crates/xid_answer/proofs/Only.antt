@@ -5,7 +5,8 @@ use Rattle.octets.proofs.Only.{only}
 use Rattle.record.specs.Allowed.{identityOf}
 use Rattle.record.specs.declared.Plate.{Plate}
 use Rattle.record.specs.declared.Payload.{Payload}
-use Rattle.xid_answer.specs.Answer.{scanAnswer, assignmentAnswer, held}
+use Rattle.xid_answer.specs.Answer.{scanAnswer, assignmentAnswer}
+use Rattle.payload.specs.Payloads.{payloadOf as held}
 
 pub scan-answer-only : (p : Plate) (a : ℕ) {r q : Payload}
     → r ≡ held (scanAnswer (identityOf p) a) → q ≡ held (scanAnswer (identityOf p) a) → r ≡ q

@@ -13,11 +13,12 @@ use Rattle.record.specs.declared.Payload.{Payload}
 use Rattle.params.specs.Field.{Param, _is_, tripleOf, fieldOf, payloadOf}
 use Rattle.xid.specs.Match.{deviceType}
 use Rattle.xid.proofs.Judging.{take-within}
-use Rattle.xid_answer.specs.Answer.{Puts, opening, scanParams, assignmentParams, scanAnswer, assignmentAnswer}
-use Rattle.xid_answer.specs.Answer.{held}
+use Rattle.xid_answer.specs.Answer.{opening, scanParams, assignmentParams, scanAnswer, assignmentAnswer}
+use Rattle.payload.specs.Puts.{Puts}
+use Rattle.payload.specs.Payloads.{payloadOf as held}
 
 puts-of : {o o' b : List ℕ} {at n : ℕ} → (n ≡ at + length b) × (o' ≡ sets o at b) → Puts o at b n o'
-puts-of w = record { place = w .0; octets = w .1 }
+puts-of w = record { count = w .0; octets = w .1 }
 
 -- identifier, length, value
 pub param-stored : (at n : ℕ) (v o : List ℕ) {o₁ o₂ o₃ : List ℕ} → o₁ ≡ set o at n → o₂ ≡ set o₁ (at + 1) (length v)
@@ -60,9 +61,9 @@ module _ (i o : List ℕ) {o₁ o₂ o₃ : List ℕ} {a : ℕ} where
       let all : Run o 0 xs o 0 xs = run-all in
       let opened : Run o₁ 3 (own ++ (from ++ (kind ++ []))) o 0 xs =
       run-some (opening (length i + 8)) s refl refl all in
-      let first : Run o₂ a (from ++ (kind ++ [])) o 0 xs = run-some own (p .octets) (p .place) refl opened in
-      let second : Run o₃ b (kind ++ []) o 0 xs = run-some from (q .octets) (q .place) refl first in
-      let third : Run o₄ n [] o 0 xs = run-some kind (r .octets) (r .place) refl second in
+      let first : Run o₂ a (from ++ (kind ++ [])) o 0 xs = run-some own (p .octets) (p .count) refl opened in
+      let second : Run o₃ b (kind ++ []) o 0 xs = run-some from (q .octets) (q .count) refl first in
+      let third : Run o₄ n [] o 0 xs = run-some kind (r .octets) (r .count) refl second in
       rw (scan-length i address) (puts-of (run-done refl third))
 
   pub assignment-stored : {n : ℕ} → o₁ ≡ sets o 0 (opening (length i + 5)) → Puts o₁ 3 (tripleOf (1 is i)) a o₂
@@ -74,8 +75,8 @@ module _ (i o : List ℕ) {o₁ o₂ o₃ : List ℕ} {a : ℕ} where
       let xs = opening (length i + 5) ++ (own ++ (kind ++ [])) in
       let all : Run o 0 xs o 0 xs = run-all in
       let opened : Run o₁ 3 (own ++ (kind ++ [])) o 0 xs = run-some (opening (length i + 5)) s refl refl all in
-      let first : Run o₂ a (kind ++ []) o 0 xs = run-some own (p .octets) (p .place) refl opened in
-      let second : Run o₃ n [] o 0 xs = run-some kind (r .octets) (r .place) refl first in
+      let first : Run o₂ a (kind ++ []) o 0 xs = run-some own (p .octets) (p .count) refl opened in
+      let second : Run o₃ n [] o 0 xs = run-some kind (r .octets) (r .count) refl first in
       rw (assignment-length i) (puts-of (run-done refl second))
 
 -- ---- at the start of a payload of zeros
@@ -91,7 +92,7 @@ length-assignment i = omega (arith, assignment-length i)
 held-is : (b : List ℕ) {n : ℕ} {o : List ℕ} → Puts (replicate 74 0) 0 b n o → length b ≤ 74
     → record { octets = o; len = n } ≡ held b
 unfolding held
-held-is b w h = rw (w .octets ∙ sets-start b (replicate 74 0) h, w .place, zero-add (length b))
+held-is b w h = rw (w .octets ∙ sets-start b (replicate 74 0) h, w .count, zero-add (length b))
 
 module _ (row : List ℕ) (count : ℕ) (h : length row ≡ 19) {n : ℕ} (e : n ≡ min count 19) where
   within : take n row ≡ take count row

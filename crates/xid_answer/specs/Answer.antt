@@ -1,9 +1,7 @@
 -- The payloads of the answers. 01, "XID: scan and assignment". i are the octets of the identity, unpadded.
 --   scanParams i a     == the parameters of the answer to a scan, from the address a; scanAnswer i a == its payload
 --   assignmentParams i == those of the answer to an assignment; assignmentAnswer i == its payload
---   held b             == the octets b in a payload of the record, zeros behind them
 --   opening k          == the three octets before the triples, with the length k
---   Puts o at b n o'   == the octets b are stored in o from `at` on, as far as it goes: o' is left, n the place behind
 -- Assumes nothing.
 use mathlib.Core.Path.{_≡_}
 use mathlib.Core.List.{List, [], _∷_}
@@ -31,12 +29,5 @@ scanAnswer i a = payloadOf (scanParams i a)
 unfoldable pub assignmentAnswer : List ℕ → List ℕ
 assignmentAnswer i = payloadOf (assignmentParams i)
 
-unfoldable pub held : List ℕ → Payload
-held b = record { octets = b atStartOf replicate replyMost 0; len = length b }
-
 abbrev pub opening : ℕ → List ℕ
 opening k = 0x81 ∷ 0xF0 ∷ k ∷ []
-
-pub record Puts (o : List ℕ) (at : ℕ) (b : List ℕ) (n : ℕ) (o' : List ℕ) : Type 0 where
-  pub place : n ≡ at + length b
-  pub octets : o' ≡ sets o at b

@@ -30,7 +30,7 @@ put-param-requires-2 c κs =
     let own = c .before .before .before .before in
     let start = own .before .before .before .before .before .before .before .before in
     let long = length-triple 1 (start .args .identity .now) in
-    (omega (arith, own .put-param .ensures .place, long, start .pre), omega arith)
+    (omega (arith, own .put-param .ensures .count, long, start .pre), omega arith)
 
 same-length : tie.Need-same-length
 same-length c = search needs

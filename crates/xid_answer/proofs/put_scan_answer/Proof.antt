@@ -31,7 +31,7 @@ put-param-requires-2 c κs =
     let own = c .before .before .before .before in
     let start = own .before .before .before .before .before .before .before .before in
     let long = length-triple 1 (start .args .identity .now) in
-    (omega (arith, own .put-param .ensures .place, long, start .pre), omega arith)
+    (omega (arith, own .put-param .ensures .count, long, start .pre), omega arith)
 
 slice-aggregate-put-param-2 : tie.Need-slice-aggregate-put-param-2
 slice-aggregate-put-param-2 c = search needs
@@ -43,8 +43,8 @@ put-param-requires-3 c κs =
     let start = own .before .before .before .before .before .before .before .before in
     let long = length-triple 1 (start .args .identity .now) in
     let more = length-triple 2 (start .args .address ∷ []) in
-    let place = own .put-param .ensures .place in
-    (omega (arith, from .put-param2 .ensures .place, more, place, long, start .pre), omega arith)
+    let count = own .put-param .ensures .count in
+    (omega (arith, from .put-param2 .ensures .count, more, place, long, start .pre), omega arith)
 
 same-length : tie.Need-same-length
 same-length c = search needs

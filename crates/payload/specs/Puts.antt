@@ -1,4 +1,4 @@
--- What the parts of this crate promise each other.
+-- What a function promises that puts octets into a buffer, one run behind the other.
 --   Puts o at b n o' == the octets b are stored into o from the place at on: n is the place behind them, o' is left
 -- Assumes nothing.
 use mathlib.Core.Path.{_≡_}
