@@ -4,7 +4,8 @@
 ghost use mathlib.Core.Path.{_≡_};
 ghost use lib.ListN.{length, take, drop};
 ghost use Rattle.params.specs.Field.{identityLong, rightLength, opened, triplesOf};
-ghost use Rattle.params.specs.Walk.{standsAt, isAbsent, partOf, withPart, takesPart, noParts, takenFrom, walkOf};
+ghost use Rattle.params.specs.Walk.{standsAt, isAbsent, partOf, partsOf, withPart, takesPart, noParts};
+ghost use Rattle.params.specs.Walk.{takenFrom, walkOf};
 
 // What stands at a place of a field: its end; less than a whole triple; a triple, its value `len` octets at `from`.
 pub enum Stands {
@@ -138,6 +139,18 @@ fn part_of(parts: Parts, id: u8) -> Part
     Part::Absent
 }
 
+fn parts_of(identity: Part, address: Part, mask: Part, kind: Part, vendor: Part) -> Parts
+    ensures { λ r. ⌜ r ≡ partsOf identity address mask kind vendor ⌝ }
+{
+    Parts {
+        identity,
+        address,
+        mask,
+        kind,
+        vendor,
+    }
+}
+
 fn with_part(parts: Parts, id: u8, part: Part) -> Parts
     ensures { λ r. ⌜ r ≡ withPart parts id part ⌝ }
 {
@@ -147,49 +160,19 @@ fn with_part(parts: Parts, id: u8, part: Part) -> Parts
     let kind = parts.kind;
     let vendor = parts.vendor;
     if id == 1 {
-        return Parts {
-            identity: part,
-            address,
-            mask,
-            kind,
-            vendor,
-        };
+        return parts_of(part, address, mask, kind, vendor);
     }
     if id == 2 {
-        return Parts {
-            identity,
-            address: part,
-            mask,
-            kind,
-            vendor,
-        };
+        return parts_of(identity, part, mask, kind, vendor);
     }
     if id == 3 {
-        return Parts {
-            identity,
-            address,
-            mask: part,
-            kind,
-            vendor,
-        };
+        return parts_of(identity, address, part, kind, vendor);
     }
     if id == 4 {
-        return Parts {
-            identity,
-            address,
-            mask,
-            kind: part,
-            vendor,
-        };
+        return parts_of(identity, address, mask, part, vendor);
     }
     if id == 6 {
-        return Parts {
-            identity,
-            address,
-            mask,
-            kind,
-            vendor: part,
-        };
+        return parts_of(identity, address, mask, kind, part);
     }
     parts
 }
