@@ -5,7 +5,10 @@
 --   rightLength n k  == there is a parameter n, and it may have k octets
 --   identifiers ps   == the identifiers of ps, in their order
 --   WellFormed m ps  == the octets m are the payload of the parameters ps, and these are as 01 says
---   triplesOf s      == the parameters whose triples fill s exactly, where there are such
+--   triplesOf s      == the parameters whose triples fill s exactly, where there are such; triplesAfter k s == those
+--                       of s without its first k octets
+--   opened m         == m begins 0x81, 0xF0, the length of all that follows
+--   allRight, noneTwice, checked == the tests for right lengths and repeats
 --   paramsOf m       == the parameters of the payload m, where it is well formed
 --   valueOf n ps     == the value of the parameter n, where it is given
 --   given x          == a value is given; octetsIn x == its octets, none where it is not given

@@ -1,6 +1,6 @@
 -- The walk through a payload: a place in it, and the parts found so far.
 --   standsAt s at      == what stands at the place `at` of s
---   partOf f n         == the part of f for the identifier n; withPart f n p == f with p there
+--   partOf f n         == the part of f for the identifier n; withPart f n p == f with p there; partsOf == all five
 --   takesPart f n k    == with f found so far, a triple n of k octets is taken: its length is right, it repeats none
 --   takenFrom f at x   == the parts of f, and those of the triples x that begin at the place `at`
 --   partsAt at ps      == where the values of ps stand, whose triples begin at the place `at`
@@ -41,20 +41,15 @@ partOf f n =
     (cond (eqb n 3) (f .mask) (cond (eqb n 4) (f .kind) (cond (eqb n 6) (f .vendor) Absent))))
 
 abbrev pub partsOf : Part → Part → Part → Part → Part → Parts
-partsOf identity address mask kind vendor =
-    record { identity = identity; address = address; mask = mask; kind = kind; vendor = vendor }
+partsOf i a m k v = record { identity = i; address = a; mask = m; kind = k; vendor = v }
 
 unfoldable pub withPart : Parts → ℕ → Part → Parts
 withPart f n p =
-    cond (eqb n 1) (record { identity = p; address = f .address; mask = f .mask; kind = f .kind; vendor = f .vendor })
-    (cond (eqb n 2)
-    (record { identity = f .identity; address = p; mask = f .mask; kind = f .kind; vendor = f .vendor })
-    (cond (eqb n 3)
-    (record { identity = f .identity; address = f .address; mask = p; kind = f .kind; vendor = f .vendor })
-    (cond (eqb n 4)
-    (record { identity = f .identity; address = f .address; mask = f .mask; kind = p; vendor = f .vendor })
-    (cond (eqb n 6)
-    (record { identity = f .identity; address = f .address; mask = f .mask; kind = f .kind; vendor = p }) f))))
+    cond (eqb n 1) (partsOf p (f .address) (f .mask) (f .kind) (f .vendor))
+    (cond (eqb n 2) (partsOf (f .identity) p (f .mask) (f .kind) (f .vendor))
+    (cond (eqb n 3) (partsOf (f .identity) (f .address) p (f .kind) (f .vendor))
+    (cond (eqb n 4) (partsOf (f .identity) (f .address) (f .mask) p (f .vendor))
+    (cond (eqb n 6) (partsOf (f .identity) (f .address) (f .mask) (f .kind) p) f))))
 
 unfoldable pub takesPart : Parts → ℕ → ℕ → Bool
 takesPart f n k = rightLength n k && isAbsent (partOf f n)

@@ -4,8 +4,8 @@
 ghost use mathlib.Core.Path.{_≡_};
 ghost use lib.ListN.{length, take, drop};
 ghost use Rattle.params.specs.Field.{identityLong, rightLength, opened, triplesOf};
-ghost use Rattle.params.specs.Walk.{partsOf};
-ghost use Rattle.params.specs.Walk.{standsAt, isAbsent, partOf, withPart, takesPart, noParts, takenFrom, walkOf};
+ghost use Rattle.params.specs.Walk.{standsAt, isAbsent, partOf, partsOf, withPart, takesPart, noParts};
+ghost use Rattle.params.specs.Walk.{takenFrom, walkOf};
 
 // What stands at a place of a field: its end; less than a whole triple; a triple, its value `len` octets at `from`.
 pub enum Stands {

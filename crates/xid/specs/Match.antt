@@ -1,14 +1,17 @@
 -- What the payload of an XID frame to 0xFF means to a device. 01, "XID: scan and assignment". w are the values given
 -- in a well-formed payload, i the octets of the device's identity, unpadded.
---   isScan w            == w is a scan: "exactly 1 and 3, of equal length"
+--   deviceType          == 0x01
+--   isScan w            == w is a scan: "exactly 1 and 3, of equal length"; scanShape == the first half of it
 --   isAssignment w      == w is an assignment: "2 present, 3 absent"
 --   scanMatches i w     == the scan w is answered by the identity i
 --   addressOf w         == the address value; `addressed` (1 to 254) says whether it is one
 --   identityMatches i x == "If 1 is given": its value x is the end of the identity i
 --   kindMatches x       == "If 4 .. is given": its value x is the device's type
 --   vendorMatches i x   == "If .. 6 is given": its value x is the vendor of the identity i
---   judged i w          == scan, assignment or silence
+--   assignmentMatches   == all four of an assignment: address value, identity, type, vendor
+--   judged i w          == scan, assignment or silence; assigned i w == of an assignment
 --   readOf i m          == the same of the payload m: a malformed one is silence
+--   isGiven p           == the walk found a part p
 -- Assumes nothing.
 use mathlib.Core.Bool.{Bool, true, false, cond, not, _&&_}
 use mathlib.Core.List.{List, [], _∷_}

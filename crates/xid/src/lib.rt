@@ -1,6 +1,6 @@
-// What an XID payload to 0xFF means to a device with this plate, and the payloads of its answers. Assumes nothing of
-// its caller: any plate, any octets. Headline: a scan is answered exactly if the padded identity under the mask is the
-// value, an assignment taken exactly if all that it names fits (proofs/Exactly.antt).
+// What the payload of an XID frame to 0xFF means to a device with this plate. Headline: a scan is answered exactly if
+// the padded identity under the mask is the value, an assignment taken exactly if all that it names fits, and no
+// payload is both (proofs/Exactly.antt). Assumes nothing of its caller: any plate, any octets.
 ghost use mathlib.Core.Path.{_≡_};
 ghost use Prim.Native.Nat.{min};
 ghost use lib.ListN.{take, getD};

@@ -1,11 +1,14 @@
 -- `params::with_part` meets its promise: one test after the other. Assumes nothing.
+use mathlib.Core.Path.{sym, _∙_}
 use borrow.Author.Tests.{eq-eqb, ne-eqb}
-use Rattle.params.specs.Walk.{withPart}
-use mathlib.Core.Path.{sym}
 use Rattle.octets.proofs.Rules.{tests}
+use Rattle.params.specs.Walk.{withPart}
 use borrow.Author.Needs.{needs}
 use Rattle.params.proofs.with_part.Statement.{statement}
 use Rattle.params.proofs.with_part.Tie as tie
+use Rattle.params.proofs.with_part.Reads as reads
+use Rattle.params.proofs.with_part.Lts as lts
+use Rattle.params.proofs.parts_of.Reads as parts-of-reads
 
 parts-of-requires : tie.Need-parts-of-requires
 parts-of-requires c κs = search needs
@@ -34,15 +37,12 @@ parts-of-requires-4 c κs = search needs
 returns-4 : tie.Need-returns-4
 unfolding withPart
 returns-4 c =
-    simp (
-      c .parts-of4 .ensures,
-      ne-eqb _ _ (c .before .before .before .before .if1 .left),
-      ne-eqb _ _
-          (c .before .before .before .if2 .left),
-      ne-eqb _ _ (c .before .before .if3 .left),
-      eq-eqb _ _
-          (c .before .if4 .taken),
-    )
+    let third = c .before .before in
+    let n = third .before .before .before .args .id in
+    let one = ne-eqb n 1 (third .before .before .if1 .left) in
+    let two = ne-eqb n 2 (third .before .if2 .left) in
+    let three = ne-eqb n 3 (third .if3 .left) in
+    c .parts-of4 .ensures ∙ simp (one, two, three, eq-eqb n 4 (c .before .if4 .taken))
 
 parts-of-requires-5 : tie.Need-parts-of-requires-5
 parts-of-requires-5 c κs = search needs
@@ -50,16 +50,13 @@ parts-of-requires-5 c κs = search needs
 returns-5 : tie.Need-returns-5
 unfolding withPart
 returns-5 c =
-    simp (
-      c .parts-of5 .ensures,
-      ne-eqb _ _ (c .before .before .before .before .before .if1 .left),
-      ne-eqb _ _
-          (c .before .before .before .before .if2 .left),
-      ne-eqb _ _ (c .before .before .before .if3 .left),
-      ne-eqb _ _
-          (c .before .before .if4 .left),
-      eq-eqb _ _ (c .before .if5 .taken),
-    )
+    let third = c .before .before .before in
+    let n = third .before .before .before .args .id in
+    let one = ne-eqb n 1 (third .before .before .if1 .left) in
+    let two = ne-eqb n 2 (third .before .if2 .left) in
+    let three = ne-eqb n 3 (third .if3 .left) in
+    let four = ne-eqb n 4 (c .before .before .if4 .left) in
+    c .parts-of5 .ensures ∙ simp (one, two, three, four, eq-eqb n 6 (c .before .if5 .taken))
 
 returns-6 : tie.Need-returns-6
 unfolding withPart
