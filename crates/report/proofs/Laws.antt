@@ -11,11 +11,11 @@ use lib.ListN.{length, take, length-take, length-drop}
 use Rattle.octets.proofs.Words.{true-not-false}
 use Rattle.antenna.specs.declared.Alarms.{Alarms}
 use Rattle.antenna.specs.Alarms.{alarmCodes, codesOf, changesAmong, changesOf, differs, anyDiffer, stateOf}
-use Rattle.record.specs.Allowed.{productOf, hardwareOf, softwareOf, platesAllowed, identityAllowed}
+use Rattle.record.specs.Allowed.{identityOf, productOf, hardwareOf, softwareOf, platesAllowed, identityAllowed}
 use Rattle.record.specs.declared.Plate.{Plate}
 use Rattle.payload.specs.Payloads.{successOf}
 use Rattle.payload.proofs.Laws.{length-message, length-success}
-use Rattle.report.specs.Reports.{serialOf, informationOf, indicationOf}
+use Rattle.report.specs.Reports.{withoutVendor, serialOf, informationOf, indicationOf}
 use Rattle.report.proofs.Counts.{length-texts, length-codes, length-changes}
 
 -- at most 10 octets tell the alarms, and at most 15 which have changed
@@ -59,6 +59,9 @@ both false b e = absurd (true-not-false (sym e))
 taken : (n k : ℕ) (s : List ℕ) → leb n k ≡ true → length (take n s) ≤ k
 taken n k s e = simp length-take (omega (arith, leb-true n k e))
 
+behind : (i : List ℕ) → length i ≤ 19 → length (withoutVendor i) ≤ 17
+behind i h = simp length-drop (omega arith)
+
 -- the texts of a plate that is allowed are so short
 pub allowed-short : (p : Plate) → platesAllowed p ≡ true → Short p
 unfolding platesAllowed identityAllowed
@@ -69,7 +72,7 @@ allowed-short p h =
     let name = taken (p .identity .len) 19 (p .identity .octets) (both _ _ (first .0) .0) in
     record {
       product = taken (p .product .len) 20 (p .product .octets) (second .0);
-      serial = simp length-drop (omega (arith, name));
+      serial = behind (identityOf p) name;
       hardware = taken (p .hardware .len) 14 (p .hardware .octets) (third .0);
       software = taken (p .software .len) 14 (p .software .octets) (third .1);
     }
