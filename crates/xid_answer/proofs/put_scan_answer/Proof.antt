@@ -44,7 +44,7 @@ put-param-requires-3 c κs =
     let long = length-triple 1 (start .args .identity .now) in
     let more = length-triple 2 (start .args .address ∷ []) in
     let count = own .put-param .ensures .count in
-    (omega (arith, from .put-param2 .ensures .count, more, place, long, start .pre), omega arith)
+    (omega (arith, from .put-param2 .ensures .count, more, count, long, start .pre), omega arith)
 
 same-length : tie.Need-same-length
 same-length c = search needs
