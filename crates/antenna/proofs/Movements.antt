@@ -2,6 +2,7 @@
 use mathlib.Core.Path.{_≡_, refl, sym, ap, _∙_}
 use mathlib.Core.Bool.{Bool, true, false, cond, _&&_}
 use mathlib.Core.Logic.{_↔_}
+use Prim.Native.Nat.{ℕ}
 use Rattle.octets.proofs.Words.{true-not-false}
 use Rattle.antenna.specs.declared.Angle.{Angle}
 use Rattle.antenna.specs.declared.Antenna.{Antenna}
@@ -12,7 +13,7 @@ use Rattle.antenna.specs.declared.Aim.{Aim}
 use Rattle.antenna.specs.declared.Aim.the-variants.{Busy, Outside, Started}
 use Rattle.antenna.specs.Angles.{sameAs}
 use Rattle.antenna.specs.Motions.{inRange, busyOf, owesOf, waitingOf, unowedOf, moves, aimOf, started, runs}
-use Rattle.antenna.specs.Events.{restedOf}
+use Rattle.antenna.specs.Events.{restedOf, withAlarm}
 
 busy-not-started : Busy ≡ Started → ⊥
 busy-not-started e = true-not-false (cc)
@@ -70,3 +71,35 @@ idle Still e = refl
 idle Moving e = absurd (true-not-false e)
 idle (Owing asked) e = absurd (true-not-false e)
 idle (Stopped reached) e = absurd (true-not-false e)
+
+result-same : (a b : Bool) → Result a ≡ Result b → b ≡ a
+result-same a b e = cc
+
+nothing-not-result : (r : Bool) → Nothing ≡ Result r → ⊥
+nothing-not-result r e = true-not-false (cc)
+
+-- a movement that starts makes no result that waits
+pub starts-no-result : (n : Antenna) (t : Angle) (r : Bool) → waitingOf (started n t Started .motion) ≡ Result r → ⊥
+unfolding started moves waitingOf
+starts-no-result n t r e = nothing-not-result r e
+
+-- a result waits after a stop exactly where the movement owed one: success exactly if the stop is at the tilt asked
+pub stop-result : (m : Motion) (t : Angle) (r : Bool) → runs m ≡ true → waitingOf (restedOf m t) ≡ Result r
+    → (asked : Angle) × (m ≡ Owing asked) × (r ≡ sameAs asked t)
+unfolding runs restedOf waitingOf
+stop-result Still t r h e = absurd (true-not-false (sym h))
+stop-result Moving t r h e = absurd (nothing-not-result r e)
+stop-result (Owing asked) t r h e = (asked, refl, result-same (sameAs asked t) r e)
+stop-result (Stopped reached) t r h e = absurd (true-not-false (sym h))
+
+-- an alarm makes none, and a session's end drops it
+pub alarm-no-result : (n : Antenna) (k : ℕ) (on : Bool) → waitingOf (withAlarm n k on .motion) ≡ waitingOf (n .motion)
+unfolding withAlarm
+alarm-no-result n k on = refl
+
+pub end-no-result : (m : Motion) → waitingOf (unowedOf m) ≡ Nothing
+unfolding waitingOf unowedOf
+end-no-result Still = refl
+end-no-result Moving = refl
+end-no-result (Owing asked) = refl
+end-no-result (Stopped reached) = refl

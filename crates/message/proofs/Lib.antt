@@ -2,6 +2,7 @@
 pub mod Exact
 pub mod Fails
 pub mod Judged
+pub mod Kept
 pub mod Moves
 pub mod Only
 pub mod Samples
