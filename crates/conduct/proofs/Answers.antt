@@ -1,0 +1,159 @@
+-- SNRM to an assigned device gets UA and a new session, in a session too. In every state a scan that matches is
+-- answered and changes nothing, and an assignment that matches ends any session, takes the address and is answered
+-- from it; one that does not match is silence. Assumes nothing.
+use mathlib.Core.Path.{_≡_, refl, sym, ap, _∙_}
+use mathlib.Core.Bool.{Bool, true, false, cond, _&&_}
+use mathlib.Core.List.{List, [], _∷_}
+use mathlib.Core.Option.{Option}
+use Prim.Native.Nat.{ℕ, _+_, _≤_}
+use native.Mathlib.Omega.{arith}
+use borrow.Author.Tests.{ltb-true, eq-eqb, ne-eqb}
+use lib.Dec.{ltb, eqb}
+use lib.ListN.{length, drop}
+use Rattle.octets.proofs.Words.{true-not-false}
+use Rattle.identity.specs.Bits.{masked}
+use Rattle.identity.specs.Identity.{padded, answersScan}
+use Rattle.identity.proofs.Identities.{and-parts}
+use Rattle.identity.proofs.Scans.{same-is}
+use Rattle.control.specs.Control.{polled, askedBy}
+use Rattle.control.specs.declared.Order.the-variants.{Snrm}
+use Rattle.record.specs.declared.Link.{Link}
+use Rattle.record.specs.declared.Link.the-variants.{NoAddress, AddressAssigned, Connected}
+use Rattle.record.specs.declared.Station.{Station}
+use Rattle.record.specs.declared.Device.{Device}
+use Rattle.record.specs.Allowed.{identityOf, addressed, sessionAllowed, linkAllowed, stationAllowed, allowedDevice}
+use Rattle.record.specs.Changes.{unsaidAt, endedAs}
+use Rattle.record.proofs.Stays.{sound}
+use Rattle.xid.specs.Match.{readOf, identityMatches, kindMatches, vendorMatches}
+use Rattle.xid.specs.Meaning.{ScanOf, AssignmentOf, Meant, Answers, Takes}
+use Rattle.xid.specs.declared.Xid.{Xid}
+use Rattle.xid.specs.declared.Xid.the-variants as xid
+use Rattle.xid.proofs.Exactly.{scan-read, scan-exactly, assignment-read, assignment-exactly, matches-exactly}
+use Rattle.station.specs.declared.Say.{Say}
+use Rattle.turn.specs.declared.Turn.{Turn}
+use Rattle.turn.specs.Turns.{saying, mute}
+use Rattle.link.specs.Link.{newSession, begun, ua, connectedBy, assignedBy, linkedBy, quiet, isOwn, xidBy, frameMost}
+use Rattle.link.specs.Link.{judgedFrame}
+use Rattle.link.specs.Frames.{controlOf, hasAddress, Own, Everyone}
+use Rattle.link.proofs.Cases.{own-is, everyone-is}
+use Rattle.conduct.specs.Conduct.{after}
+
+-- ---- SNRM
+
+link-addressed : (t : Station) (l : Link) → linkAllowed t l ≡ true → hasAddress l ≡ true
+    → addressed (t .address) ≡ true
+unfolding linkAllowed
+link-addressed t NoAddress e h = absurd (true-not-false (sym h))
+link-addressed t AddressAssigned e h = e
+link-addressed t (Connected s) e h = and-parts (addressed (t .address)) (sessionAllowed t s) e .0
+
+-- an address that is assigned is neither 0 nor 0xFF
+addressed-bounds : (a : ℕ) → addressed a ≡ true → (1 ≤ a) × (a ≤ 254)
+unfolding addressed
+addressed-bounds a e =
+    let parts = and-parts (ltb 0 a) (ltb a 255) e in
+    (ltb-true 0 a (parts .0), omega (arith, ltb-true a 255 (parts .1)))
+
+snrm-linked : (d : Device) (l : Link) (c : ℕ) (p : List ℕ) → hasAddress l ≡ true
+    → linkedBy d l Snrm c p ≡ saying (begun d) ua
+unfolding linkedBy assignedBy connectedBy
+snrm-linked d NoAddress c p h = absurd (true-not-false (sym h))
+snrm-linked d AddressAssigned c p h = refl
+snrm-linked d (Connected s) c p h = refl
+
+-- every SNRM that is read, where an address is assigned
+pub snrm-begins : (d : Device) (f : List ℕ) → Own d f Snrm → hasAddress (d .station .link) ≡ true
+    → judgedFrame d f ≡ saying (begun d) ua
+snrm-begins d f w h = own-is d f Snrm w ∙ snrm-linked d (d .station .link) (controlOf f) (drop 2 f) h
+
+module _ (d : Device) (allowed : allowedDevice d ≡ true) (assigned : hasAddress (d .station .link) ≡ true) where
+  snrm-own : Own d (d .station .address ∷ 0x93 ∷ []) Snrm
+  unfolding stationAllowed polled askedBy quiet isOwn
+  snrm-own =
+      let a = d .station .address in
+      let bounds =
+      addressed-bounds a
+      (link-addressed (d .station) (d .station .link) (sound d allowed .station) assigned) in
+      let zero : eqb a 0 ≡ false = ne-eqb a 0 (λ e. omega (arith, bounds .0, e)) in
+      let self : eqb a a ≡ true = eq-eqb a a refl in
+      record {
+        least = omega arith;
+        most = omega arith;
+        poll = refl;
+        all = ne-eqb a 0xFF (λ e. omega (arith, bounds .1, e));
+        own = rw (zero, self);
+        order = refl;
+        read = refl;
+      }
+
+  pub snrm-answered : judgedFrame d (d .station .address ∷ 0x93 ∷ []) ≡ saying (begun d) ua
+  snrm-answered = snrm-begins d (d .station .address ∷ 0x93 ∷ []) snrm-own assigned
+
+  pub snrm-connects : after d (d .station .address ∷ 0x93 ∷ []) .station .link ≡ Connected newSession
+  unfolding saying begun endedAs unsaidAt
+  snrm-connects = ap (λ (t : Turn). t .device .station .link) snrm-answered
+
+-- ---- XID
+
+xid-means : (d : Device) (f : List ℕ) → Everyone f → (x : Xid) → readOf (identityOf (d .plate)) (drop 2 f) ≡ x
+    → judgedFrame d f ≡ xidBy d x
+xid-means d f w x e = everyone-is d f w ∙ ap (xidBy d) e
+
+-- every assignment that is read and matches
+pub assignment-ends : (d : Device) (f : List ℕ) (a : ℕ) → Everyone f → Takes (identityOf (d .plate)) (drop 2 f) a
+    → judgedFrame d f ≡ saying (endedAs d a AddressAssigned) Say.Assigned
+unfolding xidBy
+assignment-ends d f a w t =
+    xid-means d f w (xid.Assignment a) (assignment-exactly (identityOf (d .plate)) (drop 2 f) a .1 t)
+
+-- a frame to everyone with the payload m
+module _ (d : Device) (m : List ℕ) (fits : length m + 2 ≤ frameMost) where
+  to-everyone : Everyone (0xFF ∷ 0xBF ∷ m)
+  to-everyone = record { least = omega arith; most = omega arith; address = refl; control = refl }
+
+  pub scan-answered : Answers (identityOf (d .plate)) m → judgedFrame d (0xFF ∷ 0xBF ∷ m) ≡ saying d Say.Scanned
+  unfolding xidBy
+  scan-answered w =
+      xid-means d (0xFF ∷ 0xBF ∷ m) to-everyone xid.Scan (scan-exactly (identityOf (d .plate)) m .1 w)
+
+  pub scan-silent : (v k : List ℕ) → ScanOf m v k → (masked (padded (identityOf (d .plate))) k ≡ v → ⊥)
+      → judgedFrame d (0xFF ∷ 0xBF ∷ m) ≡ mute d
+  unfolding xidBy answersScan
+  scan-silent v k w other = go (answersScan (identityOf (d .plate)) k v) refl
+    where
+      go : (b : Bool) → answersScan (identityOf (d .plate)) k v ≡ b → judgedFrame d (0xFF ∷ 0xBF ∷ m) ≡ mute d
+      go true e = absurd (other (same-is _ _ e))
+      go false e =
+          xid-means d (0xFF ∷ 0xBF ∷ m) to-everyone xid.Silence
+          (scan-read (identityOf (d .plate)) m v k w ∙ ap (λ (b : Bool). cond b xid.Scan xid.Silence) e)
+
+  module _ (a : ℕ) where
+    pub assignment-taken : Takes (identityOf (d .plate)) m a
+        → judgedFrame d (0xFF ∷ 0xBF ∷ m) ≡ saying (endedAs d a AddressAssigned) Say.Assigned
+    assignment-taken w = assignment-ends d (0xFF ∷ 0xBF ∷ m) a to-everyone w
+
+    -- "the address is taken, the state is AddressAssigned"
+    pub assignment-addresses : Takes (identityOf (d .plate)) m a
+        → (after d (0xFF ∷ 0xBF ∷ m) .station .address ≡ a)
+        × (after d (0xFF ∷ 0xBF ∷ m) .station .link ≡ AddressAssigned)
+    unfolding saying endedAs unsaidAt
+    assignment-addresses w = (
+      ap (λ (t : Turn). t .device .station .address) (assignment-taken w),
+      ap (λ (t : Turn). t .device .station .link) (assignment-taken w),
+    )
+
+    pub assignment-silent : (x y z : Option (List ℕ)) → AssignmentOf m a x y z
+        → (Meant (identityOf (d .plate)) a x y z → ⊥) → judgedFrame d (0xFF ∷ 0xBF ∷ m) ≡ mute d
+    unfolding xidBy
+    assignment-silent x y z w other =
+        go (addressed a && (identityMatches i x && (kindMatches y && vendorMatches i z))) refl
+      where
+        i : List ℕ
+        i = identityOf (d .plate)
+
+        go : (b : Bool) → addressed a && (identityMatches i x && (kindMatches y && vendorMatches i z)) ≡ b
+            → judgedFrame d (0xFF ∷ 0xBF ∷ m) ≡ mute d
+        go true e = absurd (other (matches-exactly i a x y z .0 e))
+        go false e =
+            xid-means d (0xFF ∷ 0xBF ∷ m) to-everyone xid.Silence
+            (assignment-read i m a x y z w ∙ ap (λ (b : Bool). cond b (xid.Assignment a) xid.Silence) e)

@@ -1,0 +1,42 @@
+-- An RR gets the indication where nothing pends, no result waits and there is something to tell. Assumes nothing.
+use mathlib.Core.Path.{_≡_, ap, _∙_}
+use mathlib.Core.Bool.{true, false}
+use mathlib.Core.List.{List}
+use Prim.Native.Nat.{ℕ}
+use Rattle.control.specs.declared.Order.the-variants.{Rr}
+use Rattle.antenna.specs.declared.Waits.the-variants.{Nothing}
+use Rattle.antenna.specs.Motions.{waitingOf}
+use Rattle.record.specs.declared.Pending.the-variants.{Indication}
+use Rattle.record.specs.declared.Session.{Session}
+use Rattle.record.specs.declared.Link.the-variants.{Connected}
+use Rattle.record.specs.declared.Device.{Device}
+use Rattle.session.specs.Session.{pends}
+use Rattle.station.specs.Station.{sessionAfter, stationAfter, awaiting, indicates, toTell}
+use Rattle.turn.specs.declared.Turn.{Turn}
+use Rattle.turn.specs.Turns.{saying, deviceOf, acknowledged}
+use Rattle.turn.specs.Sessions.{pend, idlePoll, waitingPoll, pollOf, polledBy}
+use Rattle.link.specs.Link.{judgedFrame}
+use Rattle.link.specs.Frames.{Numbered}
+use Rattle.conduct.specs.Conduct.{after}
+use Rattle.conduct.proofs.Settles.{rr-is}
+
+module _ (d : Device) (f : List ℕ) (r : ℕ) (s : Session) (w : Numbered d f (Rr r) r s)
+    (free : pends (sessionAfter s r .pending) ≡ false) (none : waitingOf (d .antenna .motion) ≡ Nothing)
+    (news : toTell (stationAfter (d .station) s r) (d .antenna) ≡ true) where
+  pub indication-sent : judgedFrame d f
+      ≡ saying
+      (deviceOf d (indicates (stationAfter (d .station) s r) (sessionAfter s r) (d .antenna .raised)) (d .antenna))
+      (pend (sessionAfter s r))
+  unfolding polledBy pollOf waitingPoll idlePoll acknowledged deviceOf
+  indication-sent = rr-is d f s r w ∙ rw (free, none, news)
+
+  -- it pends, it says what is raised, and told is not yet changed by it
+  pub indication-pends : (after d f .station .link ≡ Connected (awaiting (sessionAfter s r) Indication))
+      × (after d f .station .said ≡ d .antenna .raised)
+      × (after d f .station .told ≡ stationAfter (d .station) s r .told)
+  unfolding saying deviceOf indicates
+  indication-pends = (
+    ap (λ (t : Turn). t .device .station .link) indication-sent,
+    ap (λ (t : Turn). t .device .station .said) indication-sent,
+    ap (λ (t : Turn). t .device .station .told) indication-sent,
+  )

@@ -1,0 +1,149 @@
+-- An allowed record stays allowed under every frame: the device never makes a record that it would refuse.
+-- Assumes nothing.
+use mathlib.Core.Path.{_≡_, refl, ap}
+use mathlib.Core.Bool.{Bool, true, false, false≢true}
+use mathlib.Core.List.{List}
+use Prim.Native.Nat.{ℕ}
+use native.Mathlib.Omega.{arith}
+use borrow.Author.Tests.{lt-ltb}
+use lib.Dec.{leb}
+use lib.ListN.{drop}
+use Rattle.identity.proofs.Identities.{and-parts}
+use Rattle.antenna.specs.declared.Motion.the-variants.{Still}
+use Rattle.antenna.specs.Motions.{inRange, moves}
+use Rattle.record.specs.declared.Pending.the-variants.{Answer, Indication}
+use Rattle.record.specs.declared.Session.{Session}
+use Rattle.record.specs.declared.Link.{Link}
+use Rattle.record.specs.declared.Link.the-variants.{NoAddress, AddressAssigned, Connected}
+use Rattle.record.specs.declared.Station.{Station}
+use Rattle.record.specs.declared.Device.{Device}
+use Rattle.record.specs.Allowed.{identityOf, numbersAllowed, pendingFits, sessionAllowed, addressed, linkAllowed}
+use Rattle.record.specs.Allowed.{stationAllowed, allowedDevice, replyMost}
+use Rattle.record.specs.Changes.{unsaidAt, endedAs}
+use Rattle.record.proofs.Stays.{sound, end-stays}
+use Rattle.session.specs.Session.{taken}
+use Rattle.session.proofs.Numbers.{accepts-exactly}
+use Rattle.station.specs.Station.{sessionAfter, answersWith, indicates, awaiting, heeded, toTell}
+use Rattle.xid.specs.Match.{readOf}
+use Rattle.xid.specs.declared.Xid as xids
+use Rattle.xid.proofs.Exactly.{assignment-exactly}
+use Rattle.payload.specs.Payloads.{messageOf, successOf, failureOf, resultOf, payloadOf}
+use Rattle.message.proofs.Kept.{none-stays, answer-stays}
+use Rattle.turn.specs.declared.Turn.{Turn}
+use Rattle.turn.specs.Turns.{saying, acknowledged, deviceOf}
+use Rattle.turn.specs.Sessions.{pollOf, informOf, repliedBy, informedBy, polledBy, pausedBy}
+use Rattle.link.specs.Link.{begun, released, rejected}
+use Rattle.link.specs.Frames.{hasAddress}
+use Rattle.link.proofs.Cases.{judged-cases}
+use Rattle.conduct.specs.Conduct.{after}
+use Rattle.conduct.proofs.Settles.{nothing-pends}
+use Rattle.conduct.proofs.Turns.{poll-cases, inform-cases}
+use Rattle.conduct.proofs.Within.{Within, within, allowed-within, taken-numbers, settled-within}
+
+abbrev Good : Turn → Type 0
+Good t = allowedDevice (t .device) ≡ true
+
+-- a device that has an address has one of 1 to 254
+has-addressed : (t : Station) (l : Link) → linkAllowed t l ≡ true → hasAddress l ≡ true → addressed (t .address) ≡ true
+unfolding linkAllowed
+has-addressed t NoAddress e h = absurd (false≢true h)
+has-addressed t AddressAssigned e h = e
+has-addressed t (Connected s) e h = and-parts (addressed (t .address)) (sessionAllowed t s) e .0
+
+-- the address that an assignment gives is one of 1 to 254
+assignment-addressed : (i m : List ℕ) (a : ℕ) → readOf i m ≡ xids.Xid.Assignment a → addressed a ≡ true
+unfolding addressed
+assignment-addressed i m a e =
+    let (x, y, z, s, w) = assignment-exactly i m a .0 e in
+    rw (lt-ltb 0 a (w .least), lt-ltb a 255 (omega (arith, w .most)))
+
+-- ---- a session's end and a new one
+
+module _ (d : Device) (allowed : allowedDevice d ≡ true) where
+  assigned-stays : (a : ℕ) → addressed a ≡ true → allowedDevice (endedAs d a AddressAssigned) ≡ true
+  unfolding linkAllowed unsaidAt
+  assigned-stays a e = end-stays d a AddressAssigned allowed e
+
+  module _ (has : hasAddress (d .station .link) ≡ true) where
+    own-address : addressed (d .station .address) ≡ true
+    unfolding stationAllowed
+    own-address = has-addressed (d .station) (d .station .link) (sound d allowed .station) has
+
+    begun-stays : allowedDevice (begun d) ≡ true
+    unfolding begun linkAllowed unsaidAt sessionAllowed numbersAllowed pendingFits
+    begun-stays = end-stays d (d .station .address) _ allowed (rw own-address)
+
+    released-stays : allowedDevice (released d) ≡ true
+    unfolding released
+    released-stays = assigned-stays (d .station .address) own-address
+
+-- ---- in a session, the acknowledged answer being removed
+
+result-fits : (b : Bool) → leb (payloadOf (resultOf b) .len) replyMost ≡ true
+unfolding resultOf successOf messageOf failureOf payloadOf
+result-fits true = refl
+result-fits false = refl
+
+module _ (d : Device) (s : Session) (w : Within d s) where
+  result-stays : (b : Bool) → allowedDevice
+      (deviceOf d (answersWith (d .station) s (payloadOf (resultOf b))) (moves (d .antenna) Still)) ≡ true
+  unfolding deviceOf answersWith awaiting moves inRange pendingFits numbersAllowed
+  result-stays b =
+      allowed-within (deviceOf d (answersWith (d .station) s (payloadOf (resultOf b))) (moves (d .antenna) Still))
+      (awaiting s Answer)
+      (record {
+        plate = w .plate;
+        range = w .range;
+        address = w .address;
+        link = refl;
+        numbers = w .numbers;
+        fits = result-fits b;
+      })
+
+  indication-stays : toTell (d .station) (d .antenna) ≡ true
+      → allowedDevice (deviceOf d (indicates (d .station) s (d .antenna .raised)) (d .antenna)) ≡ true
+  unfolding deviceOf indicates awaiting pendingFits numbersAllowed toTell
+  indication-stays e =
+      allowed-within (deviceOf d (indicates (d .station) s (d .antenna .raised)) (d .antenna)) (awaiting s Indication)
+      (record {
+        plate = w .plate;
+        range = w .range;
+        address = w .address;
+        link = refl;
+        numbers = w .numbers;
+        fits = and-parts (d .station .subscribed) _ e .1;
+      })
+
+  poll-stays : Good (pollOf d s)
+  unfolding saying
+  poll-stays =
+      poll-cases d s Good (λ e. allowed-within d s w) (λ b e. result-stays b) indication-stays (allowed-within d s w)
+
+  inform-stays : (n : ℕ) (m : List ℕ) → Good (informOf d s n m)
+  unfolding saying repliedBy deviceOf heeded answersWith awaiting taken numbersAllowed
+  inform-stays n m =
+      let allowed = allowed-within d s w in
+      inform-cases d s Good n m
+      (λ a e. none-stays d s (taken s) _ m allowed (w .link) refl refl (taken-numbers s (w .numbers))
+      (nothing-pends (s .pending) (accepts-exactly s n .0 a .0)))
+      (λ a e. answer-stays d s (awaiting (taken s) Answer) _ m allowed (w .link) refl refl
+      (taken-numbers s (w .numbers)) refl refl)
+      (λ e. allowed)
+
+-- ---- every frame
+
+pub stays-allowed : (d : Device) (f : List ℕ) → allowedDevice d ≡ true → allowedDevice (after d f) ≡ true
+unfolding saying rejected informedBy polledBy pausedBy
+stays-allowed d f allowed =
+    judged-cases d f Good allowed (λ w e. allowed)
+    (λ a w e. assigned-stays d allowed a (assignment-addressed (identityOf (d .plate)) (drop 2 f) a e))
+    (λ w h. begun-stays d allowed h)
+    (λ o w l. allowed)
+    (λ s w l. released-stays d allowed (ap hasAddress l))
+    (λ s o c w l. released-stays d allowed (ap hasAddress l))
+    (λ s n r w. inform-stays (acknowledged d s r) (sessionAfter s r) (settled s r (w .link)) n (drop 2 f))
+    (λ s r w. poll-stays (acknowledged d s r) (sessionAfter s r) (settled s r (w .link)))
+    (λ s r w. allowed-within (acknowledged d s r) (sessionAfter s r) (settled s r (w .link)))
+  where
+    settled : (s : Session) (r : ℕ) → d .station .link ≡ Connected s → Within (acknowledged d s r) (sessionAfter s r)
+    settled s r l = settled-within d s r (within d s allowed l)

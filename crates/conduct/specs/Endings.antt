@@ -1,0 +1,65 @@
+-- What ends a session, and what a waiting result waits for. 01, "The link": "Ending a session drops the pending answer
+-- and any tilt result owed; alarms, subscription and a running movement stay."
+--   pendingIn l  == what is pending in the link state l
+--   Ends d f     == f ends the session of d, if there is one: it is SNRM, DISC, a frame with a bad N(R) or an unknown
+--                   control, which gets FRMR, or an assignment that d takes
+--   Dropped e    == in the device e nothing is pending and no tilt result is owed
+--   Survives d e == alarms, what was told, subscription, range, tilt and a running movement of d are in e as well
+--   Collects d f == f is RR with a good N(R) that leaves nothing pending in d
+-- Assumes nothing.
+use mathlib.Core.Path.{_≡_}
+use mathlib.Core.Bool.{true, false}
+use mathlib.Core.List.{List}
+use mathlib.Core.Option.{some}
+use Prim.Native.Nat.{ℕ}
+use lib.ListN.{drop}
+use Rattle.control.specs.declared.Order.{Order}
+use Rattle.control.specs.declared.Order.the-variants.{Snrm, Disc, Rr, Unknown}
+use Rattle.antenna.specs.Motions.{runs, owesOf}
+use Rattle.record.specs.declared.Pending.{Pending}
+use Rattle.record.specs.declared.Pending.the-variants.{Nothing}
+use Rattle.record.specs.declared.Session.{Session}
+use Rattle.record.specs.declared.Link.{Link}
+use Rattle.record.specs.declared.Link.the-variants.{NoAddress, AddressAssigned, Connected}
+use Rattle.record.specs.declared.Device.{Device}
+use Rattle.record.specs.Allowed.{identityOf}
+use Rattle.record.specs.Fresh.{calm, noReply}
+use Rattle.session.specs.Session.{pends, goodNumber}
+use Rattle.xid.specs.Meaning.{Takes}
+use Rattle.station.specs.Station.{sessionAfter}
+use Rattle.conduct.specs.Conduct.{numberIn}
+use Rattle.link.specs.Frames.{hasAddress, Own, Numbered, Everyone}
+
+abbrev pub pendingIn : Link → Pending
+pendingIn NoAddress = Nothing
+pendingIn AddressAssigned = Nothing
+pendingIn (Connected s) = s .pending
+
+pub data Ends (d : Device) (f : List ℕ) : Type 0 where
+  begins : Own d f Snrm → hasAddress (d .station .link) ≡ true → Ends d f
+  leaves : (s : Session) → Own d f Disc → d .station .link ≡ Connected s → Ends d f
+  miscounts : (s : Session) (o : Order) (r : ℕ) → Own d f o → d .station .link ≡ Connected s → numberIn o ≡ some r
+      → goodNumber s r ≡ false → Ends d f
+  unknown : (s : Session) → Own d f Unknown → d .station .link ≡ Connected s → Ends d f
+  assigns : (a : ℕ) → Everyone f → Takes (identityOf (d .plate)) (drop 2 f) a → Ends d f
+
+pub record Dropped (e : Device) : Type 0 where
+  pub pending : pendingIn (e .station .link) ≡ Nothing
+  pub reply : e .station .reply ≡ noReply
+  pub said : e .station .said ≡ calm
+  pub owed : owesOf (e .antenna .motion) ≡ false
+
+pub record Survives (d e : Device) : Type 0 where
+  pub raised : e .antenna .raised ≡ d .antenna .raised
+  pub told : e .station .told ≡ d .station .told
+  pub subscribed : e .station .subscribed ≡ d .station .subscribed
+  pub lowest : e .antenna .lowest ≡ d .antenna .lowest
+  pub highest : e .antenna .highest ≡ d .antenna .highest
+  pub tilt : e .antenna .tilt ≡ d .antenna .tilt
+  pub running : runs (e .antenna .motion) ≡ runs (d .antenna .motion)
+
+pub record Collects (d : Device) (f : List ℕ) : Type 0 where
+  pub session : Session
+  pub nr : ℕ
+  pub numbered : Numbered d f (Rr nr) nr session
+  pub free : pends (sessionAfter session nr .pending) ≡ false

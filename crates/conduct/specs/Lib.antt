@@ -1,0 +1,4 @@
+-- What the demands cite of a device's conduct.
+pub mod Conduct
+pub mod Endings
+pub mod Alarms

@@ -1,0 +1,2 @@
+-- What is proved of a device beside its promises.
+pub mod Reacts

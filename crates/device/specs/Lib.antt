@@ -1,0 +1,2 @@
+-- What the bus and the demands cite of a device.
+pub mod Judge

@@ -1,0 +1,4 @@
+-- What is proved of the link beside its promise.
+pub mod Judged
+pub mod Cases
+pub mod Only

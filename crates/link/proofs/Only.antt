@@ -1,0 +1,11 @@
+-- The promise of this crate is one equation, so it allows one result. Assumes nothing.
+use mathlib.Core.Path.{_≡_}
+use mathlib.Core.List.{List}
+use Prim.Native.Nat.{ℕ}
+use Rattle.octets.proofs.Only.{only}
+use Rattle.record.specs.declared.Device.{Device}
+use Rattle.turn.specs.declared.Turn.{Turn}
+use Rattle.link.specs.Link.{judgedFrame}
+
+pub judge-frame-only : (d : Device) (f : List ℕ) {t u : Turn} → t ≡ judgedFrame d f → u ≡ judgedFrame d f → t ≡ u
+judge-frame-only d f = only

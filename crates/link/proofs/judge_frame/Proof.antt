@@ -1,0 +1,61 @@
+-- `link::judge_frame` meets its promise: each way out, by the tests that lead to it. Assumes nothing.
+use Rattle.link.proofs.Judged.{judged-by}
+use Rattle.link.specs.Link.{judgedFrame}
+use Rattle.octets.proofs.Rules.{tests}
+use mathlib.Core.Path.{sym}
+use borrow.Author.Needs.{needs}
+use Rattle.link.proofs.judge_frame.Statement.{statement}
+use Rattle.link.proofs.judge_frame.Tie as tie
+
+say-requires : tie.Need-say-requires
+say-requires c κs = search needs
+
+returns : tie.Need-returns
+unfolding judgedFrame
+returns c = search (tests, sym (c .say .ensures))
+
+say-requires-2 : tie.Need-say-requires-2
+say-requires-2 c κs = search needs
+
+returns-2 : tie.Need-returns-2
+unfolding judgedFrame
+returns-2 c = search (tests, sym (c .say2 .ensures))
+
+shared-slice-read-controlled : tie.Need-shared-slice-read-controlled
+shared-slice-read-controlled c = search needs
+
+shared-slice-read-controlled-2 : tie.Need-shared-slice-read-controlled-2
+shared-slice-read-controlled-2 c = search needs
+
+sub-controlled : tie.Need-sub-controlled
+sub-controlled c = search needs
+
+part-controlled-start : tie.Need-part-controlled-start
+part-controlled-start c = search needs
+
+part-controlled-end : tie.Need-part-controlled-end
+part-controlled-end c = search needs
+
+controlled-requires : tie.Need-controlled-requires
+controlled-requires c κs = search needs
+
+returns-3 : tie.Need-returns-3
+returns-3 c =
+    judged-by _ _ (c .before .before .before .before .before .if1 .left) (c .before .before .before .before .if2 .left) _
+    (c .controlled .ensures)
+
+pub judge-frame-spec : {M : Type 1} → statement M
+judge-frame-spec =
+    tie.close
+    (tie.spec
+    say-requires
+    returns
+    say-requires-2
+    returns-2
+    shared-slice-read-controlled
+    shared-slice-read-controlled-2
+    sub-controlled
+    part-controlled-start
+    part-controlled-end
+    controlled-requires
+    returns-3)

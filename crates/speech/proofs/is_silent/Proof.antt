@@ -1,0 +1,65 @@
+-- `speech::is_silent` meets its promise: each way out, by the tests that lead to it. Assumes nothing.
+use Rattle.speech.specs.Speech.{isSilent}
+use Rattle.octets.proofs.Rules.{tests}
+use borrow.Author.Needs.{needs}
+use Rattle.speech.proofs.is_silent.Statement.{statement}
+use Rattle.speech.proofs.is_silent.Tie as tie
+
+enum-told : tie.Need-enum-told
+enum-told c = search needs
+
+enum-told-2 : tie.Need-enum-told-2
+enum-told-2 c = search needs
+
+enum-told-3 : tie.Need-enum-told-3
+enum-told-3 c = search needs
+
+enum-told-4 : tie.Need-enum-told-4
+enum-told-4 c = search needs
+
+enum-told-5 : tie.Need-enum-told-5
+enum-told-5 c = search needs
+
+enum-told-6 : tie.Need-enum-told-6
+enum-told-6 c = search needs
+
+returns : tie.Need-returns
+unfolding isSilent
+returns c = search (tests, c .enum-told .given .1)
+
+returns-2 : tie.Need-returns-2
+unfolding isSilent
+returns-2 c = search (tests, c .enum-told2 .given .1)
+
+returns-3 : tie.Need-returns-3
+unfolding isSilent
+returns-3 c = search (tests, c .enum-told3 .given .1)
+
+returns-4 : tie.Need-returns-4
+unfolding isSilent
+returns-4 c = search (tests, c .enum-told4 .given .1)
+
+returns-5 : tie.Need-returns-5
+unfolding isSilent
+returns-5 c = search (tests, c .enum-told5 .given .1)
+
+returns-6 : tie.Need-returns-6
+unfolding isSilent
+returns-6 c = search (tests, c .enum-told6 .given .1)
+
+pub is-silent-spec : {M : Type 1} → statement M
+is-silent-spec =
+    tie.close
+    (tie.spec
+    enum-told
+    enum-told-2
+    enum-told-3
+    enum-told-4
+    enum-told-5
+    enum-told-6
+    returns
+    returns-2
+    returns-3
+    returns-4
+    returns-5
+    returns-6)

@@ -1,0 +1,2 @@
+-- What a device cites of its speech.
+pub mod Speech

@@ -1,0 +1,74 @@
+-- The frame that a device says. 01, "The link": "Answers carry the device's address (0 in NoAddress)".
+--   pendingOctets t p == the payload of what is pending in the station t, p; linkOctets t l == in the link state l
+--   isSilent x        == x is silence; controlBy x == the control of what is said; payloadBy d x == its payload
+--   frameBy d x       == address, control and payload, where the device d says x; none for silence
+--   spokenOf f        == the frame f, as it lies in the code's record
+-- Assumes nothing.
+use mathlib.Core.Bool.{Bool, true, false, cond}
+use mathlib.Core.List.{List, [], _∷_}
+use mathlib.Core.Option.{Option, none, some}
+use Prim.Native.Nat.{ℕ}
+use lib.ListN.{length, take, replicate}
+use Rattle.octets.specs.Octets.{_atStartOf_}
+use Rattle.record.specs.declared.Pending.{Pending}
+use Rattle.record.specs.declared.Pending.the-variants.{Nothing, Answer, Indication}
+use Rattle.record.specs.declared.Link.{Link}
+use Rattle.record.specs.declared.Link.the-variants.{NoAddress, AddressAssigned, Connected}
+use Rattle.record.specs.declared.Station.{Station}
+use Rattle.record.specs.declared.Device.{Device}
+use Rattle.record.specs.declared.Payload.{Payload}
+use Rattle.record.specs.Allowed.{identityOf}
+use Rattle.report.specs.Reports.{indicationOf}
+use Rattle.xid_answer.specs.Answer.{scanAnswer, assignmentAnswer}
+use Rattle.station.specs.declared.Say.{Say}
+use Rattle.station.specs.declared.Say.the-variants.{Silence, Bare, Reject, Pend, Scanned, Assigned}
+use Rattle.speech.specs.declared.Spoken.{Spoken}
+
+-- the octets of a payload: as many as its length says, as far as they go
+abbrev pub octetsOf : Payload → List ℕ
+octetsOf p = take (p .len) (p .octets)
+
+unfoldable pub pendingOctets : Station → Pending → List ℕ
+pendingOctets t Nothing = []
+pendingOctets t Answer = octetsOf (t .reply)
+pendingOctets t Indication = indicationOf (t .said) (t .told)
+
+-- only a session has something pending
+unfoldable pub linkOctets : Station → Link → List ℕ
+linkOctets t NoAddress = []
+linkOctets t AddressAssigned = []
+linkOctets t (Connected s) = pendingOctets t (s .pending)
+
+unfoldable pub isSilent : Say → Bool
+isSilent Silence = true
+isSilent (Bare c) = false
+isSilent (Reject c v w) = false
+isSilent (Pend c) = false
+isSilent Scanned = false
+isSilent Assigned = false
+
+-- "FRMR 0x97"; "Answers have control 0xBF"
+unfoldable pub controlBy : Say → ℕ
+controlBy Silence = 0
+controlBy (Bare c) = c
+controlBy (Reject c v w) = 0x97
+controlBy (Pend c) = c
+controlBy Scanned = 0xBF
+controlBy Assigned = 0xBF
+
+-- "three payload octets: the control; 2·V(S) + 32·R; 8 .. or 1"
+unfoldable pub payloadBy : Device → Say → List ℕ
+payloadBy d Silence = []
+payloadBy d (Bare c) = []
+payloadBy d (Reject c v w) = c ∷ v ∷ w ∷ []
+payloadBy d (Pend c) = linkOctets (d .station) (d .station .link)
+payloadBy d Scanned = scanAnswer (identityOf (d .plate)) (d .station .address)
+payloadBy d Assigned = assignmentAnswer (identityOf (d .plate))
+
+unfoldable pub frameBy : Device → Say → Option (List ℕ)
+frameBy d x = cond (isSilent x) none (some (d .station .address ∷ controlBy x ∷ payloadBy d x))
+
+-- at the start of 76 zeros; silence has no octet
+unfoldable pub spokenOf : Option (List ℕ) → Spoken
+spokenOf none = record { octets = replicate 76 0; len = 0 }
+spokenOf (some f) = record { octets = f atStartOf replicate 76 0; len = length f }

@@ -1,0 +1,154 @@
+// What a device says, as the octets of a frame: address, control, payload.
+// Headline: an answer has at most 76 octets and carries the device's address (proofs/Lengths.antt).
+// Assumes nothing of its caller.
+ghost use mathlib.Core.Path.{_≡_};
+ghost use mathlib.Core.List.{[], _∷_};
+ghost use mathlib.Core.Option.{Option, none, some};
+ghost use Prim.Native.Nat.{min, _≤_};
+ghost use lib.ListN.{take};
+ghost use Rattle.speech.specs.Speech.{octetsOf, pendingOctets, linkOctets, isSilent, controlBy, payloadBy};
+ghost use Rattle.speech.specs.Speech.{frameBy, spokenOf};
+use record::Device;
+use record::Link;
+use record::Payload;
+use record::Pending;
+use record::Station;
+use station::Say;
+
+// A frame of `len` octets; none where `len` is 0.
+pub struct Spoken {
+    pub octets: [u8; 76],
+    pub len: usize,
+}
+
+fn fewer(a: usize, b: usize) -> usize
+    ensures { λ r. ⌜ r ≡ min a b ⌝ }
+{
+    if a < b { a } else { b }
+}
+
+fn nothing() -> Payload
+    ensures { λ r. ⌜ octetsOf r ≡ [] ⌝ }
+{
+    Payload {
+        octets: [0u8; 74],
+        len: 0,
+    }
+}
+
+fn reject(control: u8, counts: u8, why: u8) -> Payload
+    ensures { λ r. ⌜ octetsOf r ≡ control ∷ counts ∷ why ∷ [] ⌝ }
+{
+    let mut octets = [0u8; 74];
+    octets[0] = control;
+    octets[1] = counts;
+    octets[2] = why;
+    Payload { octets, len: 3 }
+}
+
+fn pending_payload(station: Station, pending: Pending) -> Payload
+    ensures { λ r. ⌜ octetsOf r ≡ pendingOctets station pending ⌝ }
+{
+    let said = station.said;
+    let told = station.told;
+    match pending {
+        Pending::Nothing => nothing(),
+        Pending::Answer => station.reply,
+        Pending::Indication => report::indication(said, told),
+    }
+}
+
+fn link_payload(station: Station, link: Link) -> Payload
+    ensures { λ r. ⌜ octetsOf r ≡ linkOctets station link ⌝ }
+{
+    match link {
+        Link::NoAddress => nothing(),
+        Link::AddressAssigned => nothing(),
+        Link::Connected(s) => {
+            let pending = s.pending;
+            pending_payload(station, pending)
+        }
+    }
+}
+
+fn is_silent(say: Say) -> bool
+    ensures { λ r. ⌜ r ≡ isSilent say ⌝ }
+{
+    match say {
+        Say::Silence => true,
+        Say::Bare { control: _ } => false,
+        Say::Reject {
+            control: _,
+            counts: _,
+            why: _,
+        } => false,
+        Say::Pend { control: _ } => false,
+        Say::Scanned => false,
+        Say::Assigned => false,
+    }
+}
+
+fn control_of(say: Say) -> u8
+    ensures { λ r. ⌜ r ≡ controlBy say ⌝ }
+{
+    match say {
+        Say::Silence => 0,
+        Say::Bare { control } => control,
+        Say::Reject {
+            control: _,
+            counts: _,
+            why: _,
+        } => 0x97,
+        Say::Pend { control } => control,
+        Say::Scanned => 0xBF,
+        Say::Assigned => 0xBF,
+    }
+}
+
+fn payload_of(device: Device, say: Say) -> Payload
+    ensures { λ r. ⌜ octetsOf r ≡ payloadBy device say ⌝ }
+{
+    let plate = device.plate;
+    let station = device.station;
+    let link = station.link;
+    match say {
+        Say::Silence => nothing(),
+        Say::Bare { control: _ } => nothing(),
+        Say::Reject {
+            control,
+            counts,
+            why,
+        } => reject(control, counts, why),
+        Say::Pend { control: _ } => link_payload(station, link),
+        Say::Scanned => xid_answer::scan_answer(plate, station.address),
+        Say::Assigned => xid_answer::assignment_answer(plate),
+    }
+}
+
+// Address and control in front of the first `len` octets of a row.
+fn laid(address: u8, control: u8, row: [u8; 74], len: usize) -> Spoken
+    ensures { λ r. ⌜ (r ≡ spokenOf (some (address ∷ control ∷ take len row))) × (r .len ≤ 76) ⌝ }
+{
+    let n = fewer(len, 74);
+    let mut octets = [0u8; 76];
+    octets[0] = address;
+    octets[1] = control;
+    octets::put_all(&mut octets, 2, &row[..n]);
+    Spoken { octets, len: n + 2 }
+}
+
+// The frame that a device says.
+pub fn speak(device: Device, say: Say) -> Spoken
+    ensures { λ r. ⌜ (r ≡ spokenOf (frameBy device say)) × (r .len ≤ 76) ⌝ }
+{
+    let station = device.station;
+    if is_silent(say) {
+        return Spoken {
+            octets: [0u8; 76],
+            len: 0,
+        };
+    }
+    let payload = payload_of(device, say);
+    let row = payload.octets;
+    laid(station.address, control_of(say), row, payload.len)
+}
