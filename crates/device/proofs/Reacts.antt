@@ -53,7 +53,8 @@ module _ (d : Device) (x : Say) (o : List ℕ) {r : Spoken} (e : r ≡ spokenOf 
       go : (b : Bool) → isSilent x ≡ b → Judges (gives (reacts d x)) d o (record { said = Silence; device = d }) o
       go true q = record { said = rw q; device = refl; buffer = rw q }
       go false q =
-          let two : r .len ≡ length (d .station .address ∷ controlBy x ∷ payloadBy d x) = ap (λ (y : Spoken). y .len) e ∙ rw q in
+          let f : List ℕ = d .station .address ∷ controlBy x ∷ payloadBy d x in
+          let two : r .len ≡ length f = ap (λ (y : Spoken). y .len) e ∙ rw q in
           absurd (omega (arith, two, z))
 
   pub framed : (r .len ≡ 0 → ⊥) → r .len ≤ 76 → 76 ≤ length o → {o' : List ℕ}
@@ -87,7 +88,8 @@ module _ (d : Device) (f o : List ℕ) where
   unfolding judged judgeRows answered
   judged-5 e h = rw (e, lt-ltb (length o) 76 h)
 
-  pub judged-turn : allowedDevice d ≡ true → 76 ≤ length o → judged d f (length o) ≡ gives (reactionOf (judgedFrame d f))
+  pub judged-turn : allowedDevice d ≡ true → 76 ≤ length o
+      → judged d f (length o) ≡ gives (reactionOf (judgedFrame d f))
   unfolding judged judgeRows answered
   judged-turn e h = rw (e, le-ltb (length o) 76 h)
 

@@ -1,0 +1,15 @@
+-- What is proved of the whole bus.
+pub mod Hears
+pub mod Heard
+pub mod Scans
+pub mod Unpads
+pub mod Assigns
+pub mod Starts
+pub mod Each
+pub mod Places
+pub mod Installs
+pub mod Needs
+pub mod Job
+pub mod Ascends
+pub mod Pairs
+pub mod Examples

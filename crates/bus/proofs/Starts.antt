@@ -1,0 +1,133 @@
+-- SNRM, written as a line to an address: a device that holds the address answers UA and is connected, one that holds
+-- another is silent and stays as it was. So SNRM to each address in turn begins a session in every device, where no two
+-- hold the same. Assumes nothing.
+use mathlib.Core.Path.{_≡_, refl, sym, ap, _∙_}
+use mathlib.Core.Bool.{true}
+use mathlib.Core.Logic.{_⊎_, inl, inr}
+use mathlib.Core.List.{List, [], _∷_, map, List·Memᴰ, Memᴰ·cast}
+use mathlib.Core.List.{List·Memᴰ·head, List·Memᴰ·tail, List·Memᴰ·not-nil, List·Memᴰ·cases-cons}
+use mathlib.Core.Option.{none, some}
+use Prim.Native.Nat.{ℕ, _≤_}
+use native.Mathlib.Omega.{arith}
+use borrow.Author.Tests.{ltb-true, ne-eqb}
+use lib.Dec.{ltb}
+use Rattle.octets.proofs.Words.{true-not-false}
+use Rattle.refusal.specs.Answer.{gives}
+use Rattle.identity.specs.Order.{Different}
+use Rattle.identity.proofs.Identities.{and-parts}
+use Rattle.identity.proofs.Lists.{map-out}
+use Rattle.control.specs.Control.{polled}
+use Rattle.record.specs.declared.Device.{Device}
+use Rattle.record.specs.declared.Link.{Link}
+use Rattle.record.specs.declared.Link.the-variants.{NoAddress, AddressAssigned, Connected}
+use Rattle.record.specs.declared.Station.{Station}
+use Rattle.record.specs.Allowed.{addressed, sessionAllowed, linkAllowed, stationAllowed, allowedDevice}
+use Rattle.record.specs.Changes.{unsaidAt, endedAs}
+use Rattle.record.proofs.Stays.{sound}
+use Rattle.turn.specs.declared.Turn.{Turn}
+use Rattle.turn.specs.Turns.{saying, mute}
+use Rattle.link.specs.Link.{begun, isOwn, addressedBy, controlledBy, judgedFrame}
+use Rattle.link.specs.Frames.{hasAddress}
+use Rattle.link.proofs.Judged.{judged-is}
+use Rattle.speech.specs.Speech.{isSilent, controlBy, payloadBy, frameBy}
+use Rattle.device.specs.Judge.{reacts, reactionOf, deviceAfter}
+use Rattle.conduct.proofs.Answers.{snrm-answered}
+use Rattle.conduct.proofs.Stays.{stays-allowed}
+use Rattle.bus.specs.Cable.{hears, afterLine, afterLines, allAfterLines}
+use Rattle.bus.specs.Install.{snrmFor}
+use Rattle.bus.proofs.Hears.{hears-written, row-lines}
+use Rattle.bus.proofs.Places.{map-same}
+
+-- ---- one device
+
+has-addressed : (t : Station) (l : Link) → linkAllowed t l ≡ true → hasAddress l ≡ true → addressed (t .address) ≡ true
+unfolding linkAllowed
+has-addressed t NoAddress e h = absurd (true-not-false (sym h))
+has-addressed t AddressAssigned e h = e
+has-addressed t (Connected s) e h = and-parts (addressed (t .address)) (sessionAllowed t s) e .0
+
+-- allowed, with an address
+pub record Ready (d : Device) : Type 0 where
+  pub allowed : allowedDevice d ≡ true
+  pub has : hasAddress (d .station .link) ≡ true
+
+module _ (d : Device) (w : Ready d) where
+  -- the address is one of 1 to 254
+  address-bounds : (1 ≤ d .station .address) × (d .station .address ≤ 254)
+  unfolding stationAllowed addressed
+  address-bounds =
+      let a = d .station .address in
+      let parts =
+      and-parts (ltb 0 a) (ltb a 255)
+      (has-addressed (d .station) (d .station .link) (sound d (w .allowed) .station) (w .has)) in
+      (ltb-true 0 a (parts .0), omega (arith, ltb-true a 255 (parts .1)))
+
+  pub snrm-heard : hears d (snrmFor d)
+      ≡ gives (record { device = begun d; frame = some (d .station .address ∷ 0x73 ∷ []) })
+  unfolding saying reacts frameBy isSilent controlBy payloadBy begun endedAs unsaidAt
+  snrm-heard =
+      let (least, most) = address-bounds in
+      hears-written d (d .station .address) 0x93 [] (w .allowed) (omega arith) (omega arith)
+      ∙ ap (λ (t : Turn). gives (reactionOf t)) (snrm-answered d (w .allowed) (w .has))
+
+  pub snrm-alone : (o : Device) → allowedDevice o ≡ true → (o .station .address ≡ d .station .address → ⊥)
+      → hears o (snrmFor d) ≡ gives (record { device = o; frame = none })
+  unfolding saying reacts frameBy isSilent controlledBy addressedBy isOwn polled
+  snrm-alone o fine other =
+      let (least, most) = address-bounds in
+      let a = d .station .address in
+      let silent : judgedFrame o (a ∷ 0x93 ∷ []) ≡ mute o =
+      judged-is o (a ∷ 0x93 ∷ []) (omega arith) (omega arith)
+      ∙ rw (ne-eqb a 0xFF (λ e. omega arith), ne-eqb a (o .station .address) (λ e. other (sym e))) in
+      hears-written o a 0x93 [] fine (omega arith) (omega arith) ∙ ap (λ (t : Turn). gives (reactionOf t)) silent
+
+  begun-allowed : allowedDevice (begun d) ≡ true
+  unfolding saying
+  begun-allowed =
+      rw (← ap (λ (t : Turn). t .device) (snrm-answered d (w .allowed) (w .has)))
+      (stays-allowed d (d .station .address ∷ 0x93 ∷ []) (w .allowed))
+
+-- ---- SNRM to each address in turn
+
+abbrev address : Device → ℕ
+address d = d .station .address
+
+-- none of the addresses is the device's
+none-begins : (es : List Device) → ((e : Device) → List·Memᴰ e es → Ready e) → (o : Device) → allowedDevice o ≡ true
+    → (List·Memᴰ (address o) (map address es) → ⊥) → afterLines (map snrmFor es) o ≡ o
+unfolding afterLines deviceAfter
+none-begins [] ready o fine other = refl
+none-begins (e ∷ es) ready o fine other =
+    let stays : afterLine o (snrmFor e) ≡ o =
+    rw (snrm-alone e (ready e (List·Memᴰ·head refl)) o fine (λ q. other (List·Memᴰ·head q))) in
+    ap (afterLines (map snrmFor es)) stays
+    ∙ none-begins es (λ b m. ready b (List·Memᴰ·tail m)) o fine (λ m. other (List·Memᴰ·tail m))
+
+own-begins : (es : List Device) → ((e : Device) → List·Memᴰ e es → Ready e) → Different (map address es)
+    → (o : Device) → List·Memᴰ o es → afterLines (map snrmFor es) o ≡ begun o
+unfolding afterLines deviceAfter begun endedAs unsaidAt
+own-begins [] ready apart o m = absurd (List·Memᴰ·not-nil m)
+own-begins (e ∷ es) ready apart o m =
+    go (own-begins es (λ b n. ready b (List·Memᴰ·tail n)) (apart .1) o) (List·Memᴰ·cases-cons m)
+  where
+    good : Ready o
+    good = ready o m
+
+    go : (List·Memᴰ o es → afterLines (map snrmFor es) o ≡ begun o) → (o ≡ e) ⊎ List·Memᴰ o es
+        → afterLines (map snrmFor es) (afterLine o (snrmFor e)) ≡ begun o
+    go more (inl q) =
+        let now : afterLine o (snrmFor o) ≡ begun o = rw (snrm-heard o good) in
+        rw (← q)
+        (ap (afterLines (map snrmFor es)) now
+        ∙ none-begins es (λ b n. ready b (List·Memᴰ·tail n)) (begun o) (begun-allowed o good)
+        (λ n. apart .0 (Memᴰ·cast (ap address (sym q)) n)))
+    go more (inr t) =
+        let other : (address o ≡ address e → ⊥) = λ q. apart .0 (Memᴰ·cast (sym q) (map-out address es o t)) in
+        let stays : afterLine o (snrmFor e) ≡ o =
+        rw (snrm-alone e (ready e (List·Memᴰ·head refl)) o (good .allowed) other) in
+        ap (afterLines (map snrmFor es)) stays ∙ more t
+
+pub all-begin : (es : List Device) → ((e : Device) → List·Memᴰ e es → Ready e) → Different (map address es)
+    → allAfterLines (map snrmFor es) es ≡ map begun es
+all-begin es ready apart =
+    row-lines (map snrmFor es) es ∙ map-same (afterLines (map snrmFor es)) begun es (own-begins es ready apart)

@@ -1,0 +1,177 @@
+-- The starred cases of 01, "Both sides of the edge": rows of one list, and one statement that each of them holds of the
+-- definitions that the promises cite. antt computes it.
+--   fresh t      == the fresh device KA0123 of the range -20 to 100, at the tilt t; assigned t == at the address 7
+--   heard ids p  == one of the identities answers the probe of the beginning p
+--   Row          == what is tried, and what comes of it; Holds r == it does
+-- Assumes nothing.
+use mathlib.Core.Path.{_≡_, refl}
+use mathlib.Core.Bool.{Bool, false, _||_}
+use mathlib.Core.List.{List, [], _∷_}
+use mathlib.Core.Option.{Option, none, some}
+use Prim.Native.Nat.{ℕ}
+use lib.IntN.{ℤ, pos, negsuc}
+use lib.ListN.{replicate}
+use Rattle.octets.specs.Octets.{holds, lastOf, _atStartOf_}
+use Rattle.refusal.specs.Answer.{gives, answered, stateAfter}
+use Rattle.identity.specs.Bits.{Bits, word, packed, masked}
+use Rattle.identity.specs.Identity.{printable, allPrintable, allowedIdentity, padded, octetsOf, maskOf, same}
+use Rattle.identity.specs.Identity.{answersScan}
+use Rattle.walk.specs.Machine.{step, stepIn, noted, listing, goOn, next, carry, zeroHalf, named}
+use Rattle.scan.specs.Record.{rowsOf, flat, phaseOf, stateOf}
+use Rattle.scan.specs.Steps.{standsAt}
+use Rattle.scan.specs.Scan as scan
+use Rattle.scan.specs.declared.State.{State}
+use Rattle.scan.specs.declared.State.the-variants.{Complete, Limit}
+use Rattle.control.specs.Control.{polled, nextOf, infoOf, rrOf, numberedBy, askedBy}
+use Rattle.antenna.specs.declared.Angle.{Angle}
+use Rattle.antenna.specs.Angles.{atMost, sameAs}
+use Rattle.antenna.specs.Events.{restedOf, at, canStop}
+use Rattle.antenna.specs.Motions.{inRange, busyOf, runs, owesOf, waitingOf, unowedOf, moves, started}
+use Rattle.record.specs.declared.Device.{Device}
+use Rattle.record.specs.declared.Event.the-variants.{Stopped}
+use Rattle.record.specs.Allowed.{identityAllowed, platesAllowed, numbersAllowed, pendingFits, sessionAllowed, addressed}
+use Rattle.record.specs.Allowed.{linkAllowed, stationAllowed, owedAllowed, allowedDevice}
+use Rattle.record.specs.Fresh.{identityFrom, productFrom, versionFrom, plateFrom, freshFrom, textsAllowed, dataAllowed}
+use Rattle.record.specs.Fresh.{freshOf, blankDevice}
+use Rattle.record.specs.Changes.{unsaidAt, endedAs, canBe, afterEvent, eventRows, happened}
+use Rattle.session.specs.Session.{pends, acknowledges, goodNumber, accepts, taken, vsOf, countsOf}
+use Rattle.station.specs.Station.{sessionAfter, stationAfter, resent, awaiting}
+use Rattle.station.specs.Station.{answersWith, heeded}
+use Rattle.params.specs.Field.{opened, triplesAfter, before, checked, allRight, rightLength, identityLong, identifiers}
+use Rattle.params.specs.Field.{noneTwice, paramsOf, valueOf, valuesOf, given, octetsIn}
+use Rattle.xid.specs.Match.{isScan, scanShape, assignmentShape, scanMatches, identityMatches, kindMatches}
+use Rattle.xid.specs.Match.{vendorMatches, assignmentMatches, assigned as assignedIn, judged as judgedXid, judgedParams}
+use Rattle.xid.specs.Match.{readOf}
+use Rattle.payload.specs.Payloads.{messageOf, successOf, failureOf, resultOf, payloadOf}
+use Rattle.payload.specs.Tilts.{tiltOctets, angleOf}
+use Rattle.message.specs.Messages.{driveChecks, checks, inTable, takenBy}
+use Rattle.message.specs.Carried.{carriedOf, outcome, doneBy, replies, unanswered}
+use Rattle.turn.specs.Turns.{saying, deviceOf, acknowledged}
+use Rattle.turn.specs.Sessions.{waitingPoll, pollOf, repliedBy, carriedBy, informOf, informedBy, polledBy}
+use Rattle.link.specs.Link.{begun, released, rejected, infoBy, rrBy, connectedBy, assignedBy, linkedBy, quiet, ownBy}
+use Rattle.link.specs.Link.{xidBy, everyoneBy, isOwn, addressedBy, controlledBy, judgedFrame, frameMost}
+use Rattle.conduct.specs.Conduct.{Meeting, frame, event, meets, run, starts}
+use Rattle.speech.specs.Speech.{pendingOctets, linkOctets, isSilent, controlBy, payloadBy, frameBy}
+use Rattle.device.specs.Judge.{reacts, judgeRows, judged, sizeOf, toldOf, frameAt, bufferAfter}
+
+-- ---- who is tried
+
+abbrev pub ka : List ℕ
+ka = 0x4B ∷ 0x41 ∷ 0x30 ∷ 0x31 ∷ 0x32 ∷ 0x33 ∷ []
+
+abbrev pub tenths : ℤ → Angle
+tenths t = record { tenths = t }
+
+-- "The device has range -20 to 100, is fresh, then assigned."
+unfoldable pub fresh : ℤ → Device
+fresh t =
+    stateAfter
+    (freshOf ka [] [] [] (record { lowest = tenths (negsuc 19); highest = tenths (pos 100); present = tenths t }))
+    blankDevice
+
+unfoldable pub assigned : ℤ → Device
+assigned t = run (fresh t) (frame (0xFF ∷ 0xBF ∷ 0x81 ∷ 0xF0 ∷ 3 ∷ 2 ∷ 1 ∷ 7 ∷ []) ∷ [])
+
+unfoldable pub heard : List (List ℕ) → Bits → Bool
+heard [] p = false
+heard (i ∷ ids) p = answersScan i (maskOf p) (octetsOf p) || heard ids p
+
+-- ---- the rows
+
+pub data Row : Type 0 where
+  -- with these identities on the cable and this limit, the scan ends so, after so many probes
+  ends : List (List ℕ) → ℕ → State → ℕ → Row
+  -- at this tilt, after these frames and events, this frame gets this answer, or silence
+  gets : ℤ → List Meeting → List ℕ → Option (List ℕ) → Row
+  -- at this tilt, after these frames and events, this frame starts no movement
+  rests : ℤ → List Meeting → List ℕ → Row
+
+-- an answer buffer of 76 octets
+abbrev pub buffer : List ℕ
+buffer = replicate frameMost 0
+
+unfoldable pub Holds : Row → Type 0
+Holds (ends ids limit state count) =
+    let last = scan.driven (heard ids) limit (scan.fresh limit) in (last .state ≡ state) × (last .count ≡ count)
+Holds (gets t ms f x) =
+    let r = judged (run (assigned t) ms) f frameMost in
+    (toldOf r ≡ gives (sizeOf x)) × (bufferAfter r buffer ≡ frameAt x buffer)
+Holds (rests t ms f) = starts (run (assigned t) ms) f ≡ false
+
+unfoldable pub All : List Row → Type 0
+All [] = Unit {0}
+All (r ∷ rows) = Holds r × All rows
+
+-- ---- the frames and events of the rows
+
+abbrev pub snrm : Meeting
+snrm = frame (7 ∷ 0x93 ∷ [])
+
+-- an I-frame, and in it: set tilt to 50
+abbrev pub set-50 : List ℕ
+set-50 = 7 ∷ 0x10 ∷ 0x33 ∷ 0x02 ∷ 0x00 ∷ 0x32 ∷ 0x00 ∷ []
+
+abbrev pub rr : List ℕ
+rr = 7 ∷ 0x11 ∷ []
+
+abbrev pub stopped : ℤ → Meeting
+stopped t = event (Stopped (tenths t))
+
+-- ---- the list
+
+abbrev pub starred : List Row
+starred =
+    -- "No device, limit 1: complete, 1 probe." "Limit 0: "limit", 0 probes."
+    ends [] 1 Complete 1
+    ∷ ends [] 0 Limit 0
+    -- "One device: 305 probes. Limit 305 complete, 304 "limit"."
+    ∷ ends (ka ∷ []) 305 Complete 305
+    ∷ ends (ka ∷ []) 304 Limit 304
+    -- "After SNRM, I-frame 0x10 with 33 02 00 32 00: RR 0x31. Sent again: 0x31, no second movement."
+    ∷ gets (pos 0) (snrm ∷ []) set-50 (some (7 ∷ 0x31 ∷ []))
+    ∷ gets (pos 0) (snrm ∷ frame set-50 ∷ []) set-50 (some (7 ∷ 0x31 ∷ []))
+    ∷ rests (pos 0) (snrm ∷ frame set-50 ∷ []) set-50
+    -- "Stopped at 50, then RR 0x11 from the master: I-frame 0x30 with 33 01 00 00."
+    ∷ gets (pos 0) (snrm ∷ frame set-50 ∷ stopped (pos 50) ∷ []) rr
+    (some (7 ∷ 0x30 ∷ 0x33 ∷ 0x01 ∷ 0x00 ∷ 0x00 ∷ []))
+    -- "Stopped at 49: 33 02 00 0B 02."
+    ∷ gets (pos 0) (snrm ∷ frame set-50 ∷ stopped (pos 49) ∷ []) rr
+    (some (7 ∷ 0x30 ∷ 0x33 ∷ 0x02 ∷ 0x00 ∷ 0x0B ∷ 0x02 ∷ []))
+    -- "Tilt -15: get tilt gives 34 03 00 00 F1 FF."
+    ∷ gets (negsuc 14) (snrm ∷ []) (7 ∷ 0x10 ∷ 0x34 ∷ 0x00 ∷ 0x00 ∷ [])
+    (some (7 ∷ 0x30 ∷ 0x34 ∷ 0x03 ∷ 0x00 ∷ 0x00 ∷ 0xF1 ∷ 0xFF ∷ []))
+    -- "After SNRM, RR 0x71: FRMR payload 71 00 08."
+    ∷ gets (pos 0) (snrm ∷ []) (7 ∷ 0x71 ∷ []) (some (7 ∷ 0x97 ∷ 0x71 ∷ 0x00 ∷ 0x08 ∷ []))
+    -- "Assignment with address value 0 or 255: silence."
+    ∷ gets (pos 0) [] (0xFF ∷ 0xBF ∷ 0x81 ∷ 0xF0 ∷ 3 ∷ 2 ∷ 1 ∷ 0 ∷ []) none
+    ∷ gets (pos 0) [] (0xFF ∷ 0xBF ∷ 0x81 ∷ 0xF0 ∷ 3 ∷ 2 ∷ 1 ∷ 255 ∷ []) none
+    -- "Scan value with a bit outside its mask: silence."
+    ∷ gets (pos 0) [] (0xFF ∷ 0xBF ∷ 0x81 ∷ 0xF0 ∷ 6 ∷ 1 ∷ 1 ∷ 0x4B ∷ 3 ∷ 1 ∷ 0x0F ∷ []) none
+    ∷ []
+
+-- ---- the statement
+
+infixr 5 _also_
+_also_ : {A B : Type 0} → A → B → A × B
+_also_ a b = (a, b)
+
+pub starred-hold : All starred
+unfolding All Holds heard scan.driven scan.fresh scan.ended scan.over scan.reported standsAt step stepIn noted listing
+    goOn next carry zeroHalf named word packed rowsOf flat phaseOf stateOf starts fresh assigned run meets judged
+    judgeRows judgedFrame controlledBy addressedBy isOwn everyoneBy xidBy ownBy quiet linkedBy assignedBy connectedBy
+    rrBy infoBy rejected released begun pollOf waitingPoll informedBy informOf carriedBy repliedBy polledBy saying
+    deviceOf acknowledged sessionAfter stationAfter resent awaiting answersWith heeded pends acknowledges goodNumber
+    accepts taken vsOf countsOf polled nextOf infoOf rrOf numberedBy askedBy unsaidAt endedAs canBe afterEvent eventRows
+    happened freshOf freshFrom plateFrom identityFrom productFrom versionFrom textsAllowed dataAllowed stateAfter
+    answered allowedDevice owedAllowed stationAllowed linkAllowed addressed sessionAllowed pendingFits numbersAllowed
+    platesAllowed identityAllowed allowedIdentity allPrintable printable lastOf holds _atStartOf_ inRange busyOf runs
+    owesOf waitingOf unowedOf moves started restedOf at canStop atMost sameAs readOf judgedParams judgedXid paramsOf
+    opened triplesAfter before checked allRight rightLength identityLong identifiers noneTwice valuesOf valueOf given
+    octetsIn isScan scanShape assignmentShape scanMatches answersScan padded masked same identityMatches kindMatches
+    vendorMatches assignmentMatches assignedIn messageOf successOf failureOf resultOf payloadOf tiltOctets angleOf
+    driveChecks checks inTable takenBy carriedOf outcome doneBy replies unanswered pendingOctets linkOctets isSilent
+    controlBy payloadBy frameBy reacts sizeOf toldOf frameAt bufferAfter
+starred-hold =
+    (refl, refl) also (refl, refl) also (refl, refl) also (refl, refl) also (refl, refl) also (refl, refl) also refl
+    also (refl, refl) also (refl, refl) also (refl, refl) also (refl, refl) also (refl, refl) also (refl, refl)
+    also (refl, refl) also tt

@@ -1,0 +1,57 @@
+-- The headline theorems of all crates under one roof: where each stands, in the order of the crates. docs/THEOREMS.md
+-- says each in a sentence. Assumes nothing.
+
+-- ---- numbers for "no": the first row that holds, both ways; one result for each promise
+pub use Rattle.refusal.proofs.Exactly.{exactly, exactly-given, answered-all}
+pub use Rattle.refusal.proofs.Only.{number-apart, hands-only, changes-only}
+-- ---- the frame check: every entry of the table, and the good-frame residue
+pub use Rattle.fcs.proofs.Rule.{rule}
+pub use Rattle.fcs.proofs.Residue.{residue-good, residue-exactly}
+-- ---- the codec: the round trip, the only line without needless escapes, how long a line is
+pub use Rattle.frame.proofs.Trip.{trip, round-trip}
+pub use Rattle.frame.proofs.Unique.{unique, needed-onLine}
+pub use Rattle.frame.proofs.Lengths.{line-158, flag-at-ends, write-fits, write-one-less}
+-- ---- demand 3: in bits over depth, cap, limit and starting beginning; in octets, of the code's record
+pub use Rattle.walk.proofs.Demand.{demand3}
+pub use Rattle.walk.proofs.Answers.{any-answers}
+pub use Rattle.walk.proofs.Begins.{shorter-number}
+pub use Rattle.scan.proofs.Demand.{demand3-octets, demand3-identities}
+pub use Rattle.scan.proofs.AnyScans.{any-scans}
+pub use Rattle.scan.proofs.Run.{run-ends}
+-- ---- XID: which payloads are scans and assignments, and whom they mean; the scanner's probe is a scan
+pub use Rattle.params.proofs.Exact.{params-exactly, one-reading}
+pub use Rattle.xid.proofs.Exactly.{scan-exactly, assignment-exactly, never-both, address-edge}
+pub use Rattle.xid.proofs.Probe.{probe-scan, probe-read}
+-- ---- messages: each return code exactly when; set tilt alone starts a movement
+pub use Rattle.message.proofs.Exact.{given-24, given-25, given-19, given-05, given-13, given-none}
+pub use Rattle.message.proofs.Moves.{moves-exactly, clear-clears, subscribe-subscribes}
+-- ---- what is allowed stays so, and no run from a fresh device meets refusal 6
+pub use Rattle.record.proofs.Stays.{event-stays, end-stays, fresh-allowed}
+pub use Rattle.conduct.proofs.Stays.{stays-allowed}
+pub use Rattle.conduct.proofs.Runs.{run-allowed, never-refused, event-never-refused}
+-- ---- conduct: a tilt only when due, and never again; R and S; results and alarms; sessions' ends
+pub use Rattle.conduct.proofs.Due.{starts-exactly, due-moves-on}
+pub use Rattle.conduct.proofs.Again.{accepted-again-after, starts-once}
+pub use Rattle.conduct.proofs.Numbers.{r-moves-exactly, r-stays-exactly, s-moves-exactly, s-stays-exactly}
+pub use Rattle.conduct.proofs.Results.{result-sent, result-pends, result-dropped, result-cases}
+pub use Rattle.conduct.proofs.Told.{raised-cases, told-cases, clears-both, indicated-tells}
+pub use Rattle.conduct.proofs.Indicates.{indication-sent, indication-pends}
+pub use Rattle.conduct.proofs.Ends.{ends-drop, ends-survive, ends-tell}
+pub use Rattle.conduct.proofs.Answers.{snrm-answered, scan-answered, assignment-taken, assignment-silent}
+-- ---- the device: one result, its numbers, its frames
+pub use Rattle.device.proofs.Only.{judge-only, hear-only}
+pub use Rattle.device.proofs.Exact.{judge-all, hear-all, refused-keeps, silence-keeps, frame-tells}
+pub use Rattle.device.proofs.Fits.{answer-fits}
+-- ---- the whole bus: hearing, demand 3 with no premise, the installer's job and when it can be done
+pub use Rattle.bus.proofs.Heard.{heard-exactly, heard-unchanged}
+pub use Rattle.bus.proofs.Scans.{scan-row, scan-any, scan-complete, scan-unchanged}
+pub use Rattle.bus.proofs.Needs.{installed-exactly}
+pub use Rattle.bus.proofs.Job.{scan-installed, job-done}
+pub use Rattle.bus.proofs.Examples.{condition-needed, longer-later}
+-- ---- the demands
+pub use Rattle.demands.proofs.One.{hear-defined, judge-defined}
+pub use Rattle.demands.proofs.Two.{written-reads-back, written-heard, tilt-exactly, tilt-number, tilt-once}
+pub use Rattle.demands.proofs.Two.{snrm-heard, never-unallowed}
+pub use Rattle.demands.proofs.Three.{complete-exactly, complete-count, complete-lists, never-more, probes-sent}
+pub use Rattle.demands.proofs.Cable.{heard-when, whole-row, installer}
+pub use Rattle.demands.proofs.Cases.{starred-hold}

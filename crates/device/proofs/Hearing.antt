@@ -1,0 +1,129 @@
+-- How what is heard comes of decoding and of judging: the decoder's number at once, else a readable line judged; and
+-- the decoder has room in its own buffer for every frame. Assumes nothing.
+use mathlib.Core.Path.{_≡_, refl, sym, ap, _∙_}
+use mathlib.Core.Bool.{Bool, true, false, cond}
+use mathlib.Core.List.{List, [], _∷_}
+use mathlib.Core.Logic.{_↔_, _⊎_, inl, inr}
+use Prim.Native.Nat.{ℕ, _≤_}
+use native.Mathlib.Omega.{arith}
+use lib.Dec.{eqb}
+use lib.ListN.{length, length-take}
+use Rattle.octets.specs.Octets.{holds}
+use Rattle.octets.proofs.Words.{true-not-false}
+use Rattle.refusal.specs.Answer.{gives, refuses, numbersOf}
+use Rattle.refusal.proofs.Exactly.{answered-all}
+use Rattle.refusal.proofs.Answers.{gives-not-refuses, refuses-same}
+use Rattle.frame.specs.Line.{plain}
+use Rattle.frame.specs.Decode.{body, rightCheck, decoded}
+use Rattle.frame.proofs.Exact.{Sized, decode-5, decode-frame, decode-all}
+use Rattle.record.specs.declared.Device.{Device}
+use Rattle.link.specs.Link.{frameMost, judgedFrame}
+use Rattle.device.specs.Judge.{reactionOf, judgeRows, judged, heardBy, heard}
+
+-- ---- the numbers of both
+
+module _ (k n : ℕ) where
+  skip : (ns : List ℕ) → holds k ns ≡ true → holds k (n ∷ ns) ≡ true
+  unfolding holds
+  skip ns h = rw h (go (eqb n k))
+    where
+      go : (b : Bool) → cond b true true ≡ true
+      go true = refl
+      go false = refl
+
+  keep : (ns ms : List ℕ) → (holds k ns ≡ true → holds k ms ≡ true) → holds k (n ∷ ns) ≡ true → holds k (n ∷ ms) ≡ true
+  unfolding holds
+  keep ns ms f = go (eqb n k)
+    where
+      go : (b : Bool) → cond b true (holds k ns) ≡ true → cond b true (holds k ms) ≡ true
+      go true h = refl
+      go false h = f h
+
+pub holds-four : (k : ℕ) → holds k (6 ∷ 5 ∷ []) ≡ true → holds k (4 ∷ 1 ∷ 2 ∷ 3 ∷ 6 ∷ 5 ∷ []) ≡ true
+holds-four k h = skip k 4 _ (skip k 1 _ (skip k 2 _ (skip k 3 _ h)))
+
+pub holds-six : (k : ℕ) → holds k (4 ∷ 1 ∷ 2 ∷ 3 ∷ 5 ∷ []) ≡ true → holds k (4 ∷ 1 ∷ 2 ∷ 3 ∷ 6 ∷ 5 ∷ []) ≡ true
+holds-six k = keep k 4 _ _ (keep k 1 _ _ (keep k 2 _ _ (keep k 3 _ _ (skip k 6 _))))
+
+module _ (d : Device) (f : List ℕ) (room : ℕ) where
+  -- judging gives no number but 6 and 5
+  judge-number : (k : ℕ) → judged d f room ≡ refuses k → holds k (6 ∷ 5 ∷ []) ≡ true
+  unfolding judged judgeRows numbersOf
+  judge-number k e = go (answered-all (judgeRows d room) (reactionOf (judgedFrame d f)))
+    where
+      go : (judged d f room ≡ gives (reactionOf (judgedFrame d f)))
+          ⊎ ((j : ℕ) × (holds j (6 ∷ 5 ∷ []) ≡ true) × (judged d f room ≡ refuses j)) → holds k (6 ∷ 5 ∷ []) ≡ true
+      go (inl g) = absurd (gives-not-refuses (sym g ∙ e))
+      go (inr (j, h, g)) = rw (refuses-same (sym e ∙ g)) h
+
+-- ---- the decoder
+
+-- a line that can be read: no number of the decoder
+abbrev pub Readable : List ℕ → Type 0
+Readable line = Sized 78 line frameMost × (rightCheck (plain line) ≡ true)
+
+body-short : (line : List ℕ) → length (plain line) ≤ 78 → length (body (plain line)) ≤ frameMost
+unfolding body
+body-short line h = simp length-take (omega arith)
+
+-- the decoder has room in its own buffer for every frame: it never says 5 there
+pub hear-own-room : (line : List ℕ) → decoded 78 line frameMost ≡ refuses 5 → ⊥
+hear-own-room line e =
+    let (s, c, r) = decode-5 78 line frameMost .0 e in omega (arith, body-short line (s .2))
+
+-- the decoder has no number 6
+pub never-6 : (line : List ℕ) → decoded 78 line frameMost ≡ refuses 6 → ⊥
+unfolding holds
+never-6 line e = go (decode-all 78 line frameMost)
+  where
+    go : (decoded 78 line frameMost ≡ gives (body (plain line)))
+        ⊎ ((k : ℕ) × (holds k (4 ∷ 1 ∷ 2 ∷ 3 ∷ 5 ∷ []) ≡ true) × (decoded 78 line frameMost ≡ refuses k)) → ⊥
+    go (inl g) = gives-not-refuses (sym g ∙ e)
+    go (inr (k, h, g)) = true-not-false (sym h ∙ ap (λ j. holds j (4 ∷ 1 ∷ 2 ∷ 3 ∷ 5 ∷ [])) (refuses-same (sym g ∙ e)))
+
+readable-decoded : (line : List ℕ) → Readable line → decoded 78 line frameMost ≡ gives (body (plain line))
+readable-decoded line w =
+    decode-frame 78 line frameMost (body (plain line)) .1 (w .0, w .1, body-short line (w .0 .2), refl)
+
+module _ (d : Device) (line : List ℕ) (room : ℕ) where
+  -- a number of the decoder is given at once
+  pub heard-at-once : (k : ℕ) → decoded 78 line frameMost ≡ refuses k → heard d line room ≡ refuses k
+  unfolding heard heardBy
+  heard-at-once k e = rw e
+
+  -- a readable line is judged
+  pub heard-readable : Readable line → heard d line room ≡ judged d (body (plain line)) room
+  unfolding heard heardBy
+  heard-readable w = rw (readable-decoded line w)
+
+  -- octets from the line are a readable line, or get a number of the decoder
+  pub heard-cases : {A : Type 0} → (Readable line → A)
+      → ((k : ℕ) → holds k (4 ∷ 1 ∷ 2 ∷ 3 ∷ 5 ∷ []) ≡ true → decoded 78 line frameMost ≡ refuses k → A) → A
+  heard-cases {A} read not-read = go (decode-all 78 line frameMost)
+    where
+      go : (decoded 78 line frameMost ≡ gives (body (plain line)))
+          ⊎ ((k : ℕ) × (holds k (4 ∷ 1 ∷ 2 ∷ 3 ∷ 5 ∷ []) ≡ true) × (decoded 78 line frameMost ≡ refuses k)) → A
+      go (inl e) = let w = decode-frame 78 line frameMost (body (plain line)) .0 e in read (w .0, w .1)
+      go (inr (k, h, e)) = not-read k h e
+
+  -- a number that judging does not give is the decoder's
+  pub by-decoder : (k : ℕ) → holds k (6 ∷ 5 ∷ []) ≡ false
+      → heard d line room ≡ refuses k ↔ decoded 78 line frameMost ≡ refuses k
+  by-decoder k other = (
+    λ e.
+        heard-cases
+        (λ w.
+        absurd (true-not-false (sym (judge-number d (body (plain line)) room k (sym (heard-readable w) ∙ e)) ∙ other)))
+        (λ j h q. rw (refuses-same (sym e ∙ heard-at-once j q)) q),
+    heard-at-once k,
+  )
+
+  -- one that the decoder does not give is given to a readable line, where judging gives it
+  pub by-judge : (k : ℕ) → (decoded 78 line frameMost ≡ refuses k → ⊥)
+      → heard d line room ≡ refuses k ↔ Readable line × (judged d (body (plain line)) room ≡ refuses k)
+  by-judge k never = (
+    λ e.
+        heard-cases (λ w. (w, sym (heard-readable w) ∙ e))
+        (λ j h q. absurd (never (rw (refuses-same (sym e ∙ heard-at-once j q)) q))),
+    λ w. heard-readable (w .0) ∙ w .1,
+  )

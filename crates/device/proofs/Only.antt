@@ -1,0 +1,52 @@
+-- The promise of judging and of hearing allows one result and one content of the answer buffer. Assumes nothing.
+use mathlib.Core.Path.{_≡_, refl, sym, ap, ap₂}
+use mathlib.Core.List.{List}
+use mathlib.Core.Option.{none, some}
+use Prim.Native.Nat.{ℕ}
+use native.Mathlib.Omega.{arith}
+use lib.ListN.{length}
+use Rattle.octets.proofs.Only.{only}
+use Rattle.refusal.specs.Answer.{Answer}
+use Rattle.refusal.proofs.Answers.{gives-not-refuses, refuses-same, gives-same}
+use Rattle.refusal.proofs.Only.{number-apart}
+use Rattle.record.specs.declared.Device.{Device}
+use Rattle.device.specs.declared.Said.{Said}
+use Rattle.device.specs.declared.Said.the-variants.{Silence, Frame, Refused}
+use Rattle.device.specs.declared.Judged.{Judged}
+use Rattle.device.specs.Judge.{Reaction, judged, heard, saidOf, Judges}
+
+pub none-not-some : {A : Type 0} {a : A} → none ≡ some a → ⊥
+none-not-some e = let z : _≡_ {A = ℕ} 0 1 = cc in omega arith
+
+pub some-same : {A : Type 0} {a b : A} → some a ≡ some b → a ≡ b
+some-same e = cc
+
+-- silence, each number of octets and each number for "no" are told apart
+pub said-apart : (r q : Said) → saidOf r ≡ saidOf q → r ≡ q
+unfolding saidOf
+said-apart Silence Silence e = refl
+said-apart Silence (Frame n) e = absurd (none-not-some (gives-same e))
+said-apart Silence (Refused k) e = absurd (gives-not-refuses e)
+said-apart (Frame n) Silence e = absurd (none-not-some (sym (gives-same e)))
+said-apart (Frame n) (Frame m) e = ap Frame (some-same (gives-same e))
+said-apart (Frame n) (Refused k) e = absurd (gives-not-refuses e)
+said-apart (Refused k) Silence e = absurd (gives-not-refuses (sym e))
+said-apart (Refused k) (Frame n) e = absurd (gives-not-refuses (sym e))
+said-apart (Refused k) (Refused j) e = ap Refused (number-apart k j (refuses-same e))
+
+-- every promise by `Judges` allows one result and one buffer
+pub judges-only : {x : Answer Reaction} {d : Device} {o p q : List ℕ} {r s : Judged}
+    → Judges x d o r p → Judges x d o s q → (r ≡ s) × (p ≡ q)
+judges-only {r = r} {s = s} a b = (
+  ap₂ (λ (x : Said) (y : Device). record { said = x; device = y })
+      (said-apart (r .said) (s .said) (only (a .said) (b .said))) (only (a .device) (b .device)),
+  only (a .buffer) (b .buffer),
+)
+
+pub judge-only : (d : Device) (f o : List ℕ) {p q : List ℕ} {r s : Judged}
+    → Judges (judged d f (length o)) d o r p → Judges (judged d f (length o)) d o s q → (r ≡ s) × (p ≡ q)
+judge-only d f o = judges-only
+
+pub hear-only : (d : Device) (line o : List ℕ) {p q : List ℕ} {r s : Judged}
+    → Judges (heard d line (length o)) d o r p → Judges (heard d line (length o)) d o s q → (r ≡ s) × (p ≡ q)
+hear-only d line o = judges-only
