@@ -32,7 +32,8 @@ use Rattle.xid.proofs.Exactly.{scan-read, scan-exactly, assignment-read, assign
 use Rattle.station.specs.declared.Say.{Say}
 use Rattle.turn.specs.declared.Turn.{Turn}
 use Rattle.turn.specs.Turns.{saying, mute}
-use Rattle.link.specs.Link.{newSession, begun, ua, connectedBy, assignedBy, linkedBy, quiet, isOwn, xidBy, frameMost}
+use Rattle.link.specs.Link.{newSession, begun, ua, connectedBy, isSnrm, assignedBy, linkedBy, quiet, isOwn}
+use Rattle.link.specs.Link.{xidBy, frameMost}
 use Rattle.link.specs.Link.{judgedFrame}
 use Rattle.link.specs.Frames.{controlOf, hasAddress, Own, Everyone}
 use Rattle.link.proofs.Cases.{own-is, everyone-is}
@@ -56,7 +57,7 @@ addressed-bounds a e =
 
 snrm-linked : (d : Device) (l : Link) (c : ℕ) (p : List ℕ) → hasAddress l ≡ true
     → linkedBy d l Snrm c p ≡ saying (begun d) ua
-unfolding linkedBy assignedBy connectedBy
+unfolding linkedBy isSnrm assignedBy connectedBy
 snrm-linked d NoAddress c p h = absurd (true-not-false (sym h))
 snrm-linked d AddressAssigned c p h = refl
 snrm-linked d (Connected s) c p h = refl

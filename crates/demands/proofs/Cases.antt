@@ -48,8 +48,8 @@ use Rattle.message.specs.Messages.{driveChecks, checks, inTable, takenBy}
 use Rattle.message.specs.Carried.{carriedOf, outcome, doneBy, replies, unanswered}
 use Rattle.turn.specs.Turns.{saying, deviceOf, acknowledged}
 use Rattle.turn.specs.Sessions.{waitingPoll, pollOf, repliedBy, carriedBy, informOf, informedBy, polledBy}
-use Rattle.link.specs.Link.{begun, released, rejected, infoBy, rrBy, connectedBy, assignedBy, linkedBy, quiet, ownBy}
-use Rattle.link.specs.Link.{xidBy, everyoneBy, isOwn, addressedBy, controlledBy, judgedFrame, frameMost}
+use Rattle.link.specs.Link.{begun, released, rejected, infoBy, rrBy, connectedBy, isSnrm, assignedBy, linkedBy}
+use Rattle.link.specs.Link.{quiet, ownBy, xidBy, everyoneBy, isOwn, addressedBy, controlledBy, judgedFrame, frameMost}
 use Rattle.conduct.specs.Conduct.{Meeting, frame, event, meets, run, starts}
 use Rattle.speech.specs.Speech.{pendingOctets, linkOctets, isSilent, controlBy, payloadBy, frameBy}
 use Rattle.device.specs.Judge.{reacts, judgeRows, judged, sizeOf, toldOf, frameAt, bufferAfter}
@@ -158,7 +158,7 @@ _also_ a b = (a, b)
 pub starred-hold : All starred
 unfolding All Holds heard scan.driven scan.fresh scan.ended scan.over scan.reported standsAt step stepIn noted listing
     goOn next carry zeroHalf named word packed rowsOf flat phaseOf stateOf starts fresh assigned run meets judged
-    judgeRows judgedFrame controlledBy addressedBy isOwn everyoneBy xidBy ownBy quiet linkedBy assignedBy connectedBy
+    judgeRows judgedFrame controlledBy addressedBy isOwn everyoneBy xidBy ownBy quiet linkedBy isSnrm assignedBy connectedBy
     rrBy infoBy rejected released begun pollOf waitingPoll informedBy informOf carriedBy repliedBy polledBy saying
     deviceOf acknowledged sessionAfter stationAfter resent awaiting answersWith heeded pends acknowledges goodNumber
     accepts taken vsOf countsOf polled nextOf infoOf rrOf numberedBy askedBy unsaidAt endedAs canBe afterEvent eventRows

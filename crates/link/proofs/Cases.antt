@@ -22,7 +22,7 @@ use Rattle.station.specs.declared.Say.{Say}
 use Rattle.turn.specs.declared.Turn.{Turn}
 use Rattle.turn.specs.Turns.{saying, mute}
 use Rattle.turn.specs.Sessions.{informedBy, polledBy, pausedBy}
-use Rattle.link.specs.Link.{begun, released, ua, dm, rejected, infoBy, rrBy, rnrBy, connectedBy, assignedBy, linkedBy}
+use Rattle.link.specs.Link.{begun, released, ua, dm, rejected, infoBy, rrBy, rnrBy, connectedBy, isSnrm, assignedBy, linkedBy}
 use Rattle.link.specs.Link.{quiet, ownBy, xidBy, everyoneBy, isOwn, addressedBy, controlledBy, frameMost, judgedFrame}
 use Rattle.link.specs.Frames.{controlOf, hasAddress, Own, Numbered, Everyone}
 use Rattle.link.proofs.Judged.{judged-is}
@@ -78,8 +78,8 @@ module _ (d : Device) (f : List ℕ) (P : Turn → Type 0)
   connected-cases s Unknown w l = rejects s Unknown 1 w l
 
   assigned-cases : (o : Order) → Own d f o → d .station .link ≡ AddressAssigned → P (assignedBy d o)
-  unfolding assignedBy
-  assigned-cases Xid w l = silent
+  unfolding assignedBy isSnrm
+  assigned-cases Xid w l = refuses Xid w l
   assigned-cases Snrm w l = begins w (ap hasAddress l)
   assigned-cases Disc w l = refuses Disc w l
   assigned-cases (Info n r) w l = refuses (Info n r) w l

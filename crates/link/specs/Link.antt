@@ -1,5 +1,6 @@
 -- A decoded frame judged. 01, "The link".
 --   begun d          == a new session: "All start at 0 and none"; released d == the session's end
+--   restarted d, left d == SNRM, and DISC in a session: UA
 --   rejected d s c w == FRMR for the control c and the reason w: "The link falls to AddressAssigned"
 --   infoBy, rrBy, rnrBy == an I-frame, RR, RNR in the session s, of the control c
 --   connectedBy d s o c p == in the session s, the order o with its control c and its payload p
@@ -48,6 +49,13 @@ ua = Say.Bare 0x73
 abbrev pub dm : Say
 dm = Say.Bare 0x1F
 
+-- SNRM, and DISC in a session
+abbrev pub restarted : Device → Turn
+restarted d = saying (begun d) ua
+
+abbrev pub left : Device → Turn
+left d = saying (released d) ua
+
 -- "the control; 2·V(S) + 32·R; 8 for a bad N(R) or 1 for an unknown control. .. The link falls to AddressAssigned"
 unfoldable pub rejected : Device → Session → ℕ → ℕ → Turn
 rejected d s c w = saying (released d) (Say.Reject c (countsOf s) w)
@@ -68,22 +76,25 @@ rnrBy d s r c = cond (goodNumber s r) (pausedBy d s r) (rejected d s c 8)
 -- DISC, I, RR and RNR, gets FRMR". An XID does not come here: it is silence before the states are asked.
 unfoldable pub connectedBy : Device → Session → Order → ℕ → List ℕ → Turn
 connectedBy d s Xid c p = mute d
-connectedBy d s Snrm c p = saying (begun d) ua
-connectedBy d s Disc c p = saying (released d) ua
+connectedBy d s Snrm c p = restarted d
+connectedBy d s Disc c p = left d
 connectedBy d s (Info n r) c p = infoBy d s n r c p
 connectedBy d s (Rr r) c p = rrBy d s r c
 connectedBy d s (Rnr r) c p = rnrBy d s r c
 connectedBy d s Unknown c p = rejected d s c 1
 
--- "AddressAssigned: SNRM 0x93 gets UA 0x73 and Connected; anything else gets DM 0x1F."
+unfoldable pub isSnrm : Order → Bool
+isSnrm Xid = false
+isSnrm Snrm = true
+isSnrm Disc = false
+isSnrm (Info n r) = false
+isSnrm (Rr r) = false
+isSnrm (Rnr r) = false
+isSnrm Unknown = false
+
+-- "AddressAssigned: SNRM 0x93 gets UA 0x73 and Connected; anything else gets DM 0x1F." An XID is silence before.
 unfoldable pub assignedBy : Device → Order → Turn
-assignedBy d Xid = mute d
-assignedBy d Snrm = saying (begun d) ua
-assignedBy d Disc = saying d dm
-assignedBy d (Info n r) = saying d dm
-assignedBy d (Rr r) = saying d dm
-assignedBy d (Rnr r) = saying d dm
-assignedBy d Unknown = saying d dm
+assignedBy d o = cond (isSnrm o) (restarted d) (saying d dm)
 
 -- a device without an address has no own one: it does not come here
 unfoldable pub linkedBy : Device → Link → Order → ℕ → List ℕ → Turn

@@ -4,7 +4,7 @@
 ghost use mathlib.Core.Path.{_≡_};
 ghost use Rattle.turn.specs.Turns.{saying};
 ghost use Rattle.link.specs.Link.{begun, released, rejected, infoBy, rrBy, rnrBy};
-ghost use Rattle.link.specs.Link.{connectedBy, assignedBy, linkedBy};
+ghost use Rattle.link.specs.Link.{restarted, left, connectedBy, isSnrm, assignedBy, linkedBy};
 ghost use Rattle.link.specs.Link.{quiet, ownBy, xidBy, everyoneBy, isOwn, addressedBy, controlledBy};
 ghost use Rattle.link.specs.Link.{judgedFrame};
 use control::Order;
@@ -41,6 +41,18 @@ fn release(device: Device) -> Device
 {
     let station = device.station;
     record::ended(device, station.address, Link::AddressAssigned)
+}
+
+fn restart(device: Device) -> Turn
+    ensures { λ r. ⌜ r ≡ restarted device ⌝ }
+{
+    say(begin(device), Say::Bare { control: 0x73 })
+}
+
+fn leave(device: Device) -> Turn
+    ensures { λ r. ⌜ r ≡ left device ⌝ }
+{
+    say(release(device), Say::Bare { control: 0x73 })
 }
 
 fn reject(device: Device, s: Session, control: u8, why: u8) -> Turn
@@ -89,8 +101,8 @@ fn connected(device: Device, s: Session, order: Order, control: u8, m: &[u8]) ->
 {
     match order {
         Order::Xid => say(device, Say::Silence),
-        Order::Snrm => say(begin(device), Say::Bare { control: 0x73 }),
-        Order::Disc => say(release(device), Say::Bare { control: 0x73 }),
+        Order::Snrm => restart(device),
+        Order::Disc => leave(device),
         Order::Info { ns, nr } => on_info(device, s, ns, nr, control, m),
         Order::Rr { nr } => on_rr(device, s, nr, control),
         Order::Rnr { nr } => on_rnr(device, s, nr, control),
@@ -98,18 +110,27 @@ fn connected(device: Device, s: Session, order: Order, control: u8, m: &[u8]) ->
     }
 }
 
+fn is_snrm(order: Order) -> bool
+    ensures { λ r. ⌜ r ≡ isSnrm order ⌝ }
+{
+    match order {
+        Order::Xid => false,
+        Order::Snrm => true,
+        Order::Disc => false,
+        Order::Info { ns: _, nr: _ } => false,
+        Order::Rr { nr: _ } => false,
+        Order::Rnr { nr: _ } => false,
+        Order::Unknown => false,
+    }
+}
+
 fn assigned(device: Device, order: Order) -> Turn
     ensures { λ r. ⌜ r ≡ assignedBy device order ⌝ }
 {
-    match order {
-        Order::Xid => say(device, Say::Silence),
-        Order::Snrm => say(begin(device), Say::Bare { control: 0x73 }),
-        Order::Disc => say(device, Say::Bare { control: 0x1F }),
-        Order::Info { ns: _, nr: _ } => say(device, Say::Bare { control: 0x1F }),
-        Order::Rr { nr: _ } => say(device, Say::Bare { control: 0x1F }),
-        Order::Rnr { nr: _ } => say(device, Say::Bare { control: 0x1F }),
-        Order::Unknown => say(device, Say::Bare { control: 0x1F }),
+    if is_snrm(order) {
+        return restart(device);
     }
+    say(device, Say::Bare { control: 0x1F })
 }
 
 fn linked(device: Device, link: Link, order: Order, control: u8, m: &[u8]) -> Turn

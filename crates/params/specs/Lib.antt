@@ -1,3 +1,4 @@
 -- What the other crates cite of the parameter field.
 pub mod Field
 pub mod Walk
+pub mod Read

@@ -1,11 +1,13 @@
-// The parameter field of an XID payload, walked where it lies: a slice and a place in it. Headline: the walk finds
-// exactly the parameters whose triples make up the payload, for octets of any content (proofs/Exact.antt,
-// proofs/Values.antt). Assumes nothing of its caller.
+// The parameter field of an XID payload, read where it lies by a reader that holds the frame's slice and a cursor.
+// Headline: the walk finds exactly the parameters whose triples make up the payload, for octets of any content
+// (proofs/Exact.antt, proofs/Values.antt). The reader's functions and `next_at` are proved by hand over `step_at`; who
+// calls `next_at` is covered. Assumes nothing of its caller.
 ghost use mathlib.Core.Path.{_≡_};
 ghost use lib.ListN.{length, take, drop};
 ghost use Rattle.params.specs.Field.{identityLong, rightLength, opened, triplesOf};
 ghost use Rattle.params.specs.Walk.{standsAt, isAbsent, partOf, partsOf, withPart, takesPart, noParts};
 ghost use Rattle.params.specs.Walk.{takenFrom, walkOf};
+ghost use Rattle.params.specs.Read.{stepAt, readerOf, nextOf, movedOn};
 
 // What stands at a place of a field: its end; less than a whole triple; a triple, its value `len` octets at `from`.
 pub enum Stands {
@@ -59,6 +61,63 @@ pub fn stands_at(s: &[u8], at: usize) -> Stands
         id: s[at],
         from: at + 2,
         len,
+    }
+}
+
+// What a step of the reader finds, and the cursor after it.
+pub struct Step {
+    pub found: Stands,
+    pub cursor: usize,
+}
+
+// One step from a place on: what stands there, and the place behind it if it is a triple.
+fn step_at(s: &[u8], at: usize) -> Step
+    ensures { λ r. ⌜ r ≡ stepAt (now (s .entry)) at ⌝ }
+{
+    let found = stands_at(s, at);
+    match found {
+        Stands::End => Step { found, cursor: at },
+        Stands::Broken => Step { found, cursor: at },
+        Stands::Triple { id: _, from, len } => {
+            let cursor = from + len;
+            Step { found, cursor }
+        }
+    }
+}
+
+// The frame in which the parameters lie, and the cursor: where the next one stands.
+pub struct Reader<'a> {
+    pub frame: &'a [u8],
+    pub cursor: usize,
+}
+
+impl<'a> Reader<'a> {
+    // A reader of a frame, its cursor at a place.
+    pub fn new(frame: &'a [u8], cursor: usize) -> Reader<'a>
+        ensures { λ r. ⌜ r ≡ readerOf (frame .entry) cursor ⌝ }
+    {
+        Reader { frame, cursor }
+    }
+
+    // The next parameter; the cursor moves on behind it.
+    pub fn next<'s>(&'s mut self) -> Stands
+        ensures { λ r. ⌜ (r ≡ nextOf (now (self .entry))) × (now (self .exit) ≡ movedOn (now (self .entry))) ⌝ }
+    {
+        let step = step_at(self.frame, self.cursor);
+        self.cursor = step.cursor;
+        step.found
+    }
+}
+
+// The next parameter of a frame from a place on. Its own parameters are plain, so that its callers are covered.
+pub fn next_at(frame: &[u8], at: usize) -> Step
+    ensures { λ r. ⌜ r ≡ stepAt (now (frame .entry)) at ⌝ }
+{
+    let mut reader = Reader::new(frame, at);
+    let found = reader.next();
+    Step {
+        found,
+        cursor: reader.cursor,
     }
 }
 
@@ -201,7 +260,9 @@ fn walk_from(s: &[u8], start: usize) -> Found
     };
     let mut at = start;
     loop {
-        let found = stands_at(s, at);
+        let step = next_at(s, at);
+        let cursor = step.cursor;
+        let found = step.found;
         match found {
             Stands::End => {
                 return Found::Formed(parts);
@@ -212,7 +273,7 @@ fn walk_from(s: &[u8], start: usize) -> Found
             Stands::Triple { id, from, len } => {
                 if takes(parts, id, len) {
                     parts = with_part(parts, id, Part::At { from, len });
-                    at = from + len;
+                    at = cursor;
                 } else {
                     return Found::Malformed;
                 }

@@ -8,6 +8,7 @@ use lib.ListN.{length, drop}
 use Rattle.params.specs.Field.{triplesOf}
 use Rattle.params.specs.Walk.{noParts, takenFrom}
 use Rattle.params.proofs.Turns.{told, turn-end, turn-broken, turn-not, turn-more}
+use Rattle.params.proofs.Steps.{step-found, step-behind}
 use Rattle.params.proofs.walk_from.Statement.{statement}
 use Rattle.params.proofs.walk_from.Tie as tie
 
@@ -21,8 +22,8 @@ abbrev μ-loop : tie.MeasureT-loop
 loop-holds : tie.Need-loop-holds Inv-loop μ-loop
 loop-holds c = refl
 
-stands-at-requires : tie.Need-stands-at-requires Inv-loop μ-loop
-stands-at-requires c κs = search needs
+next-at-requires : tie.Need-next-at-requires Inv-loop μ-loop
+next-at-requires c κs = search needs
 
 enum-told : tie.Need-enum-told Inv-loop μ-loop
 enum-told c = search needs
@@ -30,7 +31,8 @@ enum-told c = search needs
 returns : tie.Need-returns Inv-loop μ-loop
 returns c =
     let at = c .before .before .before .loop in
-    turn-end _ _ _ (at .inv) (told _ _ (c .before .before .stands-at .ensures) (c .enum-told .given .1))
+    let e = step-found _ _ (c .before .before .next-at .ensures) in
+    turn-end _ _ _ (at .inv) (told _ _ e (c .enum-told .given .1))
 
 enum-told-2 : tie.Need-enum-told-2 Inv-loop μ-loop
 enum-told-2 c = search needs
@@ -38,7 +40,8 @@ enum-told-2 c = search needs
 returns-2 : tie.Need-returns-2 Inv-loop μ-loop
 returns-2 c =
     let at = c .before .before .before .loop in
-    turn-broken _ _ _ (at .inv) (told _ _ (c .before .before .stands-at .ensures) (c .enum-told2 .given .1))
+    let e = step-found _ _ (c .before .before .next-at .ensures) in
+    turn-broken _ _ _ (at .inv) (told _ _ e (c .enum-told2 .given .1))
 
 enum-known-found : tie.Need-enum-known-found Inv-loop μ-loop
 enum-known-found c = search needs
@@ -49,29 +52,26 @@ takes-requires c κs = search needs
 with-part-requires : tie.Need-with-part-requires Inv-loop μ-loop
 with-part-requires c κs = search needs
 
-add-at : tie.Need-add-at Inv-loop μ-loop
-add-at c =
-    let found = c .before .before .before .before in
-    let h = told _ _ (found .before .before .stands-at .ensures) (found .found .given .1) in
-    omega (arith, h .0, h .2)
-
 loop-less : tie.Need-loop-less Inv-loop μ-loop
 loop-less c =
     let found = c .before .before .before .before in
-    let h = told _ _ (found .before .before .stands-at .ensures) (found .found .given .1) in
-    omega (arith, h .0, h .2)
+    let step = found .before .before .next-at .ensures in
+    let h = told _ _ (step-found _ _ step) (found .found .given .1) in
+    omega (arith, h .0, h .2, step-behind _ _ step (found .found .given .1))
 
 loop-again : tie.Need-loop-again Inv-loop μ-loop
 loop-again c =
     let found = c .before .before .before .before in
-    let h = told _ _ (found .before .before .stands-at .ensures) (found .found .given .1) in
+    let step = found .before .before .next-at .ensures in
+    let h = told _ _ (step-found _ _ step) (found .found .given .1) in
     let takes = sym (c .before .before .takes .ensures) ∙ c .before .if1 .taken in
-    turn-more _ _ _ (found .before .before .before .loop .inv) h takes (c .with-part .ensures)
+    let more = turn-more _ _ _ (found .before .before .before .loop .inv) h takes (c .with-part .ensures) in
+    rw (step-behind _ _ step (found .found .given .1)) more
 
 returns-3 : tie.Need-returns-3 Inv-loop μ-loop
 returns-3 c =
     let found = c .before .before .before in
-    let h = told _ _ (found .before .before .stands-at .ensures) (found .found .given .1) in
+    let h = told _ _ (step-found _ _ (found .before .before .next-at .ensures)) (found .found .given .1) in
     let not = sym (c .before .takes .ensures) ∙ c .if1 .left in
     turn-not _ _ _ (found .before .before .before .loop .inv) h not
 
@@ -82,7 +82,7 @@ walk-from-spec =
     Inv-loop
     μ-loop
     loop-holds
-    stands-at-requires
+    next-at-requires
     enum-told
     returns
     enum-told-2
@@ -90,7 +90,6 @@ walk-from-spec =
     enum-known-found
     takes-requires
     with-part-requires
-    add-at
     loop-less
     loop-again
     returns-3)

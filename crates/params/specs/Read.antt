@@ -1,0 +1,31 @@
+-- The parameter reader: the frame's slice and the cursor, a place in it.
+--   behind at x   == the place behind what stands at `at`: behind a triple; the end, and less than a triple, stay
+--   stepAt s at   == what stands at the place `at` of s, and the place behind it
+--   readerOf s at == the reader of the slice s, its cursor at the place `at`
+--   nextOf d      == what the reader d finds next; movedOn d == the reader d after that
+-- Assumes nothing.
+use mathlib.Core.List.{List}
+use Prim.Native.Nat.{ℕ, _+_}
+use denote.Ref.{RefT, now}
+use Rattle.params.specs.Walk.{standsAt}
+use Rattle.params.specs.declared.Reader.{Reader}
+use Rattle.params.specs.declared.Step.{Step}
+use Rattle.params.specs.declared.Stands.{Stands}
+use Rattle.params.specs.declared.Stands.the-variants.{End, Broken, Triple}
+
+unfoldable pub behind : ℕ → Stands → ℕ
+behind at End = at
+behind at Broken = at
+behind at (Triple n from len) = from + len
+
+abbrev pub stepAt : List ℕ → ℕ → Step
+stepAt s at = record { found = standsAt s at; cursor = behind at (standsAt s at) }
+
+abbrev pub readerOf : RefT (List ℕ) → ℕ → Reader
+readerOf s at = record { frame = s; cursor = at }
+
+abbrev pub nextOf : Reader → Stands
+nextOf d = stepAt (now (d .frame)) (d .cursor) .found
+
+abbrev pub movedOn : Reader → Reader
+movedOn d = readerOf (d .frame) (stepAt (now (d .frame)) (d .cursor) .cursor)
