@@ -116,6 +116,9 @@ impl Tally {
             _ => &[],
         };
         self.answered(before, answered);
+        if answered.is_empty() {
+            self.count(format!("silence, {}", reason(before, octets)));
+        }
         self.ended(before, now, answered);
         if let (Some(session), [address, control, payload @ ..]) = (before.session(), octets) {
             if *address == before.address && octets.len() <= 76 {
@@ -240,6 +243,91 @@ impl Tally {
     }
 }
 
+/// Why a frame gets silence: the first reason, going by 01 from the top.
+fn reason(before: &Record, octets: &[u8]) -> String {
+    let [address, control, payload @ ..] = octets else {
+        return "shorter than 2".into();
+    };
+    let number_r = control >> 5;
+    match (address, control) {
+        _ if octets.len() > 76 => "longer than 76".into(),
+        (_, control) if control & 0x10 == 0 => "poll bit clear".into(),
+        (0xFF, 0xBF) => xid_reason(before, payload),
+        (0xFF, _) => "no XID to everyone".into(),
+        (0, _) => "address 0".into(),
+        (address, _) if *address != before.address => "another address".into(),
+        (_, 0xBF) => "XID to the own address".into(),
+        (_, 0x93) => "SNRM with payload".into(),
+        (_, 0x53) => "DISC with payload".into(),
+        _ => match before.session() {
+            None => "RR or RNR with payload, assigned".into(),
+            Some(session) => {
+                let good = number_r == session.unacknowledged
+                    || session.pending.is_some() && number_r == after(session.unacknowledged);
+                format!("RR or RNR with payload, N(R) good {good}")
+            }
+        },
+    }
+}
+
+/// The same for an XID frame to everyone.
+fn xid_reason(before: &Record, payload: &[u8]) -> String {
+    let [0x81, 0xF0, length, field @ ..] = payload else {
+        return "XID head".into();
+    };
+    if usize::from(*length) != field.len() {
+        return "XID outer length".into();
+    }
+    let mut values: BTreeMap<u8, &[u8]> = BTreeMap::new();
+    let mut rest = field;
+    while !rest.is_empty() {
+        let [identifier, length, more @ ..] = rest else {
+            return "XID triple cut short".into();
+        };
+        let Some((value, next)) = more.split_at_checked(usize::from(*length)) else {
+            return "XID triple cut short".into();
+        };
+        let lengths = match identifier {
+            1 | 3 => 1..=19,
+            2 | 4 => 1..=1,
+            6 => 2..=2,
+            _ => return "XID identifier".into(),
+        };
+        if !lengths.contains(&value.len()) {
+            return format!("XID length of {identifier}");
+        }
+        if values.insert(*identifier, value).is_some() {
+            return format!("XID repeat of {identifier}");
+        }
+        rest = next;
+    }
+    let identity = &before.make.identity;
+    match (values.get(&1), values.get(&2), values.get(&3)) {
+        (Some(value), None, Some(mask)) if values.len() == 2 => {
+            let outside = value.iter().zip(*mask).any(|(value, mask)| value & !mask != 0);
+            match outside {
+                _ if value.len() != mask.len() => "scan of unequal lengths".into(),
+                true => "scan value outside its mask".into(),
+                false => "scan of others".into(),
+            }
+        }
+        (_, Some([0]), None) => "assignment of 0".into(),
+        (_, Some([255]), None) => "assignment of 255".into(),
+        (Some(value), Some(_), None) if value.len() > identity.unpadded().len() => {
+            "assignment, identity too long".into()
+        }
+        (Some(value), Some(_), None) if !identity.unpadded().ends_with(value) => {
+            let left = identity.unpadded().starts_with(value);
+            format!("assignment, other identity, from the left {left}")
+        }
+        (_, Some(_), None) if values.get(&4).is_some_and(|value| **value != [1]) => {
+            "assignment, other type".into()
+        }
+        (_, Some(_), None) => "assignment, other vendor".into(),
+        _ => "XID neither".into(),
+    }
+}
+
 /// The device that a line's second word names.
 fn device_of<'bench>(bench: &'bench Bench, line: &[u8]) -> Option<&'bench Record> {
     let k = line.split(|&octet| octet == b' ').nth(1)?;
@@ -247,7 +335,7 @@ fn device_of<'bench>(bench: &'bench Bench, line: &[u8]) -> Option<&'bench Record
 }
 
 /// Kinds that must come at least so often in all the scripts together.
-const OFTEN: [(&str, usize); 104] = [
+const OFTEN: [(&str, usize); 141] = [
     ("no answer", 1_000),
     ("devices 0", 1),
     ("devices 1", 1),
@@ -314,6 +402,43 @@ const OFTEN: [(&str, usize); 104] = [
     ("silence in none", 200),
     ("silence in assigned", 500),
     ("silence in connected", 1_000),
+    ("silence, shorter than 2", 200),
+    ("silence, longer than 76", 200),
+    ("silence, poll bit clear", 1_000),
+    ("silence, address 0", 50),
+    ("silence, another address", 1_000),
+    ("silence, no XID to everyone", 500),
+    ("silence, XID to the own address", 500),
+    ("silence, SNRM with payload", 500),
+    ("silence, DISC with payload", 500),
+    ("silence, RR or RNR with payload, assigned", 50),
+    ("silence, RR or RNR with payload, N(R) good true", 500),
+    ("silence, RR or RNR with payload, N(R) good false", 500),
+    ("silence, XID head", 100),
+    ("silence, XID outer length", 100),
+    ("silence, XID triple cut short", 20),
+    ("silence, XID identifier", 100),
+    ("silence, XID length of 1", 100),
+    ("silence, XID length of 2", 100),
+    ("silence, XID length of 3", 50),
+    ("silence, XID length of 4", 50),
+    ("silence, XID length of 6", 50),
+    ("silence, XID repeat of 1", 50),
+    ("silence, XID repeat of 2", 50),
+    ("silence, XID repeat of 3", 20),
+    ("silence, XID repeat of 4", 20),
+    ("silence, XID repeat of 6", 20),
+    ("silence, XID neither", 200),
+    ("silence, scan of unequal lengths", 50),
+    ("silence, scan of others", 200),
+    ("silence, scan value outside its mask", 200),
+    ("silence, assignment of 0", 100),
+    ("silence, assignment of 255", 100),
+    ("silence, assignment, identity too long", 100),
+    ("silence, assignment, other identity, from the left true", 100),
+    ("silence, assignment, other identity, from the left false", 100),
+    ("silence, assignment, other type", 100),
+    ("silence, assignment, other vendor", 100),
     ("UA in assigned", 1_000),
     ("UA in connected", 500),
     ("DM in assigned", 500),

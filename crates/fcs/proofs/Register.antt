@@ -4,25 +4,47 @@ use mathlib.Core.Path.{_≡_, refl, sym, ap, _∙_}
 use mathlib.Core.List.{List, [], _∷_, _++_}
 use Prim.Native.Nat.{ℕ, zero, suc, _+_, _*_, _/_, _%_, _^_, _<_, _≤_}
 use native.Mathlib.Omega.{arith}
-use lib.Bits.{bitXor, xor-lt}
+use lib.Bits.{bitXor, xor-lt, xor-comm, xor-shifted}
 use lib.Dec.{lit<}
 use lib.ListN.{length, getD, drop, drop-of-length-le}
-use Rattle.octets.specs.Octets.{Octets, lowOf, highOf}
+use Rattle.octets.specs.Octets.{Octets, lowOf, highOf, pairOf}
 use Rattle.octets.proofs.Rest.{rest}
 use Rattle.fcs.specs.Check.{polynomial, bitStep, bitSteps, octetStep, registerAfter, checkOf, Remainders}
-use Rattle.fcs.proofs.Rule.{by-entry}
+use Rattle.fcs.proofs.Division.{comes-down}
+use Rattle.fcs.proofs.Exclusive.{xor-assoc}
 
--- a loop that goes through s by i: one octet more, and the end
-pub register-more : (t s : List ℕ) (i r : ℕ) {w : ℕ} → Remainders 8 t → i < length s → registerAfter r (drop i s) ≡ w
-    → registerAfter (bitXor (bitXor r (getD s i 0) / 256) (getD t (bitXor r (getD s i 0) % 256) 0)) (drop (i + 1) s)
-    ≡ w
-unfolding registerAfter octetStep
-register-more t s i r m h v =
-    rw (by-entry 8 t m (bitXor r (getD s i 0))) (sym (ap (registerAfter r) (rest s i h)) ∙ v)
+-- two octets as one number: the second waits above the first, and comes down with it
+pub two-on : (r a b : ℕ) → a < 256 → bitSteps 8 (bitXor r (pairOf a b)) ≡ bitXor (bitSteps 8 (bitXor r a)) b
+two-on r a b h =
+    let both : pairOf a b ≡ b * 2 ^ 8 + a = omega arith in
+    let above : bitXor r (pairOf a b) ≡ bitXor (b * 2 ^ 8) (bitXor r a) =
+    ap (bitXor r) (both ∙ sym (xor-shifted b 8 a h))
+    ∙ sym (xor-assoc r (b * 2 ^ 8) a)
+    ∙ ap (λ (x : ℕ). bitXor x a) (xor-comm r (b * 2 ^ 8))
+    ∙ xor-assoc (b * 2 ^ 8) r a in
+    ap (bitSteps 8) above ∙ comes-down 8 b (bitXor r a) ∙ xor-comm b (bitSteps 8 (bitXor r a))
 
-pub register-done : (s : List ℕ) (i r : ℕ) {w : ℕ} → length s ≤ i → registerAfter r (drop i s) ≡ w → r ≡ w
-unfolding registerAfter
-register-done s i r h v = sym (ap (registerAfter r) (drop-of-length-le s h)) ∙ v
+-- a loop that goes through s by i: two octets more, the last one, and the end
+module _ (s : List ℕ) (i r : ℕ) {w : ℕ} (v : registerAfter r (drop i s) ≡ w) where
+  pub register-two : {p q t : ℕ} → i + 1 < length s → getD s i 0 < 256 → p ≡ pairOf (getD s i 0) (getD s (i + 1) 0)
+      → q ≡ bitSteps 8 (bitXor r p) → t ≡ bitSteps 8 q → registerAfter t (drop (i + 2) s) ≡ w
+  unfolding registerAfter octetStep
+  register-two h b e f g =
+      let n : i + 1 + 1 ≡ i + 2 = omega arith in
+      let second : drop (i + 1) s ≡ getD s (i + 1) 0 ∷ drop (i + 2) s = rw n at (rest s (i + 1) h) in
+      let both : drop i s ≡ getD s i 0 ∷ getD s (i + 1) 0 ∷ drop (i + 2) s =
+      rest s i (omega arith) ∙ ap (λ (l : List ℕ). getD s i 0 ∷ l) second in
+      rw (g, f, e, two-on r (getD s i 0) (getD s (i + 1) 0) b) (sym (ap (registerAfter r) both) ∙ v)
+
+  pub register-last : {t : ℕ} → i < length s → length s ≤ i + 1 → t ≡ bitSteps 8 (bitXor r (getD s i 0)) → t ≡ w
+  unfolding registerAfter octetStep
+  register-last h k e =
+      let one : drop i s ≡ getD s i 0 ∷ [] = rest s i h ∙ ap (λ (l : List ℕ). getD s i 0 ∷ l) (drop-of-length-le s k) in
+      e ∙ sym (ap (registerAfter r) one) ∙ v
+
+  pub register-done : length s ≤ i → r ≡ w
+  unfolding registerAfter
+  register-done h = sym (ap (registerAfter r) (drop-of-length-le s h)) ∙ v
 
 -- octets in two runs: the second goes on from the register of the first
 pub register-append : (s t : List ℕ) (r : ℕ) → registerAfter r (s ++ t) ≡ registerAfter (registerAfter r s) t

@@ -2,12 +2,12 @@
 use mathlib.Core.Path.{_≡_, refl, ap, _∙_}
 use mathlib.Core.Bool.{Bool, true, false}
 use mathlib.Core.List.{List, [], _∷_, _++_, append-assoc}
-use Prim.Native.Nat.{ℕ, _+_, _*_, _<_, _≤_}
+use Prim.Native.Nat.{ℕ, _+_, _-_, _*_, _<_, _≤_}
 use native.Mathlib.Omega.{arith}
 use lib.Bits.{bitXor}
 use lib.Dec.{lit≤}
 use lib.ListN.{length, getD, drop, drop-of-length-le, length-append, set}
-use lib.Seq.{sets}
+use lib.Seq.{sets, set-set}
 use Rattle.octets.proofs.Rest.{rest}
 use Rattle.frame.specs.Line.{flag, escape, special, escaped, onLine, between}
 use Rattle.frame.specs.Steps.{Fills}
@@ -35,6 +35,10 @@ onLine-short (x ∷ xs) = rw length-append (omega (arith, escaped-short x, onLin
 pub length-between : (d : List ℕ) → length (between d) ≡ length (onLine d) + 2
 unfolding between
 length-between d = rw length-append (omega arith)
+
+-- the octet before is written once more
+pub overwritten : (o : List ℕ) (n x y : ℕ) → set (set o n x) (n + 1 - 1) y ≡ set o n y
+overwritten o n x y = let e : n + 1 - 1 ≡ n = omega arith in rw e (set-set o n x y)
 
 -- a loop that goes through d by i, with z behind it: one octet more, and the end
 module _ (d z : List ℕ) (i : ℕ) where

@@ -1,16 +1,17 @@
 -- A line that a loop goes through by an index i: what is left to decode at i, against what is left at i + 1; and a
 -- broken line, by its two parts. Assumes nothing.
-use mathlib.Core.Path.{_≡_, refl}
-use mathlib.Core.Bool.{Bool, true, false, _||_}
+use mathlib.Core.Path.{_≡_, refl, sym, ap, _∙_}
+use mathlib.Core.Bool.{Bool, true, false, cond, _||_}
 use mathlib.Core.List.{List, [], _∷_}
-use Prim.Native.Nat.{ℕ, _+_, _<_, _≤_}
-use borrow.Author.Tests.{eq-eqb, ne-eqb}
+use Prim.Native.Nat.{ℕ, suc, _+_, _-_, _*_, _<_, _≤_}
+use native.Mathlib.Omega.{arith}
+use borrow.Author.Tests.{eq-eqb, ne-eqb, lt-ltb, le-ltb, ltb-true, ltb-false}
 use lib.Bits.{bitXor}
-use lib.Dec.{eqb}
+use lib.Dec.{eqb, ltb}
 use lib.ListN.{length, getD, drop, drop-of-length-le}
-use Rattle.octets.specs.Octets.{holds, lastOf}
+use Rattle.octets.specs.Octets.{holds, placeOf, lastOf}
 use Rattle.octets.proofs.Rest.{rest}
-use Rattle.octets.proofs.Words.{true-not-false}
+use Rattle.octets.proofs.Words.{true-not-false, place-held, last-at}
 use Rattle.frame.specs.Line.{flag, escape, broken, plainAfter, plain}
 use Rattle.frame.specs.Steps.{Fills, Unescapes}
 use Rattle.frame.specs.declared.Unescaped.{Unescaped}
@@ -28,14 +29,49 @@ module _ (s : List ℕ) (i : ℕ) where
     unfolding plainAfter
     plain-pair e k = rw (rest s i h, eq-eqb (getD s i 0) escape e, rest s (i + 1) k)
 
-    -- an escape that is the last octet
-    pub plain-last : getD s i 0 ≡ escape → length s ≤ i + 1 → plain (drop i s) ≡ plain (drop (i + 1) s)
-    unfolding plainAfter
-    plain-last e k = rw (rest s i h, eq-eqb (getD s i 0) escape e, drop-of-length-le s k)
+    -- an escape that is not the last octet has one behind it
+    pub one-behind : eqb (lastOf 0 s) escape ≡ false → getD s i 0 ≡ escape → i + 1 < length s
+    one-behind l e = go (ltb (i + 1) (length s)) refl
+      where
+        go : (t : Bool) → ltb (i + 1) (length s) ≡ t → i + 1 < length s
+        go true t = ltb-true (i + 1) (length s) t
+        go false t =
+            let k : length s ≤ i + 1 = ltb-false (i + 1) (length s) t in
+            let n : length s - 1 ≡ i = omega arith in
+            let last : lastOf 0 s ≡ escape = last-at 0 s 0 (omega arith) ∙ ap (λ (j : ℕ). getD s j 0) n ∙ e in
+            absurd (true-not-false (sym (eq-eqb (lastOf 0 s) escape last) ∙ l))
 
     pub plain-octet : (getD s i 0 ≡ escape → ⊥) → plain (drop i s) ≡ getD s i 0 ∷ plain (drop (i + 1) s)
     unfolding plainAfter
     plain-octet n = rw (rest s i h, ne-eqb (getD s i 0) escape n)
+
+-- a decoded octet takes at most two on the line; the Bool is that of `plainAfter`, and one more is left over for it
+plain-long-after : (removed : Bool) (s : List ℕ) → length s ≤ 2 * length (plainAfter removed s) + cond removed 0 1
+unfolding plainAfter
+plain-long-after true [] = omega arith
+plain-long-after true (x ∷ xs) = omega (arith, plain-long-after false xs)
+plain-long-after false [] = omega arith
+plain-long-after false (x ∷ xs) = go (eqb x escape) (plain-long-after true xs) (plain-long-after false xs)
+  where
+    go : (t : Bool) → length xs ≤ 2 * length (plainAfter true xs) + 0
+        → length xs ≤ 2 * length (plainAfter false xs) + 1
+        → suc (length xs) ≤ 2 * length (cond t (plainAfter true xs) (x ∷ plainAfter false xs)) + 1
+    go true h k = omega arith
+    go false h k = omega arith
+
+pub plain-long : (s : List ℕ) → length s ≤ 2 * length (plain s) + 1
+plain-long s = plain-long-after false s
+
+pub overlong : (s : List ℕ) → 158 < length s → 78 < length (plain s)
+overlong s h = omega (arith, plain-long s)
+
+-- a flag looked for by its place
+module _ (s : List ℕ) {n : ℕ} (e : n ≡ placeOf flag s) where
+  pub flag-at : n < length s → holds flag s ≡ true
+  flag-at h = place-held flag s ∙ lt-ltb (placeOf flag s) (length s) (rw e at h)
+
+  pub flag-nowhere : length s ≤ n → holds flag s ≡ false
+  flag-nowhere h = place-held flag s ∙ le-ltb (placeOf flag s) (length s) (rw e at h)
 
 or-true : (a : Bool) → (a || true) ≡ true
 or-true true = refl

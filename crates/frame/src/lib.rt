@@ -3,6 +3,7 @@
 // (proofs/Trip.antt, proofs/Unique.antt). Assumes nothing of its caller.
 ghost use mathlib.Core.Path.{_≡_};
 ghost use Prim.Native.Nat.{_≤_};
+ghost use mathlib.Core.Bool.{false};
 ghost use lib.Dec.{eqb};
 ghost use lib.ListN.{length};
 ghost use Rattle.octets.specs.Octets.{lastOf};
@@ -35,8 +36,9 @@ fn ends_escaped(s: &[u8]) -> bool
     s[n - 1] == ESCAPE
 }
 
-// Takes the escapes out of `s`, into `store` as far as there is room, unless a flag lies inside.
+// Takes the escapes out of `s`, of which none is the last octet, into `store`, unless a flag lies inside.
 fn unescape(s: &[u8], store: &mut [u8]) -> Unescaped
+    requires { ⌜ (length (now s) ≤ length (now store)) × (eqb (lastOf 0 (now s)) escape ≡ false) ⌝ }
     ensures { λ r. ⌜ Unescapes (now (s .entry)) (now (store .entry)) r (now (store .exit)) ⌝ }
 {
     let mut n = 0;
@@ -48,17 +50,15 @@ fn unescape(s: &[u8], store: &mut [u8]) -> Unescaped
             return Unescaped::Flag;
         }
         if b == ESCAPE {
-            if i < s.len() {
-                let x = s[i];
-                i += 1;
-                if x == FLAG {
-                    return Unescaped::Flag;
-                }
-                octets::put(store, n, x ^ 0x20);
-                n += 1;
+            let x = s[i];
+            i += 1;
+            if x == FLAG {
+                return Unescaped::Flag;
             }
+            store[n] = x ^ 0x20;
+            n += 1;
         } else {
-            octets::put(store, n, b);
+            store[n] = b;
             n += 1;
         }
     }
@@ -84,7 +84,8 @@ fn deliver(d: &[u8], out: &mut [u8]) -> Handed
     refusal::hand_out(&d[..len], out)
 }
 
-// Decodes what lies between two flags: address, control and payload to the start of `out`.
+// Decodes what lies between two flags: address, control and payload to the start of `out`. More than 158 octets stand
+// for more than 78, so that the store has room for what is left, and no octet asks for it.
 pub fn decode(src: &[u8], out: &mut [u8]) -> Handed
     ensures { λ r. ⌜ Hands (decoded 78 (now (src .entry)) (length (now (out .entry))))
         (now (out .entry)) r (now (out .exit)) ⌝ }
@@ -92,7 +93,13 @@ pub fn decode(src: &[u8], out: &mut [u8]) -> Handed
     if ends_escaped(src) {
         return Handed::Refused(Refusal::Broken);
     }
-    let mut store = [0u8; 78];
+    if 158 < src.len() {
+        if octets::find(FLAG, src) < src.len() {
+            return Handed::Refused(Refusal::Broken);
+        }
+        return Handed::Refused(Refusal::TooLong);
+    }
+    let mut store = [0u8; 158];
     let found = unescape(src, &mut store);
     let Unescaped::Octets(n) = found else {
         return Handed::Refused(Refusal::Broken);
@@ -110,27 +117,26 @@ fn is_special(b: u8) -> bool
     b == FLAG || b == ESCAPE
 }
 
-// Puts flag, `d` with its escapes, flag into `line`, as far as there is room.
+// Puts flag, `d` with its escapes, flag into `line`.
 fn put_between(d: &[u8], line: &mut [u8]) -> usize
-    requires { ⌜ length (now d) ≤ 78 ⌝ }
+    requires { ⌜ (length (now d) ≤ 78) × (158 ≤ length (now line)) ⌝ }
     ensures { λ r. ⌜ Fills (now (line .entry)) (between (now (d .entry))) r (now (line .exit)) ⌝ }
 {
-    octets::put(line, 0, FLAG);
+    line[0] = FLAG;
     let mut n = 1;
     let mut i = 0;
     while i < d.len() {
         let b = d[i];
         i += 1;
+        line[n] = b;
+        n += 1;
         if is_special(b) {
-            octets::put(line, n, ESCAPE);
-            octets::put(line, n + 1, b ^ 0x20);
-            n += 2;
-        } else {
-            octets::put(line, n, b);
+            line[n - 1] = ESCAPE;
+            line[n] = b ^ 0x20;
             n += 1;
         }
     }
-    octets::put(line, n, FLAG);
+    line[n] = FLAG;
     n + 1
 }
 

@@ -71,13 +71,23 @@ impl Generator<'_> {
         }
     }
 
-    /// An identity: in the cluster, scattered, or another device's again.
+    /// An identity: a new one, or another device's again.
     fn identity(&mut self) -> Vec<u8> {
         let there = self.bench.devices.len();
-        if there > 0 && self.dice.chance(20) {
+        if self.plan.twins && there > 0 && self.dice.chance(40) {
             let other = self.dice.below(there);
             return self.bench.devices[other].make.identity.unpadded().to_vec();
         }
+        // In a cluster of 18 octets the 32nd still finds one within few throws.
+        let mut identity = self.any_identity();
+        while self.bench.devices.iter().any(|device| device.make.identity.unpadded() == identity) {
+            identity = self.any_identity();
+        }
+        identity
+    }
+
+    /// An identity in the cluster, or a scattered one.
+    fn any_identity(&mut self) -> Vec<u8> {
         let mut identity = if self.plan.clustered && self.dice.chance(850) {
             self.plan.cluster.clone()
         } else {

@@ -107,14 +107,14 @@ impl Generator<'_> {
     }
 
     fn throw_policy(&mut self) -> Policy {
-        match self.dice.weighed(&[2, 3, 5, 2, 2, 4, 9]) {
+        match self.dice.weighed(&[2, 3, 5, 2, 2, 8, 10]) {
             0 => Policy::Silent,
             1 => Policy::Heard,
             2 => Policy::Coin(self.dice.pick(&[300, 400, 500, 650, 950])),
             3 => Policy::Present(self.someones(1)),
             4 => Policy::Present(self.someones(2)),
             5 => {
-                let count = self.dice.pick(&[32, 32, 33, 34, 40]);
+                let count = self.dice.pick(&[32, 32, 32, 33, 34, 40]);
                 let step = self.dice.pick(&[1, 1, 2, 3]);
                 Policy::Present(self.neighbours(count, step))
             }

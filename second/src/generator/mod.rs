@@ -34,6 +34,8 @@ struct Plan {
     clustered: bool,
     /// The shared beginning.
     cluster: Vec<u8>,
+    /// Now and then two devices with one identity.
+    twins: bool,
     /// The last line has no 0x0A.
     open_end: bool,
 }
@@ -55,6 +57,7 @@ impl Plan {
             rudeness: dice.pick(&[4, 15, 40, 120]),
             clustered: dice.chance(600),
             cluster: (0..cluster_length).map(|_| dice.between(0x21, 0x7E) as u8).collect(),
+            twins: seed.is_multiple_of(2),
             open_end: seed.is_multiple_of(3),
         }
     }
@@ -79,12 +82,18 @@ pub struct Generator<'out> {
 
 /// Writes a script of so many lines.
 pub fn generate(seed: u64, lines: usize, output: &mut dyn Write) -> io::Result<()> {
+    go_on(Bench::default(), seed, lines, output)
+}
+
+/// Writes so many lines more of a script that has left the bench so.
+pub fn go_on(bench: Bench, seed: u64, lines: usize, output: &mut dyn Write) -> io::Result<()> {
     let mut dice = Random::new(seed);
-    let plan = Plan::throw(seed, &mut dice);
+    let mut plan = Plan::throw(seed, &mut dice);
+    plan.devices = plan.devices.max(bench.devices.len());
     let mut generator = Generator {
         dice,
         plan,
-        bench: Bench::default(),
+        bench,
         output,
         left: lines,
         recent: Vec::new(),
@@ -97,7 +106,7 @@ pub fn generate(seed: u64, lines: usize, output: &mut dyn Write) -> io::Result<(
 
 impl Generator<'_> {
     fn run(&mut self) -> io::Result<()> {
-        if self.dice.chance(700) {
+        if self.bench.devices.is_empty() && self.dice.chance(700) {
             self.first_devices()?;
         }
         while self.left > 0 {

@@ -41,7 +41,7 @@ impl Generator<'_> {
 
     fn step(&mut self, device: usize) -> io::Result<()> {
         let moving = if self.record(device).unit.drive.is_moving() { 120 } else { 15 };
-        match self.dice.weighed(&[60, 90, moving, 30, 25, 15, 760]) {
+        match self.dice.weighed(&[60, 90, moving, 30, 25, 25, 15, 760]) {
             0 => self.say(format!("show {}", device + 1)),
             1 => self.alarm_event(device),
             2 => self.stop_event(device),
@@ -49,8 +49,13 @@ impl Generator<'_> {
                 let payload = self.xid_scan(device);
                 self.give(device, EVERYONE, XID, &payload)
             }
-            4 => self.say_again(device),
-            5 => self.any_frame(device),
+            4 => {
+                // Wrong nearly always, so that it seldom ends a session.
+                let payload = self.assignment(device, 970);
+                self.give(device, EVERYONE, XID, &payload)
+            }
+            5 => self.say_again(device),
+            6 => self.any_frame(device),
             _ => self.frame_for_state(device),
         }
     }
@@ -139,7 +144,8 @@ impl Generator<'_> {
         let own = self.record(device).address;
         let (address, control, payload) = match self.dice.weighed(&[25, 20, 15, 15, 10]) {
             0 => {
-                let numbered = self.dice.pick(&[RR, RNR]) + 32 * number_r;
+                let any = self.dice.below(8) as u8;
+                let numbered = self.dice.pick(&[RR, RNR]) + 32 * self.dice.pick(&[number_r, any]);
                 let control = self.dice.pick(&[SNRM, DISC, numbered, numbered]);
                 (own, control, self.octets_up_to(4))
             }

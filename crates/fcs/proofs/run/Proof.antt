@@ -2,64 +2,80 @@
 -- start. Assumes nothing.
 use borrow.Author.Needs.{needs}
 use mathlib.Core.Path.{_≡_}
-use Prim.Native.Nat.{_≤_, _-_}
+use Prim.Native.Nat.{_≤_, _-_, _%_}
 use native.Mathlib.Omega.{arith}
 use lib.ListN.{length, drop}
 use Rattle.fcs.specs.Check.{registerAfter}
-use Rattle.fcs.proofs.Register.{register-more, register-done}
+use Rattle.fcs.proofs.Register.{register-two, register-last, register-done}
 use Rattle.fcs.proofs.run.Statement.{statement}
 use Rattle.fcs.proofs.run.Tie as tie
-use Rattle.fcs.proofs.run.Reads as reads
-use Rattle.fcs.proofs.run.Lts as lts
 
 abbrev Inv-loop : tie.InvT-loop
-Inv-loop table register s r₀ i₀ r i = (i ≤ length s) × (registerAfter r (drop i s) ≡ registerAfter register s)
+Inv-loop table register s r₀ i₀ pairs r i =
+    (i ≤ length s) × (i % 2 ≡ 0) × (registerAfter r (drop i s) ≡ registerAfter register s)
 
 abbrev μ-loop : tie.MeasureT-loop
-μ-loop table register s r₀ i₀ r i = length s - i
+μ-loop table register s r₀ i₀ pairs r i = length s - i
 
--- src/lib.rt:19:5
+mul-pairs : tie.Need-mul-pairs Inv-loop μ-loop
+mul-pairs c = search needs
+
 loop-holds : tie.Need-loop-holds Inv-loop μ-loop
 loop-holds c = search needs
 
--- src/lib.rt:20:22
-shared-slice-read-x : tie.Need-shared-slice-read-x Inv-loop μ-loop
-shared-slice-read-x c = search needs
+shared-slice-read-pair : tie.Need-shared-slice-read-pair Inv-loop μ-loop
+shared-slice-read-pair c = search needs
 
--- src/lib.rt:20:22
-cast-x : tie.Need-cast-x Inv-loop μ-loop
-cast-x c = omega (arith, c .shared-slice-known .given (c .before .before .loop .i))
+add-pair : tie.Need-add-pair Inv-loop μ-loop
+add-pair c = search needs
 
--- src/lib.rt:21:31
-cast-r : tie.Need-cast-r Inv-loop μ-loop
-cast-r c = search needs
+shared-slice-read-pair-2 : tie.Need-shared-slice-read-pair-2 Inv-loop μ-loop
+shared-slice-read-pair-2 c = search needs
 
--- src/lib.rt:21:25
-mul-r : tie.Need-mul-r Inv-loop μ-loop
-mul-r c = search needs
+pair-requires : tie.Need-pair-requires Inv-loop μ-loop
+pair-requires c κs = search needs
 
--- src/lib.rt:21:25
-element-copy-out-r : tie.Need-element-copy-out-r Inv-loop μ-loop
-element-copy-out-r c = search needs
+eight-on-requires : tie.Need-eight-on-requires Inv-loop μ-loop
+eight-on-requires c κs = search needs
 
--- src/lib.rt:22:9
+eight-on-requires-2 : tie.Need-eight-on-requires-2 Inv-loop μ-loop
+eight-on-requires-2 c κs = search needs
+
 add-i : tie.Need-add-i Inv-loop μ-loop
 add-i c = search needs
 
--- src/lib.rt:19:5
 loop-less : tie.Need-loop-less Inv-loop μ-loop
 loop-less c = search needs
 
--- src/lib.rt:19:5
 loop-again : tie.Need-loop-again Inv-loop μ-loop
 loop-again c =
-    let start = c .before .before .before .before in
-    let now = c .before .before .before .loop in
-    (search needs, register-more _ _ _ _ (start .pre) (c .before .before .loop-test .taken) (now .inv .1))
+    let test = c .before .before .before .before .before in
+    let now = test .before .loop in
+    let octet = test .before .before .shared-slice-known .given (now .i) in
+    let s = test .before .before .before .args .s .now in (
+      search needs,
+      search needs,
+      register-two s (now .i) _ (now .inv .2) (search needs) (omega (arith, octet)) (c .before .before .pair .ensures)
+          (c .before .eight-on .ensures) (c .eight-on2 .ensures),
+    )
 
--- src/lib.rt:13:1
+shared-slice-read-eight-on : tie.Need-shared-slice-read-eight-on Inv-loop μ-loop
+shared-slice-read-eight-on c = search needs
+
+cast-eight-on : tie.Need-cast-eight-on Inv-loop μ-loop
+cast-eight-on c = omega (arith, c .shared-slice-known4 .given (c .before .before .before .loop .i))
+
+eight-on-requires-3 : tie.Need-eight-on-requires-3 Inv-loop μ-loop
+eight-on-requires-3 c κs = search needs
+
 returns : tie.Need-returns Inv-loop μ-loop
-returns c = register-done _ _ _ (c .loop-test .left) (c .before .loop .inv .1)
+returns c =
+    let test = c .before .before .before in
+    register-last _ _ _ (test .before .loop .inv .2) (c .before .before .if1 .taken) (search needs)
+    (c .eight-on3 .ensures)
+
+returns-2 : tie.Need-returns-2 Inv-loop μ-loop
+returns-2 c = register-done _ _ _ (c .before .before .loop .inv .2) (c .if1 .left)
 
 pub run-spec : {M : Type 1} → statement M
 run-spec =
@@ -67,13 +83,19 @@ run-spec =
     (tie.spec
     Inv-loop
     μ-loop
+    mul-pairs
     loop-holds
-    shared-slice-read-x
-    cast-x
-    cast-r
-    mul-r
-    element-copy-out-r
+    shared-slice-read-pair
+    add-pair
+    shared-slice-read-pair-2
+    pair-requires
+    eight-on-requires
+    eight-on-requires-2
     add-i
     loop-less
     loop-again
-    returns)
+    shared-slice-read-eight-on
+    cast-eight-on
+    eight-on-requires-3
+    returns
+    returns-2)

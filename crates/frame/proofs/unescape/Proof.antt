@@ -9,7 +9,7 @@ use Rattle.octets.proofs.Runs.{Run, run-all, run-one, run-is, run-done}
 use Rattle.octets.proofs.Words.{holds-here, holds-more, holds-done}
 use Rattle.frame.specs.Line.{flag, plain}
 use Rattle.frame.proofs.Filled.{fills-of}
-use Rattle.frame.proofs.Lines.{plain-done, plain-pair, plain-last, plain-octet}
+use Rattle.frame.proofs.Lines.{plain-done, plain-pair, plain-octet, one-behind}
 use Rattle.frame.proofs.unescape.Statement.{statement}
 use Rattle.frame.proofs.unescape.Tie as tie
 
@@ -46,7 +46,9 @@ returns c =
     (c .if1 .taken))
 
 shared-slice-read-x : tie.Need-shared-slice-read-x Inv-loop μ-loop
-shared-slice-read-x c = search needs
+shared-slice-read-x c =
+    let turn = c .before .before .before .before in
+    one-behind _ _ (turn .loop-test .taken) (turn .before .before .pre .1) (c .before .if2 .taken)
 
 add-i-2 : tie.Need-add-i-2 Inv-loop μ-loop
 add-i-2 c = search needs
@@ -56,13 +58,14 @@ same-length-2 c = search needs
 
 returns-2 : tie.Need-returns-2 Inv-loop μ-loop
 returns-2 c =
-    let turn = c .before .before .before .before in
-    let first = holds-more _ _ _ (turn .before .before .before .loop .inv .flags)
-    (turn .before .before .loop-test .taken) (turn .if1 .left) in
-    sym (holds-here _ _ _ first (c .before .before .if3 .taken) (c .if4 .taken))
+    let turn = c .before .before .before in
+    let test = turn .before .before in
+    let first = holds-more _ _ _ (test .before .loop .inv .flags) (test .loop-test .taken) (turn .if1 .left) in
+    let pair = one-behind _ _ (test .loop-test .taken) (test .before .before .pre .1) (c .before .before .if2 .taken) in
+    sym (holds-here _ _ _ first pair (c .if3 .taken))
 
-put-requires : tie.Need-put-requires Inv-loop μ-loop
-put-requires c κs = search needs
+slice-write-store : tie.Need-slice-write-store Inv-loop μ-loop
+slice-write-store c = search needs
 
 add-n : tie.Need-add-n Inv-loop μ-loop
 add-n c = search needs
@@ -72,59 +75,39 @@ loop-less c = search needs
 
 loop-again : tie.Need-loop-again Inv-loop μ-loop
 loop-again c =
-    let turn = c .before .before .before .before .before .before .before .before in
-    let at = turn .before .before .before .loop .inv in
-    let first = holds-more _ _ _ (at .flags) (turn .before .before .loop-test .taken) (turn .if1 .left) in
-    let left = plain-pair _ _ (turn .before .before .loop-test .taken)
-    (c .before .before .before .before .before .before .before .if2 .taken)
-    (c .before .before .before .before .before .before .if3 .taken) in
+    let turn = c .before .before .before in
+    let test = turn .before .before in
+    let at = test .before .loop .inv in
+    let escape = c .before .before .if2 .taken in
+    let pair = one-behind _ _ (test .loop-test .taken) (test .before .before .pre .1) escape in
+    let first = holds-more _ _ _ (at .flags) (test .loop-test .taken) (turn .if1 .left) in
     record {
       inside = search needs;
       few = search needs;
       long = search needs;
-      flags = holds-more _ _ _ first (c .before .before .before .before .before .before .if3 .taken)
-          (c .before .before .before .before .if4 .left);
-      run = run-one _ (c .before .before .put .ensures) left (at .run);
+      flags = holds-more _ _ _ first pair (c .if3 .left);
+      run = run-one _ refl (plain-pair _ _ (test .loop-test .taken) escape pair) (at .run);
     }
+
+slice-write-store-2 : tie.Need-slice-write-store-2 Inv-loop μ-loop
+slice-write-store-2 c = search needs
+
+add-n-2 : tie.Need-add-n-2 Inv-loop μ-loop
+add-n-2 c = search needs
 
 loop-less-2 : tie.Need-loop-less-2 Inv-loop μ-loop
 loop-less-2 c = search needs
 
 loop-again-2 : tie.Need-loop-again-2 Inv-loop μ-loop
 loop-again-2 c =
-    let at = c .before .before .before .before .before .loop .inv in
+    let test = c .before .before .before in
+    let at = test .before .loop .inv in
     record {
       inside = search needs;
       few = search needs;
       long = search needs;
-      flags = holds-more _ _ _ (at .flags) (c .before .before .before .before .loop-test .taken)
-          (c .before .before .if1 .left);
-      run = run-is
-          (plain-last _ _ (c .before .before .before .before .loop-test .taken) (c .before .if2 .taken) (c .if3 .left))
-          (at .run);
-    }
-
-put-requires-2 : tie.Need-put-requires-2 Inv-loop μ-loop
-put-requires-2 c κs = search needs
-
-add-n-2 : tie.Need-add-n-2 Inv-loop μ-loop
-add-n-2 c = search needs
-
-loop-less-3 : tie.Need-loop-less-3 Inv-loop μ-loop
-loop-less-3 c = search needs
-
-loop-again-3 : tie.Need-loop-again-3 Inv-loop μ-loop
-loop-again-3 c =
-    let turn = c .before .before .before .before .before in
-    let at = turn .before .before .before .loop .inv in
-    record {
-      inside = search needs;
-      few = search needs;
-      long = search needs;
-      flags = holds-more _ _ _ (at .flags) (turn .before .before .loop-test .taken) (turn .if1 .left);
-      run = run-one _ (c .before .before .put2 .ensures)
-          (plain-octet _ _ (turn .before .before .loop-test .taken) (c .before .before .before .before .if2 .left))
-          (at .run);
+      flags = holds-more _ _ _ (at .flags) (test .loop-test .taken) (c .before .if1 .left);
+      run = run-one _ refl (plain-octet _ _ (test .loop-test .taken) (c .if2 .left)) (at .run);
     }
 
 same-length-3 : tie.Need-same-length-3 Inv-loop μ-loop
@@ -151,15 +134,13 @@ unescape-spec =
     add-i-2
     same-length-2
     returns-2
-    put-requires
+    slice-write-store
     add-n
     loop-less
     loop-again
+    slice-write-store-2
+    add-n-2
     loop-less-2
     loop-again-2
-    put-requires-2
-    add-n-2
-    loop-less-3
-    loop-again-3
     same-length-3
     returns-3)

@@ -1,0 +1,4 @@
+-- The laws of what crosses.
+pub mod Crosses
+pub mod Only
+pub mod Tells

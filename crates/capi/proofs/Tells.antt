@@ -1,0 +1,47 @@
+-- The number that crosses tells the answer: below 0x10000 the octets, at their place; from there on the refusal, and
+-- an output as it was. Assumes nothing.
+use mathlib.Core.Path.{_≡_}
+use mathlib.Core.List.{List, _∷_}
+use Prim.Native.Nat.{ℕ, _-_, _<_, _≤_}
+use native.Mathlib.Omega.{arith}
+use lib.ListN.{length, take, length-take}
+use Rattle.refusal.specs.Answer.{Answer, gives, refuses}
+use Rattle.frame.specs.Line.{plain}
+use Rattle.frame.specs.Decode.{body, decoded}
+use Rattle.frame.specs.Write.{lineOf, written}
+use Rattle.frame.proofs.Exact.{decode-frame, write-line}
+use Rattle.frame.proofs.Lengths.{line-158}
+use Rattle.capi.specs.Crossing.{refusals, Crosses}
+use Rattle.capi.proofs.Crosses.{low-told, high-told}
+
+-- what the number r and the output o', which was o, tell of the answer x
+abbrev pub Tells : Answer (List ℕ) → List ℕ → ℕ → List ℕ → Type 0
+Tells x o r o' =
+    (r < refusals → x ≡ gives (take r o')) × (refusals ≤ r → (x ≡ refuses (r - refusals)) × (o' ≡ o))
+
+body-short : (d : List ℕ) → length (body d) ≤ length d
+unfolding body
+body-short d = simp length-take (omega arith)
+
+module _ (src : List ℕ) (room : ℕ) where
+  decoded-short : (b : List ℕ) → decoded 78 src room ≡ gives b → length b < refusals
+  decoded-short b e =
+      let f = decode-frame 78 src room b .0 e in
+      let few = f .0 .2 in
+      let all = body-short (plain src) in
+      rw (← (f .3)) (omega arith)
+
+  pub decode-tells : {o o' : List ℕ} {r : ℕ}
+      → Crosses (decoded 78 src room) o r o' → Tells (decoded 78 src room) o r o'
+  decode-tells c = (low-told _ c, high-told _ decoded-short c)
+
+module _ (address control : ℕ) (payload : List ℕ) (room : ℕ) where
+  written-short : (l : List ℕ) → written 78 address control payload room ≡ gives l → length l < refusals
+  written-short l e =
+      let f = write-line 78 address control payload room l .0 e in
+      let few = line-158 address control payload (f .0) in
+      rw (← (f .2)) (omega arith)
+
+  pub write-tells : {o o' : List ℕ} {r : ℕ}
+      → Crosses (written 78 address control payload room) o r o' → Tells (written 78 address control payload room) o r o'
+  write-tells c = (low-told _ c, high-told _ written-short c)

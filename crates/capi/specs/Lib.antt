@@ -1,0 +1,2 @@
+-- What crosses to C.
+pub mod Crossing

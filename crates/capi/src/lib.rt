@@ -1,0 +1,53 @@
+// The codec for a program in C: check, decode, write, on numbers and byte slices (include/gorittaem.h).
+// An answer crosses as a number: how many octets stand at the start of the lent output, or 0x10000 and the refusal's
+// number. Assumes of a caller in C what a slice is: a pointer that may be read or written for its whole length, and no
+// part of an output in an input.
+ghost use mathlib.Core.Path.{_≡_};
+ghost use lib.ListN.{length};
+ghost use Rattle.refusal.specs.Answer.{answerOf};
+ghost use Rattle.fcs.specs.Check.{checkOf};
+ghost use Rattle.frame.specs.Decode.{decoded};
+ghost use Rattle.frame.specs.Write.{written};
+ghost use Rattle.capi.specs.Crossing.{crossed, Crosses};
+use refusal::Handed;
+
+// What a refusal's number is added to.
+const REFUSED: usize = 0x10000;
+
+// The number that an answer crosses as.
+fn crossing(answer: Handed) -> usize
+    ensures { λ r. ⌜ r ≡ crossed (answerOf answer) ⌝ }
+{
+    match answer {
+        Handed::Octets(n) => n,
+        Handed::Refused(refusal) => REFUSED + refusal::number(refusal) as usize,
+    }
+}
+
+// The check of the octets of `s`.
+#[no_mangle]
+pub extern "C" fn gorittaem_check(s: &[u8]) -> u16
+    ensures { λ r. ⌜ r ≡ checkOf (now (s .entry)) ⌝ }
+{
+    fcs::check(s)
+}
+
+// Decodes what lies between two flags: address, control and payload to the start of `out`.
+#[no_mangle]
+pub extern "C" fn gorittaem_decode(src: &[u8], out: &mut [u8]) -> usize
+    ensures { λ r. ⌜ Crosses (decoded 78 (now (src .entry)) (length (now (out .entry))))
+        (now (out .entry)) r (now (out .exit)) ⌝ }
+{
+    let answer = frame::decode(src, out);
+    crossing(answer)
+}
+
+// Writes flag, frame, flag to the start of `out`.
+#[no_mangle]
+pub extern "C" fn gorittaem_write(address: u8, control: u8, payload: &[u8], out: &mut [u8]) -> usize
+    ensures { λ r. ⌜ Crosses (written 78 address control (now (payload .entry)) (length (now (out .entry))))
+        (now (out .entry)) r (now (out .exit)) ⌝ }
+{
+    let answer = frame::write(address, control, payload, out);
+    crossing(answer)
+}

@@ -1,0 +1,68 @@
+/* Frames written, damaged and read: a tour of include/gorittaem.h. `make -C examples/c` builds and runs it; it ends with
+ * 0 where every answer was the one expected. */
+#include "gorittaem.h"
+#include <stdio.h>
+#include <string.h>
+
+static int wrong;
+
+static void show(const char *what, size_t answer, const uint8_t *out)
+{
+    printf("%-44s", what);
+    if (GORITTAEM_IS_REFUSED(answer))
+        printf(" refused %u", (unsigned)GORITTAEM_NUMBER(answer));
+    else
+        for (size_t i = 0; i < answer; i++)
+            printf(" %02x", out[i]);
+    printf("\n");
+}
+
+static void expect(const char *what, size_t answer, size_t right, const uint8_t *out)
+{
+    show(what, answer, out);
+    if (answer != right) {
+        printf("    and %#zx was expected\n", right);
+        wrong = 1;
+    }
+}
+
+int main(void)
+{
+    /* set tilt to 12.5 degrees, an I-frame to address 1: 0x7D is escaped on the line */
+    const uint8_t payload[] = {0x33, 0x02, 0x00, 0x7D, 0x00};
+    uint8_t line[GORITTAEM_LINE_ROOM], frame[GORITTAEM_FRAME_ROOM], before[GORITTAEM_FRAME_ROOM];
+
+    printf("%-44s %04x\n", "the check of 123456789", gorittaem_check((const uint8_t *)"123456789", 9));
+    wrong |= gorittaem_check((const uint8_t *)"123456789", 9) != 0x906E;
+
+    size_t len = gorittaem_write(0x01, 0x10, payload, sizeof payload, line, sizeof line);
+    expect("written", len, 12, line);
+    expect("written into one octet too few", gorittaem_write(0x01, 0x10, payload, sizeof payload, line, len - 1),
+           GORITTAEM_REFUSED + GORITTAEM_NO_ROOM, line);
+    expect("75 octets of payload", gorittaem_write(0x01, 0x10, line, 75, frame, sizeof frame),
+           GORITTAEM_REFUSED + GORITTAEM_PAYLOAD_TOO_LONG, frame);
+
+    /* what lies between the two flags */
+    uint8_t *inside = line + 1;
+    size_t n = len - 2;
+    expect("read back", gorittaem_decode(inside, n, frame, sizeof frame), 2 + sizeof payload, frame);
+    wrong |= frame[0] != 0x01 || frame[1] != 0x10 || memcmp(frame + 2, payload, sizeof payload) != 0;
+
+    /* a refusal leaves the output as it was */
+    memcpy(before, frame, sizeof frame);
+    inside[2] ^= 0x01;
+    expect("with one bit damaged", gorittaem_decode(inside, n, frame, sizeof frame),
+           GORITTAEM_REFUSED + GORITTAEM_WRONG_CHECK, frame);
+    inside[2] ^= 0x01;
+    expect("cut after its escape", gorittaem_decode(inside, 6, frame, sizeof frame),
+           GORITTAEM_REFUSED + GORITTAEM_BROKEN, frame);
+    expect("with its flag", gorittaem_decode(inside, n + 1, frame, sizeof frame),
+           GORITTAEM_REFUSED + GORITTAEM_BROKEN, frame);
+    expect("nothing between two flags", gorittaem_decode(inside, 0, frame, sizeof frame),
+           GORITTAEM_REFUSED + GORITTAEM_TOO_SHORT, frame);
+    expect("into six octets", gorittaem_decode(inside, n, frame, 6), GORITTAEM_REFUSED + GORITTAEM_NO_ROOM, frame);
+    wrong |= memcmp(before, frame, sizeof frame) != 0;
+
+    puts(wrong ? "NOT as expected" : "as expected");
+    return wrong;
+}

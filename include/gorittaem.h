@@ -1,0 +1,59 @@
+/*
+ * gorittaem.h: the proved frame codec, for programs in C99. Link libcapi.a (`rt staticlib capi`), for x86-64 Linux.
+ *
+ * Octets are lent: a pointer and how many of them. A pointer must not be null, also where the number is 0; what it
+ * points to must be readable (an output: writable) for the whole number; and no octet of an output may also be one of an
+ * input. Nothing else is asked of a caller: any octets, any lengths, any room. Nothing is kept after a call, and nothing
+ * is allocated, so calls from several threads do not meet.
+ *
+ * An answer is one number:
+ *   below GORITTAEM_REFUSED   how many octets now stand at the start of the lent output; its rest is unchanged
+ *   any other                 GORITTAEM_REFUSED + the refusal's number (below); no octet of the output has changed
+ * No frame and no line comes near GORITTAEM_REFUSED (0x10000), also where a later version takes longer frames.
+ */
+#ifndef GORITTAEM_H
+#define GORITTAEM_H
+
+#include <stddef.h>
+#include <stdint.h>
+
+#ifdef __cplusplus
+extern "C" {
+#endif
+
+#define GORITTAEM_REFUSED 0x10000u
+
+/* whether an answer is a refusal, and its number */
+#define GORITTAEM_IS_REFUSED(answer) ((answer) >= GORITTAEM_REFUSED)
+#define GORITTAEM_NUMBER(answer) ((answer) - GORITTAEM_REFUSED)
+
+/* the refusals' numbers */
+enum gorittaem_refusal {
+    GORITTAEM_TOO_SHORT = 1,        /* decoded octets fewer than 4 */
+    GORITTAEM_TOO_LONG = 2,         /* decoded octets more than 78 */
+    GORITTAEM_WRONG_CHECK = 3,      /* frame check wrong */
+    GORITTAEM_BROKEN = 4,           /* 0x7E inside, or 0x7D as the last octet */
+    GORITTAEM_NO_ROOM = 5,          /* the lent output is too short */
+    GORITTAEM_PAYLOAD_TOO_LONG = 9  /* payload to be written longer than 74 octets */
+};
+
+/* room that is always enough: address, control and payload of a frame; a line with its two flags */
+#define GORITTAEM_FRAME_ROOM 76
+#define GORITTAEM_LINE_ROOM 158
+
+/* The check of `len` octets: the 16-bit one of ISO/IEC 13239 and RFC 1662. On the line its low octet comes first. */
+uint16_t gorittaem_check(const uint8_t *octets, size_t len);
+
+/* Decodes the `len` octets that lie between two flags, without the flags. On success address, control and payload, 2 to
+ * 76 octets, stand at the start of `out`. Refuses with 4, 1, 2, 3 or 5; where several hold, with the first in this order. */
+size_t gorittaem_decode(const uint8_t *line, size_t len, uint8_t *out, size_t room);
+
+/* Writes flag, frame, flag: address, control, payload and their check, 0x7E and 0x7D escaped. Needs exactly the octets
+ * that it writes, at most 158. Refuses with 9, then 5. What lies between the two flags decodes to what was written. */
+size_t gorittaem_write(uint8_t address, uint8_t control, const uint8_t *payload, size_t len, uint8_t *out, size_t room);
+
+#ifdef __cplusplus
+}
+#endif
+
+#endif
