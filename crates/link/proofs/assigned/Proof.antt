@@ -1,33 +1,24 @@
+-- `link::assigned` meets its promise: each way out, by the tests that lead to it. Assumes nothing.
 use Rattle.link.specs.Link.{assignedBy}
 use Rattle.octets.proofs.Rules.{tests}
 use mathlib.Core.Path.{sym, _∙_}
 use borrow.Author.Needs.{needs}
 use Rattle.link.proofs.assigned.Statement.{statement}
 use Rattle.link.proofs.assigned.Tie as tie
-use Rattle.link.proofs.assigned.Reads as reads
-use Rattle.link.proofs.assigned.Lts as lts
-use Rattle.link.proofs.is_snrm.Reads as is-snrm-reads
-use Rattle.link.proofs.restart.Reads as restart-reads
-use Rattle.link.proofs.say.Reads as say-reads
 
--- src/lib.rt:130:8
 is-snrm-requires : tie.Need-is-snrm-requires
 is-snrm-requires c κs = search needs
 
--- src/lib.rt:131:9
 restart-requires : tie.Need-restart-requires
 restart-requires c κs = search needs
 
--- src/lib.rt:131:9
 returns : tie.Need-returns
 unfolding assignedBy
 returns c = search (tests, sym (c .restart .ensures), sym (c .before .before .is-snrm .ensures) ∙ c .before .if1 .taken)
 
--- src/lib.rt:133:5
 say-requires : tie.Need-say-requires
 say-requires c κs = search needs
 
--- src/lib.rt:127:1
 returns-2 : tie.Need-returns-2
 unfolding assignedBy
 returns-2 c = search (tests, sym (c .say .ensures), sym (c .before .before .is-snrm .ensures) ∙ c .before .if1 .left)

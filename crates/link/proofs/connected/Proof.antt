@@ -1,106 +1,77 @@
+-- `link::connected` meets its promise: each way out, by the tests that lead to it. Assumes nothing.
 use Rattle.link.specs.Link.{connectedBy}
 use Rattle.octets.proofs.Rules.{tests}
-use mathlib.Core.Path.{sym, _∙_}
+use mathlib.Core.Path.{sym}
 use borrow.Author.Needs.{needs}
 use Rattle.link.proofs.connected.Statement.{statement}
 use Rattle.link.proofs.connected.Tie as tie
-use Rattle.link.proofs.connected.Reads as reads
-use Rattle.link.proofs.connected.Lts as lts
-use Rattle.link.proofs.leave.Reads as leave-reads
-use Rattle.link.proofs.on_info.Reads as on-info-reads
-use Rattle.link.proofs.on_rnr.Reads as on-rnr-reads
-use Rattle.link.proofs.on_rr.Reads as on-rr-reads
-use Rattle.link.proofs.reject.Reads as reject-reads
-use Rattle.link.proofs.restart.Reads as restart-reads
-use Rattle.link.proofs.say.Reads as say-reads
 
--- src/lib.rt:103:35
 enum-told : tie.Need-enum-told
 enum-told c = search needs
 
--- src/lib.rt:103:23
 say-requires : tie.Need-say-requires
 say-requires c κs = search needs
 
--- src/lib.rt:104:24
 enum-told-2 : tie.Need-enum-told-2
 enum-told-2 c = search needs
 
--- src/lib.rt:104:24
 restart-requires : tie.Need-restart-requires
 restart-requires c κs = search needs
 
--- src/lib.rt:105:24
 enum-told-3 : tie.Need-enum-told-3
 enum-told-3 c = search needs
 
--- src/lib.rt:105:24
 leave-requires : tie.Need-leave-requires
 leave-requires c κs = search needs
 
--- src/lib.rt:106:23
 enum-known-order : tie.Need-enum-known-order
 enum-known-order c = search needs
 
--- src/lib.rt:106:35
 on-info-requires : tie.Need-on-info-requires
 on-info-requires c κs = search needs
 
--- src/lib.rt:107:21
 enum-known-order-2 : tie.Need-enum-known-order-2
 enum-known-order-2 c = search needs
 
--- src/lib.rt:107:29
 on-rr-requires : tie.Need-on-rr-requires
 on-rr-requires c κs = search needs
 
--- src/lib.rt:108:22
 enum-known-order-3 : tie.Need-enum-known-order-3
 enum-known-order-3 c = search needs
 
--- src/lib.rt:108:30
 on-rnr-requires : tie.Need-on-rnr-requires
 on-rnr-requires c κs = search needs
 
--- src/lib.rt:109:27
 enum-told-4 : tie.Need-enum-told-4
 enum-told-4 c = search needs
 
--- src/lib.rt:109:27
 reject-requires : tie.Need-reject-requires
 reject-requires c κs = search needs
 
--- src/lib.rt:99:1
 returns : tie.Need-returns
 unfolding connectedBy
 returns c = search (tests, sym (c .say .ensures), c .before .enum-told .given .1)
 
--- src/lib.rt:99:1
 returns-2 : tie.Need-returns-2
 unfolding connectedBy
 returns-2 c = search (tests, sym (c .restart .ensures), c .before .enum-told2 .given .1)
 
--- src/lib.rt:99:1
 returns-3 : tie.Need-returns-3
 unfolding connectedBy
 returns-3 c = search (tests, sym (c .leave .ensures), c .before .enum-told3 .given .1)
 
--- src/lib.rt:99:1
 returns-4 : tie.Need-returns-4
 unfolding connectedBy
 returns-4 c = search (tests, sym (c .on-info .ensures), c .before .before .order .given .1)
 
--- src/lib.rt:99:1
 returns-5 : tie.Need-returns-5
 unfolding connectedBy
 returns-5 c = search (tests, sym (c .on-rr .ensures), c .before .before .order2 .given .1)
 
--- src/lib.rt:99:1
 returns-6 : tie.Need-returns-6
 unfolding connectedBy
 returns-6 c = search (tests, sym (c .on-rnr .ensures), c .before .before .order3 .given .1)
 
--- src/lib.rt:99:1
 returns-7 : tie.Need-returns-7
 unfolding connectedBy
 returns-7 c = search (tests, sym (c .reject .ensures), c .before .enum-told4 .given .1)

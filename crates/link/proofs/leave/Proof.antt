@@ -1,22 +1,16 @@
+-- `link::leave` meets its promise: each way out, by the tests that lead to it. Assumes nothing.
 use Rattle.octets.proofs.Rules.{tests}
-use mathlib.Core.Path.{sym, _∙_}
+use mathlib.Core.Path.{sym}
 use borrow.Author.Needs.{needs}
 use Rattle.link.proofs.leave.Statement.{statement}
 use Rattle.link.proofs.leave.Tie as tie
-use Rattle.link.proofs.leave.Reads as reads
-use Rattle.link.proofs.leave.Lts as lts
-use Rattle.link.proofs.release.Reads as release-reads
-use Rattle.link.proofs.say.Reads as say-reads
 
--- src/lib.rt:55:9
 release-requires : tie.Need-release-requires
 release-requires c κs = search needs
 
--- src/lib.rt:55:5
 say-requires : tie.Need-say-requires
 say-requires c κs = search needs
 
--- src/lib.rt:52:1
 returns : tie.Need-returns
 returns c = search (tests, sym (c .say .ensures), sym (c .before .release .ensures))
 
