@@ -1,14 +1,11 @@
-// One drive: its range, its tilt, its movement and its alarms. Assumes nothing of its caller.
-// Headline: a movement starts only where nothing moves or waits and the tilt asked is in range (proofs/Motions.antt).
+// One drive: its range, its tilt, its movement and its alarms. What happens to it is in `motor`; the definitions of that
+// and the laws about it are here. Assumes nothing of its caller.
+// Headline: a movement starts only where nothing moves or waits and the tilt asked is in range (proofs/Movements.antt).
 ghost use mathlib.Core.Path.{_≡_};
-ghost use Rattle.refusal.specs.Answer.{Changes};
-ghost use Rattle.antenna.specs.Angles.{atMost, sameAs};
-ghost use Rattle.antenna.specs.Alarms.{differs, anyDiffer};
-ghost use Rattle.antenna.specs.Motions.{inRange, busyOf, owesOf, waitingOf, moves, unowedOf, runs};
+ghost use Rattle.antenna.specs.Angles.{atMost};
+ghost use Rattle.antenna.specs.Motions.{inRange, busyOf, owesOf, waitingOf, moves, unowedOf};
 ghost use Rattle.antenna.specs.Motions.{aimOf, started};
-ghost use Rattle.antenna.specs.Events.{restedOf, stoppedAt, alarmedOf};
 use refusal::Outcome;
-use refusal::Refusal;
 
 // Tenths of a degree.
 pub struct Angle {
@@ -62,36 +59,10 @@ pub struct Changed {
     pub antenna: Antenna,
 }
 
-fn differs(a: bool, b: bool) -> bool
-    ensures { λ r. ⌜ r ≡ differs a b ⌝ }
-{
-    if a { !b } else { b }
-}
-
-// Whether two rows of alarm flags differ somewhere.
-pub fn differ(a: [bool; 6], b: [bool; 6]) -> bool
-    ensures { λ r. ⌜ r ≡ anyDiffer a b ⌝ }
-{
-    let mut i = 0;
-    while i < 6 {
-        if differs(a[i], b[i]) {
-            return true;
-        }
-        i += 1;
-    }
-    false
-}
-
 fn at_most(a: Angle, b: Angle) -> bool
     ensures { λ r. ⌜ r ≡ atMost a b ⌝ }
 {
     a.tenths <= b.tenths
-}
-
-fn same(a: Angle, b: Angle) -> bool
-    ensures { λ r. ⌜ r ≡ sameAs a b ⌝ }
-{
-    if at_most(a, b) { at_most(b, a) } else { false }
 }
 
 // Whether a tilt is in the antenna's range.
@@ -192,93 +163,6 @@ pub fn aim_at(antenna: Antenna, t: Angle) -> Aimed
     }
     Aimed {
         aim: Aim::Outside,
-        antenna,
-    }
-}
-
-// Whether a movement is running.
-fn is_running(motion: Motion) -> bool
-    ensures { λ r. ⌜ r ≡ runs motion ⌝ }
-{
-    match motion {
-        Motion::Still => false,
-        Motion::Moving => true,
-        Motion::Owing { asked: _ } => true,
-        Motion::Stopped { reached: _ } => false,
-    }
-}
-
-// The motion after a stop at `t`.
-fn rested(motion: Motion, t: Angle) -> Motion
-    ensures { λ r. ⌜ r ≡ restedOf motion t ⌝ }
-{
-    match motion {
-        Motion::Still => Motion::Still,
-        Motion::Moving => Motion::Still,
-        Motion::Owing { asked } => Motion::Stopped {
-            reached: same(asked, t),
-        },
-        Motion::Stopped { reached } => Motion::Stopped { reached },
-    }
-}
-
-// The motor stopped at `t`.
-pub fn stopped(antenna: Antenna, t: Angle) -> Changed
-    ensures { λ r. ⌜ Changes (stoppedAt antenna t) antenna (r .outcome) (r .antenna) ⌝ }
-{
-    let motion = antenna.motion;
-    if is_running(motion) {
-        if in_range(antenna, t) {
-            let lowest = antenna.lowest;
-            let highest = antenna.highest;
-            let raised = antenna.raised;
-            let motion = rested(motion, t);
-            let antenna = Antenna {
-                lowest,
-                highest,
-                tilt: t,
-                motion,
-                raised,
-            };
-            return Changed {
-                outcome: Outcome::Done,
-                antenna,
-            };
-        }
-    }
-    Changed {
-        outcome: Outcome::Refused(Refusal::CannotBe),
-        antenna,
-    }
-}
-
-// An alarm rises (`on`) or falls.
-pub fn alarmed(antenna: Antenna, code: u8, on: bool) -> Changed
-    ensures { λ r. ⌜ Changes (alarmedOf antenna code on) antenna (r .outcome) (r .antenna) ⌝ }
-{
-    let codes = CODES;
-    let place = octets::find(code, &codes);
-    if place < 6 {
-        let lowest = antenna.lowest;
-        let highest = antenna.highest;
-        let tilt = antenna.tilt;
-        let motion = antenna.motion;
-        let mut raised = antenna.raised;
-        raised.flags[place] = on;
-        let next = Antenna {
-            lowest,
-            highest,
-            tilt,
-            motion,
-            raised,
-        };
-        return Changed {
-            outcome: Outcome::Done,
-            antenna: next,
-        };
-    }
-    Changed {
-        outcome: Outcome::Refused(Refusal::CannotBe),
         antenna,
     }
 }

@@ -47,7 +47,7 @@ fn fresh(asked: Asked) -> Changed {
     let product = text::moved(identity, asked.values[2], asked.len);
     let hardware = text::moved(product, asked.values[3], asked.len);
     let s = &octets[..];
-    record::fresh(
+    fresh::fresh(
         text::part(s, 0, identity),
         text::part(s, identity, product),
         text::part(s, product, hardware),
@@ -151,7 +151,7 @@ fn event_of(asked: Asked) -> Event {
 
 pub fn happen(bench: Bench, asked: Asked, line: Line) -> Obeyed {
     let number = asked.values[1];
-    let changed = record::happen(state::device_of(bench, number), event_of(asked));
+    let changed = event::happen(state::device_of(bench, number), event_of(asked));
     let outcome = changed.outcome;
     let device = changed.device;
     Obeyed {

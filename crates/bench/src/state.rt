@@ -32,7 +32,7 @@ fn nobody(text: &[u8]) -> Device {
         highest: level,
         present: level,
     };
-    let refused = record::fresh(text, text, text, text, span);
+    let refused = fresh::fresh(text, text, text, text, span);
     refused.device
 }
 

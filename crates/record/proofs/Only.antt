@@ -1,4 +1,5 @@
--- Each promise of this crate allows one result, and each number of an event is given exactly when 01 says.
+-- Each promise of this crate allows one result, and each number of a fresh device and of an event is given exactly when
+-- 01 says.
 -- Assumes nothing.
 use mathlib.Core.Path.{_≡_, refl, ap}
 use mathlib.Core.Bool.{Bool, true, false, not}
@@ -8,12 +9,10 @@ use Prim.Native.Nat.{ℕ}
 use borrow.Author.Tests.{not-true, not-false}
 use Rattle.octets.specs.Octets.{holds}
 use Rattle.octets.proofs.Only.{only}
-use Rattle.refusal.specs.Answer.{refuses, Given, numbersOf, apart, Changes}
-use Rattle.refusal.specs.declared.Outcome.{Outcome}
-use Rattle.refusal.proofs.Only.{changes-only}
+use Rattle.refusal.specs.Answer.{refuses, Given, numbersOf, apart}
 use Rattle.refusal.proofs.Exactly.{exactly}
 use Rattle.record.specs.Allowed.{allowedDevice}
-use Rattle.record.specs.Fresh.{freshOf, dataAllowed, plateFrom, freshFrom, antennaFrom, blankDevice}
+use Rattle.record.specs.Fresh.{freshOf, dataAllowed, plateFrom, freshFrom, antennaFrom}
 use Rattle.record.specs.Changes.{unsaidAt, endedAs, canBe, afterEvent, withAntenna, eventRows, happened}
 use Rattle.record.specs.declared.Link.{Link}
 use Rattle.record.specs.declared.Span.{Span}
@@ -24,10 +23,6 @@ use Rattle.record.specs.declared.Event.{Event}
 pub allowed-only : (device : Device) {r q : Bool} → r ≡ allowedDevice device → q ≡ allowedDevice device → r ≡ q
 allowed-only device = only
 
-pub fresh-only : (i p h s : List ℕ) (w : Span) {r q : Outcome} {d e : Device}
-    → Changes (freshOf i p h s w) blankDevice r d → Changes (freshOf i p h s w) blankDevice q e → (r ≡ q) × (d ≡ e)
-fresh-only i p h s w = changes-only
-
 pub unsaid-only : (station : Station) (address : ℕ) (link : Link) {t u : Station}
     → t ≡ unsaidAt station address link → u ≡ unsaidAt station address link → t ≡ u
 unsaid-only station address link = only
@@ -35,10 +30,6 @@ unsaid-only station address link = only
 pub ended-only : (device : Device) (address : ℕ) (link : Link) {d e : Device}
     → d ≡ endedAs device address link → e ≡ endedAs device address link → d ≡ e
 ended-only device address link = only
-
-pub happen-only : (device : Device) (event : Event) {r q : Outcome} {d e : Device}
-    → Changes (happened device event) device r d → Changes (happened device event) device q e → (r ≡ q) × (d ≡ e)
-happen-only device event = changes-only
 
 -- 6: "device data .. not allowed", of a fresh device
 pub fresh-6 : (i p h s : List ℕ) (w : Span) → freshOf i p h s w ≡ refuses 6 ↔ dataAllowed i p h s (antennaFrom w) ≡

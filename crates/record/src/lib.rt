@@ -1,24 +1,19 @@
-// The device's record: its plate, its station on the cable, its antenna. Which records are allowed, a fresh one, what
-// a session's end leaves, and the events. Assumes nothing of its caller: any record of the type may be handed in.
+// The device's record: its plate, its station on the cable, its antenna. Which records are allowed, and what a session's
+// end leaves. A fresh record is made in `fresh` and events happen in `event`; the definitions of both and the laws about
+// them are here. Assumes nothing of its caller: any record of the type may be handed in.
 // Headline: an allowed record stays allowed under every event and at a session's end (proofs/Stays.antt).
 ghost use mathlib.Core.Path.{_≡_};
-ghost use mathlib.Core.Bool.{true};
-ghost use Prim.Native.Nat.{_≤_};
 ghost use lib.Dec.{leb};
-ghost use lib.ListN.{length};
-ghost use Rattle.refusal.specs.Answer.{Changes};
 ghost use Rattle.antenna.specs.Motions.{inRange};
 ghost use Rattle.record.specs.Allowed.{identityAllowed, platesAllowed, numbersAllowed, pendingFits};
-ghost use Rattle.record.specs.Fresh.{textsAllowed, dataAllowed, identityFrom, productFrom, versionFrom};
-ghost use Rattle.record.specs.Fresh.{plateFrom, calm, noReply, freshAntenna, freshFrom, freshOf, blankDevice};
-ghost use Rattle.record.specs.Changes.{unsaidAt, endedAs, antennaHappened, happened};
 ghost use Rattle.record.specs.Allowed.{addressed, sessionAllowed, stationAllowed, owedAllowed, allowedDevice};
+ghost use Rattle.record.specs.Fresh.{calm, noReply};
+ghost use Rattle.record.specs.Changes.{unsaidAt, endedAs};
 use antenna::Alarms;
 use antenna::Angle;
 use antenna::Antenna;
 use antenna::Motion;
 use refusal::Outcome;
-use refusal::Refusal;
 
 // Vendor and serial number: the first `len` octets.
 pub struct Identity {
@@ -162,7 +157,7 @@ fn pending_allowed(station: Station, pending: Pending) -> bool
             let told = station.told;
             let now = said.flags;
             let then = told.flags;
-            antenna::differ(now, then)
+            motor::differ(now, then)
         }
     }
 }
@@ -236,94 +231,7 @@ pub fn allowed(device: Device) -> bool
     false
 }
 
-// ---- a fresh device
-
-fn texts_allowed(identity: &[u8], product: &[u8], hardware: &[u8], software: &[u8]) -> bool
-    ensures { λ r. ⌜ r ≡ textsAllowed (now (identity .entry)) (now (product .entry)) (now (hardware .entry))
-        (now (software .entry)) ⌝ }
-{
-    if identity::allowed(identity) {
-        if 20 < product.len() {
-            return false;
-        }
-        if 14 < hardware.len() {
-            return false;
-        }
-        return software.len() <= 14;
-    }
-    false
-}
-
-fn data_allowed(
-    identity: &[u8],
-    product: &[u8],
-    hardware: &[u8],
-    software: &[u8],
-    antenna: Antenna,
-) -> bool
-    ensures { λ r. ⌜ r ≡ dataAllowed (now (identity .entry)) (now (product .entry)) (now (hardware .entry))
-        (now (software .entry)) antenna ⌝ }
-{
-    if texts_allowed(identity, product, hardware, software) {
-        antenna_allowed(antenna)
-    } else {
-        false
-    }
-}
-
-// The octets of `s`, zeros behind them.
-fn identity_from(s: &[u8]) -> Identity
-    requires { ⌜ length (now s) ≤ 19 ⌝ }
-    ensures { λ r. ⌜ r ≡ identityFrom (now (s .entry)) ⌝ }
-{
-    let mut octets = [0u8; 19];
-    octets::put_all(&mut octets, 0, s);
-    Identity {
-        octets,
-        len: s.len(),
-    }
-}
-
-fn product_from(s: &[u8]) -> Product
-    requires { ⌜ length (now s) ≤ 20 ⌝ }
-    ensures { λ r. ⌜ r ≡ productFrom (now (s .entry)) ⌝ }
-{
-    let mut octets = [0u8; 20];
-    octets::put_all(&mut octets, 0, s);
-    Product {
-        octets,
-        len: s.len(),
-    }
-}
-
-fn version_from(s: &[u8]) -> Version
-    requires { ⌜ length (now s) ≤ 14 ⌝ }
-    ensures { λ r. ⌜ r ≡ versionFrom (now (s .entry)) ⌝ }
-{
-    let mut octets = [0u8; 14];
-    octets::put_all(&mut octets, 0, s);
-    Version {
-        octets,
-        len: s.len(),
-    }
-}
-
-fn plate_from(identity: &[u8], product: &[u8], hardware: &[u8], software: &[u8]) -> Plate
-    requires { ⌜ textsAllowed (now identity) (now product) (now hardware) (now software) ≡ true ⌝ }
-    ensures { λ r. ⌜ r ≡ plateFrom (now (identity .entry)) (now (product .entry)) (now (hardware .entry))
-        (now (software .entry)) ⌝ }
-{
-    let identity = identity_from(identity);
-    let product = product_from(product);
-    let hardware = version_from(hardware);
-    let software = version_from(software);
-    Plate {
-        identity,
-        product,
-        hardware,
-        software,
-    }
-}
+// ---- what a session leaves
 
 fn calm() -> Alarms
     ensures { λ r. ⌜ r ≡ calm ⌝ }
@@ -339,93 +247,6 @@ fn no_reply() -> Payload
         len: 0,
     }
 }
-
-fn fresh_antenna(lowest: Angle, highest: Angle, present: Angle) -> Antenna
-    ensures { λ r. ⌜ r ≡ freshAntenna lowest highest present ⌝ }
-{
-    Antenna {
-        lowest,
-        highest,
-        tilt: present,
-        motion: Motion::Still,
-        raised: calm(),
-    }
-}
-
-fn fresh_from(plate: Plate, antenna: Antenna) -> Device
-    ensures { λ r. ⌜ r ≡ freshFrom plate antenna ⌝ }
-{
-    let station = Station {
-        address: 0,
-        link: Link::NoAddress,
-        subscribed: false,
-        told: calm(),
-        said: calm(),
-        reply: no_reply(),
-    };
-    Device {
-        plate,
-        station,
-        antenna,
-    }
-}
-
-// The constant record beside a refusal.
-fn blank() -> Device
-    ensures { λ r. ⌜ r ≡ blankDevice ⌝ }
-{
-    let level = Angle { tenths: 0 };
-    let plate = Plate {
-        identity: Identity {
-            octets: [0u8; 19],
-            len: 0,
-        },
-        product: Product {
-            octets: [0u8; 20],
-            len: 0,
-        },
-        hardware: Version {
-            octets: [0u8; 14],
-            len: 0,
-        },
-        software: Version {
-            octets: [0u8; 14],
-            len: 0,
-        },
-    };
-    fresh_from(plate, fresh_antenna(level, level, level))
-}
-
-// A fresh device with this data, or the number beside the blank record.
-pub fn fresh(
-    identity: &[u8],
-    product: &[u8],
-    hardware: &[u8],
-    software: &[u8],
-    span: Span,
-) -> Changed
-    ensures { λ r. ⌜ Changes (freshOf (now (identity .entry)) (now (product .entry)) (now (hardware .entry))
-        (now (software .entry)) span) blankDevice (r .outcome) (r .device) ⌝ }
-{
-    let lowest = span.lowest;
-    let highest = span.highest;
-    let present = span.present;
-    let antenna = fresh_antenna(lowest, highest, present);
-    if data_allowed(identity, product, hardware, software, antenna) {
-        let plate = plate_from(identity, product, hardware, software);
-        let device = fresh_from(plate, antenna);
-        return Changed {
-            outcome: Outcome::Done,
-            device,
-        };
-    }
-    Changed {
-        outcome: Outcome::Refused(Refusal::NotAllowed),
-        device: blank(),
-    }
-}
-
-// ---- what changes a record
 
 // The station at an address and in a link state, with nothing pending.
 pub fn unsaid(station: Station, address: u8, link: Link) -> Station
@@ -456,41 +277,5 @@ pub fn ended(device: Device, address: u8, link: Link) -> Device
         plate,
         station,
         antenna,
-    }
-}
-
-fn antenna_after(antenna: Antenna, event: Event) -> antenna::Changed
-    ensures { λ r. ⌜ Changes (antennaHappened antenna event) antenna (r .outcome) (r .antenna) ⌝ }
-{
-    match event {
-        Event::Stopped(t) => antenna::stopped(antenna, t),
-        Event::Raised(alarm) => antenna::alarmed(antenna, alarm, true),
-        Event::Cleared(alarm) => antenna::alarmed(antenna, alarm, false),
-    }
-}
-
-// An event happens to a device.
-pub fn happen(device: Device, event: Event) -> Changed
-    ensures { λ r. ⌜ Changes (happened device event) device (r .outcome) (r .device) ⌝ }
-{
-    if allowed(device) {
-        let plate = device.plate;
-        let station = device.station;
-        let antenna = device.antenna;
-        let changed = antenna_after(antenna, event);
-        let outcome = changed.outcome;
-        let antenna = changed.antenna;
-        return Changed {
-            outcome,
-            device: Device {
-                plate,
-                station,
-                antenna,
-            },
-        };
-    }
-    Changed {
-        outcome: Outcome::Refused(Refusal::NotAllowed),
-        device,
     }
 }

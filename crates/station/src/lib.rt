@@ -176,7 +176,7 @@ pub fn is_to_tell(station: Station, antenna: Antenna) -> bool
     let present = raised.flags;
     let before = told.flags;
     if station.subscribed {
-        return antenna::differ(present, before);
+        return motor::differ(present, before);
     }
     false
 }

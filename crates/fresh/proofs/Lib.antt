@@ -1,0 +1,2 @@
+-- The laws of a fresh device that the layers above cite.
+pub mod Only
