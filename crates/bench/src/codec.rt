@@ -26,6 +26,6 @@ pub fn write(asked: Asked, line: Line) -> Line {
     let room = asked.values[4];
     let mut lent = [FILL; ROOM];
     let payload = text::part(&octets, 0, asked.len);
-    let handed = frame::write(address, control, payload, text::front(&mut lent, room));
+    let handed = writer::write(address, control, payload, text::front(&mut lent, room));
     text::say_buffer(text::say_handed(line, LINE, handed), lent, room)
 }

@@ -155,7 +155,7 @@ fn between(line: &[u8], handed: Handed) -> &[u8] {
 // A probe goes out as a written line.
 fn ask(devices: [Device; PLACES], count: usize, probe: [u8; 47]) -> Heard {
     let mut line = [0u8; 158];
-    let handed = frame::write(probe[0], probe[1], text::part(&probe, 2, 47), &mut line);
+    let handed = writer::write(probe[0], probe[1], text::part(&probe, 2, 47), &mut line);
     send(devices, count, between(&line, handed))
 }
 

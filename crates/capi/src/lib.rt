@@ -48,6 +48,6 @@ pub extern "C" fn gorittaem_write(address: u8, control: u8, payload: &[u8], out:
     ensures { λ r. ⌜ Crosses (written 78 address control (now (payload .entry)) (length (now (out .entry))))
         (now (out .entry)) r (now (out .exit)) ⌝ }
 {
-    let answer = frame::write(address, control, payload, out);
+    let answer = writer::write(address, control, payload, out);
     crossing(answer)
 }

@@ -1,4 +1,4 @@
--- Each promise of this crate allows one answer and one content of the lent output. Assumes nothing.
+-- The promise of `decode` allows one answer and one content of the lent output. Assumes nothing.
 use mathlib.Core.Path.{_≡_}
 use mathlib.Core.List.{List}
 use Prim.Native.Nat.{ℕ}
@@ -7,13 +7,7 @@ use Rattle.refusal.specs.Answer.{Hands}
 use Rattle.refusal.specs.declared.Handed.{Handed}
 use Rattle.refusal.proofs.Only.{hands-only}
 use Rattle.frame.specs.Decode.{decoded}
-use Rattle.frame.specs.Write.{written}
 
 pub decode-only : (src o : List ℕ) {p q : List ℕ} {r s : Handed}
     → Hands (decoded 78 src (length o)) o r p → Hands (decoded 78 src (length o)) o s q → (r ≡ s) × (p ≡ q)
 decode-only src o = hands-only
-
-pub write-only : (address control : ℕ) (payload o : List ℕ) {p q : List ℕ} {r s : Handed}
-    → Hands (written 78 address control payload (length o)) o r p
-    → Hands (written 78 address control payload (length o)) o s q → (r ≡ s) × (p ≡ q)
-write-only address control payload o = hands-only

@@ -1,6 +1,5 @@
 -- The laws of the parameter field that the layers above cite.
 pub mod Turns
-pub mod Steps
 pub mod Kept
 pub mod Exact
 pub mod Values

@@ -1,21 +1,21 @@
--- One turn of the walk: what stands at a place, what is left from there on, and what becomes of it. Assumes nothing.
-use mathlib.Core.Path.{_≡_, refl, sym, ap, _∙_, subst}
-use mathlib.Core.Bool.{Bool, true, false, cond}
+-- One turn of the walk: what is left from a place on, and what becomes of what stands there. Assumes nothing.
+use mathlib.Core.Path.{_≡_, refl, sym, ap, _∙_}
+use mathlib.Core.Bool.{true, false}
 use mathlib.Core.List.{List, [], _∷_}
-use mathlib.Core.Logic.{_⊎_, inl, inr, ⊎-elim}
+use mathlib.Core.Logic.{⊎-elim}
 use mathlib.Core.Option.{Option, none, some}
 use Prim.Native.Nat.{ℕ, zero, suc, _+_, _-_, _<_, _≤_}
-use native.Mathlib.Nat.{zero-add, not-suc-le-zero, le-of-suc-le-suc}
+use native.Mathlib.Nat.{not-suc-le-zero, le-of-suc-le-suc}
 use native.Mathlib.Omega.{arith}
-use borrow.Author.Tests.{leb-true, leb-false, ltb-true, ltb-false, le-leb, lt-leb, le-ltb, lt-ltb, eq-eqb}
-use lib.Dec.{ltb, leb, eqb}
+use borrow.Author.Tests.{le-leb, eq-eqb}
+use lib.Dec.{eqb}
 use lib.ListN.{length, getD, take, drop, drop-of-length-le, length-drop}
 use lib.Seq.{take-all, take-nil, drop-drop, length-take-le}
 use Rattle.octets.proofs.Rest.{rest}
+use Rattle.reader.specs.declared.Stands.the-variants.{End, Broken, Triple}
+use Rattle.reader.proofs.Steps.{Means}
 use Rattle.params.specs.Field.{Param, _is_, before, triplesAfter, triplesOf, opened}
-use Rattle.params.specs.Walk.{standsAt, takesPart, withPart, taken, takenFrom}
-use Rattle.params.specs.declared.Stands.{Stands}
-use Rattle.params.specs.declared.Stands.the-variants.{End, Broken, Triple}
+use Rattle.params.specs.Walk.{takesPart, withPart, taken, takenFrom}
 use Rattle.params.specs.declared.Part.the-variants.{At}
 use Rattle.params.specs.declared.Parts.{Parts}
 use Rattle.params.specs.declared.Found.{Found}
@@ -36,65 +36,11 @@ module _ (s : List ℕ) (from len : ℕ) where
   pub part-whole : take (from + len - from) (drop from s) ≡ take len (drop from s)
   part-whole = let n : from + len - from ≡ len = omega arith in rw n
 
--- the octets of a triple: the test that is left once it is known that there are two
-module _ (s : List ℕ) (at : ℕ) (inside : at < length s) (two : 2 ≤ length s - at) where
-  pub stands-short : (n : ℕ) → n ≡ getD s (at + 1) 0 → length s - at - 2 < n → Broken ≡ standsAt s at
-  unfolding standsAt
-  stands-short n e h =
-      let a = lt-leb (length s) at inside in
-      let b = le-ltb (length s - at) 2 two in
-      let d = lt-ltb (length s - at - 2) n h in
-      simp (a, b, sym e, d)
-
-  pub stands-whole : (n : ℕ) → n ≡ getD s (at + 1) 0 → n ≤ length s - at - 2
-      → Triple (getD s at 0) (at + 2) n ≡ standsAt s at
-  unfolding standsAt
-  stands-whole n e h =
-      let a = lt-leb (length s) at inside in
-      let b = le-ltb (length s - at) 2 two in
-      let d = le-ltb (length s - at - 2) n h in
-      simp (a, b, sym e, d)
-
 pub opens-right : (m : List ℕ) (x : ℕ) → 3 ≤ length m → getD m 0 0 ≡ 0x81 → getD m 1 0 ≡ 0xF0 → x ≡ getD m 2 0
     → eqb x (length m - 3) ≡ opened m
 unfolding opened
 opens-right m x h a b e =
     simp (le-leb 3 (length m) h, eq-eqb (getD m 0 0) 0x81 a, eq-eqb (getD m 1 0) 0xF0 b, sym e)
-
--- what it says that this stands at a place
-abbrev pub Means : List ℕ → ℕ → Stands → Type 0
-Means m at End = length m ≤ at
-Means m at Broken =
-    (at < length m) × ((length m < at + 2) ⊎ ((at + 2 ≤ length m) × (length m < at + 2 + getD m (at + 1) 0)))
-Means m at (Triple n from len) =
-    (at + 2 + len ≤ length m) × (n ≡ getD m at 0) × (from ≡ at + 2) × (len ≡ getD m (at + 1) 0)
-
-pub means : (m : List ℕ) (at : ℕ) → Means m at (standsAt m at)
-unfolding standsAt
-means m at =
-    go (leb (length m) at) refl (ltb (length m - at) 2) refl (ltb (length m - at - 2) (getD m (at + 1) 0)) refl
-  where
-    go : (a : Bool) → leb (length m) at ≡ a → (b : Bool) → ltb (length m - at) 2 ≡ b
-        → (d : Bool) → ltb (length m - at - 2) (getD m (at + 1) 0) ≡ d
-        → Means m at (cond a End (cond b Broken (cond d Broken (Triple (getD m at 0) (at + 2) (getD m (at + 1) 0)))))
-    go true e b f d g = leb-true _ _ e
-    go false e true f d g =
-        let h = leb-false (length m) at e in
-        let i = ltb-true (length m - at) 2 f in
-        (h, inl (omega arith))
-    go false e false f true g =
-        let h = leb-false (length m) at e in
-        let i = ltb-false (length m - at) 2 f in
-        let j = ltb-true (length m - at - 2) (getD m (at + 1) 0) g in
-        (h, inr (omega arith, omega arith))
-    go false e false f false g =
-        let h = leb-false (length m) at e in
-        let i = ltb-false (length m - at) 2 f in
-        let j = ltb-false (length m - at - 2) (getD m (at + 1) 0) g in
-        (omega arith, refl, refl, refl)
-
-pub told : (m : List ℕ) (at : ℕ) {r x : Stands} → r ≡ standsAt m at → r ≡ x → Means m at x
-told m at e f = subst (Means m at) (sym e ∙ f) (means m at)
 
 -- the octets of a value passed over: they are there, or they are not
 pub skip : (k : ℕ) (xs : List ℕ) → k ≤ length xs → triplesAfter k xs ≡ triplesOf (drop k xs)

@@ -1,4 +1,3 @@
 -- What the other crates cite of the parameter field.
 pub mod Field
 pub mod Walk
-pub mod Read

@@ -1,5 +1,4 @@
 -- The walk through a payload: a place in it, and the parts found so far.
---   standsAt s at      == what stands at the place `at` of s
 --   partOf f n         == the part of f for the identifier n; withPart f n p == f with p there; partsOf == all five
 --   takesPart f n k    == with f found so far, a triple n of k octets is taken: its length is right, it repeats none
 --   takenFrom f at x   == the parts of f, and those of the triples x that begin at the place `at`
@@ -10,25 +9,15 @@
 use mathlib.Core.Bool.{Bool, true, false, cond, _&&_}
 use mathlib.Core.List.{List, [], _∷_}
 use mathlib.Core.Option.{Option, none, some}
-use Prim.Native.Nat.{ℕ, _+_, _-_}
-use lib.Dec.{ltb, leb, eqb}
-use lib.ListN.{length, getD, take, drop}
+use Prim.Native.Nat.{ℕ, _+_}
+use lib.Dec.{eqb}
+use lib.ListN.{length, take, drop}
 use Rattle.params.specs.Field.{Param, _is_, rightLength, paramsOf, Values}
-use Rattle.params.specs.declared.Stands.{Stands}
-use Rattle.params.specs.declared.Stands.the-variants.{End, Broken, Triple}
 use Rattle.params.specs.declared.Part.{Part}
 use Rattle.params.specs.declared.Part.the-variants.{Absent, At}
 use Rattle.params.specs.declared.Parts.{Parts}
 use Rattle.params.specs.declared.Found.{Found}
 use Rattle.params.specs.declared.Found.the-variants.{Malformed, Formed}
-
--- an identifier, a length, and as many octets as it says
-unfoldable pub standsAt : List ℕ → ℕ → Stands
-standsAt s at =
-    cond (leb (length s) at) End
-    (cond (ltb (length s - at) 2) Broken
-    (cond (ltb (length s - at - 2) (getD s (at + 1) 0)) Broken
-    (Triple (getD s at 0) (at + 2) (getD s (at + 1) 0))))
 
 unfoldable pub isAbsent : Part → Bool
 isAbsent Absent = true

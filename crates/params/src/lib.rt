@@ -1,20 +1,12 @@
-// The parameter field of an XID payload, read where it lies by a reader that holds the frame's slice and a cursor.
+// The parameter field of an XID payload, read where it lies by the reader of crate reader.
 // Headline: the walk finds exactly the parameters whose triples make up the payload, for octets of any content
-// (proofs/Exact.antt, proofs/Values.antt). The reader's functions and `next_at` are proved by hand over `step_at`; who
-// calls `next_at` is covered. Assumes nothing of its caller.
+// (proofs/Exact.antt, proofs/Values.antt). Assumes nothing of its caller.
 ghost use mathlib.Core.Path.{_≡_};
-ghost use lib.ListN.{length, take, drop};
+ghost use lib.ListN.{take, drop};
 ghost use Rattle.params.specs.Field.{identityLong, rightLength, opened, triplesOf};
-ghost use Rattle.params.specs.Walk.{standsAt, isAbsent, partOf, partsOf, withPart, takesPart, noParts};
+ghost use Rattle.params.specs.Walk.{isAbsent, partOf, partsOf, withPart, takesPart, noParts};
 ghost use Rattle.params.specs.Walk.{takenFrom, walkOf};
-ghost use Rattle.params.specs.Read.{stepAt, readerOf, nextOf, movedOn};
-
-// What stands at a place of a field: its end; less than a whole triple; a triple, its value `len` octets at `from`.
-pub enum Stands {
-    End,
-    Broken,
-    Triple { id: u8, from: usize, len: usize },
-}
+use reader::Stands;
 
 // Where the value of a parameter stands, if it is given.
 pub enum Part {
@@ -34,91 +26,6 @@ pub struct Parts {
 pub enum Found {
     Malformed,
     Formed(Parts),
-}
-
-fn wide(x: u8) -> usize
-    ensures { λ r. ⌜ r ≡ x ⌝ }
-{
-    x as usize
-}
-
-// The triple that stands at a place.
-pub fn stands_at(s: &[u8], at: usize) -> Stands
-    ensures { λ r. ⌜ r ≡ standsAt (now (s .entry)) at ⌝ }
-{
-    if s.len() <= at {
-        return Stands::End;
-    }
-    let left = s.len() - at;
-    if left < 2 {
-        return Stands::Broken;
-    }
-    let len = wide(s[at + 1]);
-    if left - 2 < len {
-        return Stands::Broken;
-    }
-    Stands::Triple {
-        id: s[at],
-        from: at + 2,
-        len,
-    }
-}
-
-// What a step of the reader finds, and the cursor after it.
-pub struct Step {
-    pub found: Stands,
-    pub cursor: usize,
-}
-
-// One step from a place on: what stands there, and the place behind it if it is a triple.
-fn step_at(s: &[u8], at: usize) -> Step
-    ensures { λ r. ⌜ r ≡ stepAt (now (s .entry)) at ⌝ }
-{
-    let found = stands_at(s, at);
-    match found {
-        Stands::End => Step { found, cursor: at },
-        Stands::Broken => Step { found, cursor: at },
-        Stands::Triple { id: _, from, len } => {
-            let cursor = from + len;
-            Step { found, cursor }
-        }
-    }
-}
-
-// The frame in which the parameters lie, and the cursor: where the next one stands.
-pub struct Reader<'a> {
-    pub frame: &'a [u8],
-    pub cursor: usize,
-}
-
-impl<'a> Reader<'a> {
-    // A reader of a frame, its cursor at a place.
-    pub fn new(frame: &'a [u8], cursor: usize) -> Reader<'a>
-        ensures { λ r. ⌜ r ≡ readerOf (frame .entry) cursor ⌝ }
-    {
-        Reader { frame, cursor }
-    }
-
-    // The next parameter; the cursor moves on behind it.
-    pub fn next<'s>(&'s mut self) -> Stands
-        ensures { λ r. ⌜ (r ≡ nextOf (now (self .entry))) × (now (self .exit) ≡ movedOn (now (self .entry))) ⌝ }
-    {
-        let step = step_at(self.frame, self.cursor);
-        self.cursor = step.cursor;
-        step.found
-    }
-}
-
-// The next parameter of a frame from a place on. Its own parameters are plain, so that its callers are covered.
-pub fn next_at(frame: &[u8], at: usize) -> Step
-    ensures { λ r. ⌜ r ≡ stepAt (now (frame .entry)) at ⌝ }
-{
-    let mut reader = Reader::new(frame, at);
-    let found = reader.next();
-    Step {
-        found,
-        cursor: reader.cursor,
-    }
 }
 
 // The octets of a part of a slice, as far as it goes.
@@ -260,7 +167,7 @@ fn walk_from(s: &[u8], start: usize) -> Found
     };
     let mut at = start;
     loop {
-        let step = next_at(s, at);
+        let step = reader::next_at(s, at);
         let cursor = step.cursor;
         let found = step.found;
         match found {
@@ -280,6 +187,13 @@ fn walk_from(s: &[u8], start: usize) -> Found
             }
         }
     }
+}
+
+// An octet as a length.
+fn wide(x: u8) -> usize
+    ensures { λ r. ⌜ r ≡ x ⌝ }
+{
+    x as usize
 }
 
 // Whether the payload opens as it must: 0x81, 0xF0, a length equal to all that follows.

@@ -1,4 +1,4 @@
--- `capi::gorittaem_write` meets its promise: the answer of `frame::write`, crossed. Assumes nothing.
+-- `capi::gorittaem_write` meets its promise: the answer of `writer::write`, crossed. Assumes nothing.
 use borrow.Author.Needs.{needs}
 use Rattle.capi.proofs.Crosses.{handed-crosses}
 use Rattle.capi.proofs.gorittaem_write.Statement.{statement}

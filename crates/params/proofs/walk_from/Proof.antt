@@ -5,10 +5,10 @@ use mathlib.Core.Path.{_≡_, refl, sym, _∙_}
 use Prim.Native.Nat.{_-_}
 use native.Mathlib.Omega.{arith}
 use lib.ListN.{length, drop}
+use Rattle.reader.proofs.Steps.{told, step-found, step-behind}
 use Rattle.params.specs.Field.{triplesOf}
 use Rattle.params.specs.Walk.{noParts, takenFrom}
-use Rattle.params.proofs.Turns.{told, turn-end, turn-broken, turn-not, turn-more}
-use Rattle.params.proofs.Steps.{step-found, step-behind}
+use Rattle.params.proofs.Turns.{turn-end, turn-broken, turn-not, turn-more}
 use Rattle.params.proofs.walk_from.Statement.{statement}
 use Rattle.params.proofs.walk_from.Tie as tie
 

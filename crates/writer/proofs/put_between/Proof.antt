@@ -1,4 +1,4 @@
--- `frame::put_between` meets its promise: each way out, by the tests that lead to it. Assumes nothing.
+-- `writer::put_between` meets its promise: each way out, by the tests that lead to it. Assumes nothing.
 use borrow.Author.Needs.{needs}
 use mathlib.Core.Path.{_≡_, refl, sym, _∙_}
 use mathlib.Core.List.{[], _∷_, _++_}
@@ -6,10 +6,10 @@ use Prim.Native.Nat.{_+_, _*_, _-_, _≤_}
 use native.Mathlib.Omega.{arith}
 use lib.ListN.{length, getD, drop, length-set}
 use Rattle.octets.proofs.Runs.{Run, run-all, run-one, run-done}
 use Rattle.frame.specs.Line.{flag, escape, onLine}
 use Rattle.frame.proofs.Escapes.{overwritten, line-special, line-other, line-done, between-filled}
-use Rattle.frame.proofs.put_between.Statement.{statement}
-use Rattle.frame.proofs.put_between.Tie as tie
+use Rattle.writer.proofs.put_between.Statement.{statement}
+use Rattle.writer.proofs.put_between.Tie as tie
 
 abbrev Inv-loop : tie.InvT-loop
 Inv-loop d line₀ n₀ i₀ line n i =

@@ -1,4 +1,4 @@
--- `params::Reader::next` meets its promise: a walk of its operations, by hand. The borrow is opened, the reader behind
+-- `reader::Reader::next` meets its promise: a walk of its operations, by hand. The borrow is opened, the reader behind
 -- it is taken apart, `step_at` is called on the slice and the place, the cursor is set to what it returned, and the
 -- borrow is closed at the reader with that cursor. Of `step_at` the walk knows its promise alone. What a reader owns
 -- is had twice: one copy is kept for the close, and of the other what the slice owns goes to the callee. Assumes
@@ -49,24 +49,24 @@ use denote.Triple.Spec.{Meets, tripleOf}
 use denote.Triple.Table.{entered, cited}
 use denote.Triple.Walked.{says, Stays, stay-ref, walkOf, goes-ref, Walks, ends-at, walked, walk-meets}
 use denote.Triple.Clauses.{ensured, lasts}
-use Rattle.params.specs.Read.{stepAt}
-use Rattle.params.specs.declared.Reader.{Reader}
-use Rattle.params.specs.declared.Stands.{Stands}
-use Rattle.params.specs.declared.Step.{Step}
-use Rattle.params.proofs.Reader as T
-use Rattle.params.proofs.Reader.Laws as T′
-use Rattle.params.proofs.Step as P
-use Rattle.params.proofs.Step.Laws as P′
-use Rattle.params.proofs.Stands as S
-use Rattle.params.proofs.Stands.Laws as S′
-use Rattle.params.proofs.step_at as step
-use Rattle.params.proofs.step_at.Symbol as step-def
-use Rattle.params.proofs.step_at.Symbol.{name as #step-at}
-use Rattle.params.proofs.step_at.Met as step-thm
-use Rattle.params.proofs.Reader.next.Key.{name as #next}
-use Rattle.params.proofs.Reader.next as next
-use Rattle.params.proofs.Reader.next.Statement as stated
-use Rattle.params.proofs.Reader.next.Code as code
+use Rattle.reader.specs.Read.{stepAt}
+use Rattle.reader.specs.declared.Reader.{Reader}
+use Rattle.reader.specs.declared.Stands.{Stands}
+use Rattle.reader.specs.declared.Step.{Step}
+use Rattle.reader.proofs.Reader as T
+use Rattle.reader.proofs.Reader.Laws as T′
+use Rattle.reader.proofs.Step as P
+use Rattle.reader.proofs.Step.Laws as P′
+use Rattle.reader.proofs.Stands as S
+use Rattle.reader.proofs.Stands.Laws as S′
+use Rattle.reader.proofs.step_at as step
+use Rattle.reader.proofs.step_at.Symbol as step-def
+use Rattle.reader.proofs.step_at.Symbol.{name as #step-at}
+use Rattle.reader.proofs.step_at.Met as step-thm
+use Rattle.reader.proofs.Reader.next.Key.{name as #next}
+use Rattle.reader.proofs.Reader.next as next
+use Rattle.reader.proofs.Reader.next.Statement as stated
+use Rattle.reader.proofs.Reader.next.Code as code
 
 -- 'a, and the reader's type, its description and its laws at it
 abbrev α : Lft → NamedLft
@@ -307,4 +307,4 @@ next-spec 𝓤 H 𝓜 𝓖 𝓡 =
     (tables 𝓤 H 𝓜 𝓡 code.env .C) (tables 𝓤 H 𝓜 𝓡 code.env .Λ) #next code.function (code.unfolded 𝓤 H 𝓜 𝓡)
     (next-meets 𝓤 H (𝓖 .A) (givenOf 𝓤 H 𝓜 𝓖) (𝓜 .mem) (𝓡 .run) (tablesOf 𝓤 H 𝓜 (tables 𝓤 H 𝓜 𝓡 code.env))
     (cited 𝓤 H (StepAt 𝓤 H (𝓖 .A) (𝓜 .mem) (𝓡 .run)) 𝓜 𝓡 code.env #step-at step-def.routine
-    code.calls-params·step-at (step-thm.met 𝓤 H 𝓜 𝓖 𝓡)))
+    code.calls-reader·step-at (step-thm.met 𝓤 H 𝓜 𝓖 𝓡)))

@@ -1,10 +1,10 @@
--- `params::stands_at` meets its promise: one test after the other. Assumes nothing.
-use Rattle.params.proofs.Turns.{stands-short, stands-whole}
-use Rattle.params.specs.Walk.{standsAt}
+-- `reader::stands_at` meets its promise: one test after the other. Assumes nothing.
+use Rattle.reader.proofs.Steps.{stands-short, stands-whole}
+use Rattle.reader.specs.Read.{standsAt}
 use Rattle.octets.proofs.Rules.{tests}
 use borrow.Author.Needs.{needs}
-use Rattle.params.proofs.stands_at.Statement.{statement}
-use Rattle.params.proofs.stands_at.Tie as tie
+use Rattle.reader.proofs.stands_at.Statement.{statement}
+use Rattle.reader.proofs.stands_at.Tie as tie
 
 returns : tie.Need-returns
 unfolding standsAt

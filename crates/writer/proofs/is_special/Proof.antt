@@ -1,8 +1,8 @@
--- `frame::is_special` meets its promise: one test after the other. Assumes nothing.
+-- `writer::is_special` meets its promise: one test after the other. Assumes nothing.
 use borrow.Author.Tests.{eq-eqb, ne-eqb}
 use Rattle.frame.specs.Line.{special}
-use Rattle.frame.proofs.is_special.Statement.{statement}
-use Rattle.frame.proofs.is_special.Tie as tie
+use Rattle.writer.proofs.is_special.Statement.{statement}
+use Rattle.writer.proofs.is_special.Tie as tie
 
 returns : tie.Need-returns
 unfolding special

@@ -1,4 +1,4 @@
--- `params::next_at` meets its promise: a walk of its operations, by hand. The reader that `new` returns is held in a
+-- `reader::next_at` meets its promise: a walk of its operations, by hand. The reader that `new` returns is held in a
 -- local, which is lent to `next` for a lifetime that the walk makes, no longer than the slice's; it is ended after the
 -- call, and the reader is taken back as `next` says that it left it. Of the two the walk knows their promises alone. A
 -- local's type has its lifetime erased, so the reader is shown to have the type at `erased`. Assumes nothing.
@@ -50,29 +50,29 @@ use denote.Triple.Walked.{says, Stays, stay-none, stay-none-slice, walkOf, goes-
 use denote.Triple.Walked.{Walks, ends-at, walked, walk-meets}
 use denote.Exit.{yes}
 use denote.Triple.Clauses.{ensured, lasts}
-use Rattle.params.specs.Read.{stepAt, readerOf, nextOf, movedOn}
-use Rattle.params.specs.declared.Reader.{Reader}
-use Rattle.params.specs.declared.Stands.{Stands}
-use Rattle.params.specs.declared.Step.{Step}
-use Rattle.params.proofs.Steps.{stepTo}
-use Rattle.params.proofs.Step as P
-use Rattle.params.proofs.Step.Laws as P′
-use Rattle.params.proofs.Reader as T
-use Rattle.params.proofs.Reader.Laws as T′
-use Rattle.params.proofs.Stands as S
-use Rattle.params.proofs.Stands.Laws as S′
-use Rattle.params.proofs.Reader.new as new
-use Rattle.params.proofs.Reader.new.Symbol as new-def
-use Rattle.params.proofs.Reader.new.Symbol.{name as #new}
-use Rattle.params.proofs.Reader.new.Met as new-thm
-use Rattle.params.proofs.Reader.next as next
-use Rattle.params.proofs.Reader.next.Symbol as next-def
-use Rattle.params.proofs.Reader.next.Symbol.{name as #next}
-use Rattle.params.proofs.Reader.next.Met as next-thm
-use Rattle.params.proofs.next_at.Key.{name as #next-at}
-use Rattle.params.proofs.next_at as next-at
-use Rattle.params.proofs.next_at.Statement as stated
-use Rattle.params.proofs.next_at.Code as code
+use Rattle.reader.specs.Read.{stepAt, readerOf, nextOf, movedOn}
+use Rattle.reader.specs.declared.Reader.{Reader}
+use Rattle.reader.specs.declared.Stands.{Stands}
+use Rattle.reader.specs.declared.Step.{Step}
+use Rattle.reader.proofs.Steps.{stepTo}
+use Rattle.reader.proofs.Step as P
+use Rattle.reader.proofs.Step.Laws as P′
+use Rattle.reader.proofs.Reader as T
+use Rattle.reader.proofs.Reader.Laws as T′
+use Rattle.reader.proofs.Stands as S
+use Rattle.reader.proofs.Stands.Laws as S′
+use Rattle.reader.proofs.Reader.new as new
+use Rattle.reader.proofs.Reader.new.Symbol as new-def
+use Rattle.reader.proofs.Reader.new.Symbol.{name as #new}
+use Rattle.reader.proofs.Reader.new.Met as new-thm
+use Rattle.reader.proofs.Reader.next as next
+use Rattle.reader.proofs.Reader.next.Symbol as next-def
+use Rattle.reader.proofs.Reader.next.Symbol.{name as #next}
+use Rattle.reader.proofs.Reader.next.Met as next-thm
+use Rattle.reader.proofs.next_at.Key.{name as #next-at}
+use Rattle.reader.proofs.next_at as next-at
+use Rattle.reader.proofs.next_at.Statement as stated
+use Rattle.reader.proofs.next_at.Code as code
 
 -- a step's machine value
 abbrev lowStep : Step → Val
@@ -366,6 +366,6 @@ next-at-spec 𝓤 H 𝓜 𝓖 𝓡 =
     (next-at-meets 𝓤 H (𝓖 .A) (givenOf 𝓤 H 𝓜 𝓖) (𝓜 .mem) (𝓡 .run)
     (tablesOf 𝓤 H 𝓜 (tables 𝓤 H 𝓜 𝓡 code.env))
     (cited 𝓤 H (New 𝓤 H (𝓖 .A) (𝓜 .mem) (𝓡 .run)) 𝓜 𝓡 code.env #new new-def.routine
-    code.calls-params·Reader·new (new-thm.met 𝓤 H 𝓜 𝓖 𝓡))
+    code.calls-reader·Reader·new (new-thm.met 𝓤 H 𝓜 𝓖 𝓡))
     (cited 𝓤 H (Next 𝓤 H (𝓖 .A) (𝓜 .mem) (𝓡 .run)) 𝓜 𝓡 code.env #next next-def.routine
-    code.calls-params·Reader·next (next-thm.met 𝓤 H 𝓜 𝓖 𝓡)))
+    code.calls-reader·Reader·next (next-thm.met 𝓤 H 𝓜 𝓖 𝓡)))

@@ -1,4 +1,4 @@
--- `params::Reader::new` meets its promise: a walk of its operations, by hand. A reader is made of the slice and the
+-- `reader::Reader::new` meets its promise: a walk of its operations, by hand. A reader is made of the slice and the
 -- place that are passed. What a `&[u8]` owns is had twice: once for the exit, and once inside the reader. Assumes
 -- nothing.
 use mathlib.Core.Path.{refl}
@@ -36,13 +36,13 @@ use denote.Triple.Table.{entered}
 use denote.Triple.Walked.{says, Stays, stay-none, stay-none-slice, walkOf, goes-none, goes-none-slice}
 use denote.Triple.Walked.{Walks, ends-at, walked, walk-meets}
 use denote.Exit.{yes}
-use Rattle.params.specs.declared.Reader.{Reader}
-use Rattle.params.proofs.Reader as T
-use Rattle.params.proofs.Reader.Laws as T′
-use Rattle.params.proofs.Reader.new.Key.{name as #new}
-use Rattle.params.proofs.Reader.new as new
-use Rattle.params.proofs.Reader.new.Statement as stated
-use Rattle.params.proofs.Reader.new.Code as code
+use Rattle.reader.specs.declared.Reader.{Reader}
+use Rattle.reader.proofs.Reader as T
+use Rattle.reader.proofs.Reader.Laws as T′
+use Rattle.reader.proofs.Reader.new.Key.{name as #new}
+use Rattle.reader.proofs.Reader.new as new
+use Rattle.reader.proofs.Reader.new.Statement as stated
+use Rattle.reader.proofs.Reader.new.Code as code
 
 abbrev stayed : Stays (new.ended .signature .params) (new.ended .kept)
 stayed = (stay-none-slice (0 ∷ []) tt (plain (λ _. u8)) yes, (stay-none (λ _. usize) yes, tt))

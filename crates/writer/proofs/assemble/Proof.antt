@@ -1,11 +1,11 @@
--- `frame::assemble` meets its promise: address, control, payload, and the check of what was stored so far.
+-- `writer::assemble` meets its promise: address, control, payload, and the check of what was stored so far.
 -- Assumes nothing.
 use native.Mathlib.Omega.{arith}
 use lib.ListN.{length-take}
 use Rattle.frame.proofs.Assembled.{assembled}
 use borrow.Author.Needs.{needs}
-use Rattle.frame.proofs.assemble.Statement.{statement}
-use Rattle.frame.proofs.assemble.Tie as tie
+use Rattle.writer.proofs.assemble.Statement.{statement}
+use Rattle.writer.proofs.assemble.Tie as tie
 
 put-requires : tie.Need-put-requires
 put-requires c κs = search needs

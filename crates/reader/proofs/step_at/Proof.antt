@@ -1,12 +1,11 @@
--- `params::step_at` meets its promise: what stands at the place says where it goes on. Assumes nothing.
+-- `reader::step_at` meets its promise: what stands at the place says where it goes on. Assumes nothing.
 use mathlib.Core.Path.{refl, sym, _∙_}
 use borrow.Author.Needs.{needs}
 use native.Mathlib.Omega.{arith}
-use Rattle.params.specs.Read.{behind}
-use Rattle.params.proofs.Turns.{told}
-use Rattle.params.proofs.Steps.{step-is}
-use Rattle.params.proofs.step_at.Statement.{statement}
-use Rattle.params.proofs.step_at.Tie as tie
+use Rattle.reader.specs.Read.{behind}
+use Rattle.reader.proofs.Steps.{told, step-is}
+use Rattle.reader.proofs.step_at.Statement.{statement}
+use Rattle.reader.proofs.step_at.Tie as tie
 
 stands-at-requires : tie.Need-stands-at-requires
 stands-at-requires c κs = search needs

@@ -1,17 +1,28 @@
 -- The parameter reader: the frame's slice and the cursor, a place in it.
+--   standsAt s at == what stands at the place `at` of s
 --   behind at x   == the place behind what stands at `at`: behind a triple; the end, and less than a triple, stay
 --   stepAt s at   == what stands at the place `at` of s, and the place behind it
 --   readerOf s at == the reader of the slice s, its cursor at the place `at`
 --   nextOf d      == what the reader d finds next; movedOn d == the reader d after that
 -- Assumes nothing.
+use mathlib.Core.Bool.{cond}
 use mathlib.Core.List.{List}
-use Prim.Native.Nat.{ℕ, _+_}
+use Prim.Native.Nat.{ℕ, _+_, _-_}
+use lib.Dec.{ltb, leb}
+use lib.ListN.{length, getD}
 use denote.Ref.{RefT, now}
-use Rattle.params.specs.Walk.{standsAt}
-use Rattle.params.specs.declared.Reader.{Reader}
-use Rattle.params.specs.declared.Step.{Step}
-use Rattle.params.specs.declared.Stands.{Stands}
-use Rattle.params.specs.declared.Stands.the-variants.{End, Broken, Triple}
+use Rattle.reader.specs.declared.Reader.{Reader}
+use Rattle.reader.specs.declared.Step.{Step}
+use Rattle.reader.specs.declared.Stands.{Stands}
+use Rattle.reader.specs.declared.Stands.the-variants.{End, Broken, Triple}
+
+-- an identifier, a length, and as many octets as it says
+unfoldable pub standsAt : List ℕ → ℕ → Stands
+standsAt s at =
+    cond (leb (length s) at) End
+    (cond (ltb (length s - at) 2) Broken
+    (cond (ltb (length s - at - 2) (getD s (at + 1) 0)) Broken
+    (Triple (getD s at 0) (at + 2) (getD s (at + 1) 0))))
 
 unfoldable pub behind : ℕ → Stands → ℕ
 behind at End = at

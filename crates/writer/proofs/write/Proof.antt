@@ -1,15 +1,15 @@
--- `frame::write` meets its promise: what was assembled, between flags, is handed out. Assumes nothing.
+-- `writer::write` meets its promise: what was assembled, between flags, is handed out. Assumes nothing.
 use borrow.Author.Needs.{needs}
 use native.Mathlib.Omega.{arith}
 use lib.ListN.{length-take}
 use Rattle.refusal.specs.declared.Refusal.the-variants.{PayloadTooLong}
 use Rattle.refusal.proofs.Answers.{refused, hands-is}
 use Rattle.frame.proofs.Assembled.{assembled-short}
 use Rattle.frame.proofs.Filled.{filled}
 use Rattle.frame.proofs.Escapes.{between-short}
 use Rattle.frame.proofs.Judge.{payload-long, when-lined}
-use Rattle.frame.proofs.write.Statement.{statement}
-use Rattle.frame.proofs.write.Tie as tie
+use Rattle.writer.proofs.write.Statement.{statement}
+use Rattle.writer.proofs.write.Tie as tie
 
 returns : tie.Need-returns
 returns c = refused PayloadTooLong (payload-long 78 _ _ _ _ (c .if1 .taken))

@@ -1,0 +1,2 @@
+-- What the other crates cite of the reader.
+pub mod Read
