@@ -1,31 +1,24 @@
-// `decode` and `write`: the codec's commands. Assumes nothing of the caller.
-use crate::text;
-use crate::text::FILL;
-use crate::text::Line;
-use crate::text::Name;
-use crate::text::ROOM;
-use crate::words::Asked;
+// `decode` and `write`: what the codec hands out, with the whole of its lent output. Assumes nothing of the caller.
+use crate::answers;
+use crate::answers::FILL;
+use crate::answers::Name;
+use crate::answers::ROOM;
+use crate::rows;
 
-const FRAME: Name = *b"frame       ";
+const FRAME: Name = *b"frame.......";
 
-const LINE: Name = *b"line        ";
+const LINE: Name = *b"line........";
 
-pub fn decode(asked: Asked, line: Line) -> Line {
-    let octets = asked.octets;
-    let room = asked.values[2];
+pub fn decode(src: &[u8], room: usize) {
     let mut lent = [FILL; ROOM];
-    let src = text::part(&octets, 0, asked.len);
-    let handed = frame::decode(src, text::front(&mut lent, room));
-    text::say_buffer(text::say_handed(line, FRAME, handed), lent, room)
+    let handed = frame::decode(src, rows::front(&mut lent, room));
+    answers::say_handed(FRAME, handed);
+    answers::say_buffer(lent, room);
 }
 
-pub fn write(asked: Asked, line: Line) -> Line {
-    let octets = asked.octets;
-    let address = (asked.values[1] % 256) as u8;
-    let control = (asked.values[2] % 256) as u8;
-    let room = asked.values[4];
+pub fn write(address: u8, control: u8, payload: &[u8], room: usize) {
     let mut lent = [FILL; ROOM];
-    let payload = text::part(&octets, 0, asked.len);
-    let handed = writer::write(address, control, payload, text::front(&mut lent, room));
-    text::say_buffer(text::say_handed(line, LINE, handed), lent, room)
+    let handed = writer::write(address, control, payload, rows::front(&mut lent, room));
+    answers::say_handed(LINE, handed);
+    answers::say_buffer(lent, room);
 }

@@ -1,38 +1,23 @@
-// The devices' commands but for `show`: `device`, `frame`, `hear`, `stopped`, `raise`, `clear`. Assumes nothing of the
-// caller.
-use crate::state;
-use crate::state::Bench;
-use crate::state::MOST;
-use crate::state::Obeyed;
-use crate::text;
-use crate::text::FILL;
-use crate::text::Line;
-use crate::text::Name;
-use crate::text::ROOM;
+// The devices' commands: `device`, `frame`, `hear`, `stopped`, `raise`, `clear`, and `show` by way of its own file.
+// Assumes nothing of the caller.
+use crate::answers;
+use crate::answers::FILL;
+use crate::answers::ROOM;
+use crate::rows;
+use crate::shown;
 use crate::words;
 use crate::words::Asked;
-use device::Judged;
-use device::Said;
 use record::Changed;
 use record::Device;
 use record::Event;
 use record::Span;
-use refusal::Outcome;
-
-const DEVICE: Name = *b"device      ";
-
-const ANSWER: Name = *b"answer      ";
-
-const SILENCE: Name = *b"silence     ";
-
-const DONE: Name = *b"done        ";
 
 // ---- device
 
-fn span_of(asked: Asked) -> Span {
-    let lowest = words::angle(asked.values[5]);
-    let highest = words::angle(asked.values[6]);
-    let present = words::angle(asked.values[7]);
+fn span_of(values: [usize; 8]) -> Span {
+    let lowest = words::angle(values[5]);
+    let highest = words::angle(values[6]);
+    let present = words::angle(values[7]);
     Span {
         lowest,
         highest,
@@ -40,122 +25,80 @@ fn span_of(asked: Asked) -> Span {
     }
 }
 
-// The four texts lie one behind the other.
-fn fresh(asked: Asked) -> Changed {
+// The four texts lie one behind the other, and each word's value is where its text ends.
+pub fn fresh(asked: Asked) -> Changed {
     let octets = asked.octets;
-    let identity = asked.values[1];
-    let product = text::moved(identity, asked.values[2], asked.len);
-    let hardware = text::moved(product, asked.values[3], asked.len);
+    let values = asked.values;
     let s = &octets[..];
     fresh::fresh(
-        text::part(s, 0, identity),
-        text::part(s, identity, product),
-        text::part(s, product, hardware),
-        text::part(s, hardware, asked.len),
-        span_of(asked),
+        rows::part(s, 0, values[1]),
+        rows::part(s, values[1], values[2]),
+        rows::part(s, values[2], values[3]),
+        rows::part(s, values[3], values[4]),
+        span_of(values),
     )
-}
-
-fn add(bench: Bench, device: Device, line: Line) -> Obeyed {
-    let number = text::moved(bench.count, 1, MOST);
-    let mut next = state::with_device(bench, number, device);
-    next.count = number;
-    Obeyed {
-        bench: next,
-        line: text::say_count(line, DEVICE, number),
-    }
-}
-
-// A refused device takes no number.
-pub fn make(bench: Bench, asked: Asked, line: Line) -> Obeyed {
-    let changed = fresh(asked);
-    let device = changed.device;
-    let outcome = changed.outcome;
-    match outcome {
-        Outcome::Done => add(bench, device, line),
-        Outcome::Refused(refusal) => Obeyed {
-            bench,
-            line: text::say_refused(line, refusal),
-        },
-    }
 }
 
 // ---- frame and hear
 
-// A device after octets were given to it, and the answer.
-struct Given {
-    device: Device,
-    line: Line,
-}
-
-fn judged(device: Device, octets: &[u8], lent: &mut [u8], from_line: bool) -> Judged {
-    if from_line {
-        return device::hear(device, octets, lent);
-    }
-    device::judge(device, octets, lent)
-}
-
-fn say_said(line: Line, said: Said) -> Line {
-    match said {
-        Said::Silence => text::say(line, SILENCE),
-        Said::Frame(n) => text::say_count(line, ANSWER, n),
-        Said::Refused(refusal) => text::say_refused(line, refusal),
-    }
-}
-
-fn give_to(device: Device, asked: Asked, from_line: bool, line: Line) -> Given {
+// Decoded octets.
+fn judge(device: Device, asked: Asked) -> Device {
     let octets = asked.octets;
     let room = asked.values[3];
     let mut lent = [FILL; ROOM];
-    let src = text::part(&octets, 0, asked.len);
-    let judged = judged(device, src, text::front(&mut lent, room), from_line);
+    let src = rows::part(&octets, 0, asked.len);
+    let judged = device::judge(device, src, rows::front(&mut lent, room));
     let said = judged.said;
     let device = judged.device;
-    Given {
-        device,
-        line: text::say_buffer(say_said(line, said), lent, room),
-    }
+    answers::say_said(said, lent, room);
+    device
 }
 
-// Octets for a device: as they come from the line, or decoded.
-pub fn give(bench: Bench, asked: Asked, from_line: bool, line: Line) -> Obeyed {
-    let number = asked.values[1];
-    let given = give_to(state::device_of(bench, number), asked, from_line, line);
-    let device = given.device;
-    let line = given.line;
-    Obeyed {
-        bench: state::with_device(bench, number, device),
-        line,
-    }
+// Octets as they come from the line.
+fn hear(device: Device, asked: Asked) -> Device {
+    let octets = asked.octets;
+    let room = asked.values[3];
+    let mut lent = [FILL; ROOM];
+    let src = rows::part(&octets, 0, asked.len);
+    let judged = device::hear(device, src, rows::front(&mut lent, room));
+    let said = judged.said;
+    let device = judged.device;
+    answers::say_said(said, lent, room);
+    device
 }
 
 // ---- events
 
-fn say_outcome(line: Line, outcome: Outcome) -> Line {
-    match outcome {
-        Outcome::Done => text::say(line, DONE),
-        Outcome::Refused(refusal) => text::say_refused(line, refusal),
-    }
-}
-
 // `stopped`, `raise` or `clear`.
-fn event_of(asked: Asked) -> Event {
-    let command = asked.command;
-    let code = (asked.values[2] % 256) as u8;
+fn event_of(command: usize, value: usize) -> Event {
+    let code = (value % 256) as u8;
     match command {
-        7 => Event::Raised(code),
-        8 => Event::Cleared(code),
-        _ => Event::Stopped(words::angle(asked.values[2])),
+        4 => Event::Raised(code),
+        5 => Event::Cleared(code),
+        _ => Event::Stopped(words::angle(value)),
     }
 }
 
-pub fn happen(bench: Bench, asked: Asked, line: Line) -> Obeyed {
-    let number = asked.values[1];
-    let changed = event::happen(state::device_of(bench, number), event_of(asked));
+fn happen(device: Device, event: Event) -> Device {
+    let changed = event::happen(device, event);
     let outcome = changed.outcome;
     let device = changed.device;
-    Obeyed {
-        bench: state::with_device(bench, number, device),
-        line: say_outcome(line, outcome),
+    answers::say_outcome(outcome);
+    device
+}
+
+// A command to a device.
+pub fn obey(device: Device, asked: Asked) -> Device {
+    let command = asked.command;
+    if command == 0 {
+        return judge(device, asked);
     }
+    if command == 1 {
+        return hear(device, asked);
+    }
+    if command == 2 {
+        shown::show(device);
+        return device;
+    }
+    happen(device, event_of(command, asked.values[2]))
 }

@@ -1,154 +1,160 @@
-// The workshop's bench: a codec, up to 32 tilt drives and a scanner, played from a script. Standard input is read to its
-// end in runs of octets and cut into lines; each command gets one answer line on standard output. What the commands do
-// is the library's; here are the lines.
+// The workshop's bench: a codec, up to 32 tilt drives and a scanner, played from a script. Each line of standard input is
+// read, and its command carried out; the answer goes to standard output word by word. What the commands do is the
+// library's; here are the devices and the scan by hand that the bench holds.
+mod answers;
 mod codec;
 mod drives;
+mod input;
+mod rows;
+mod scanned;
 mod scans;
-mod script;
 mod shown;
-mod state;
-mod text;
 mod words;
 
-use libc::STDIN_FILENO;
-use libc::STDOUT_FILENO;
-use state::Bench;
-use state::Obeyed;
-use text::Line;
+use answers::Name;
+use record::Device;
+use record::Span;
+use refusal::Outcome;
+use scan::Scan;
+use words::Asked;
 
-// Octets kept of a line: one more than the longest has and a 0x0D, so that a longer one is too long whatever follows.
-const KEPT: usize = 2002;
+const DEVICE: Name = *b"device......";
 
-// The output is written once it may have no room for another answer.
-const NEARLY_FULL: usize = 61440;
+// The most devices, counted from 1; nobody stands at 0.
+const MOST: usize = 32;
 
-// The bench between two octets of the script: `kept` octets of a line have come, `at` octets wait to be written.
-struct Desk {
-    bench: Bench,
-    line: [u8; KEPT],
-    kept: usize,
-    at: usize,
+const PLACES: usize = MOST + 1;
+
+// The devices from 1 to `count` are there.
+struct Bench {
+    devices: [Device; PLACES],
+    count: usize,
+    scan: Scan,
 }
 
-// ---- lines
-
-// How many octets a line has without the 0x0D before its end.
-fn without_return(line: [u8; KEPT], kept: usize) -> usize {
-    if kept == 0 {
-        return 0;
+// No device, so the blank record of a refusal everywhere; a scan that can ask nothing.
+fn empty(text: &[u8]) -> Bench {
+    let level = words::angle(0);
+    let span = Span {
+        lowest: level,
+        highest: level,
+        present: level,
+    };
+    let refused = fresh::fresh(text, text, text, text, span);
+    let device = refused.device;
+    Bench {
+        devices: [device; PLACES],
+        count: 0,
+        scan: scan::new(0),
     }
-    if KEPT < kept {
-        return KEPT;
-    }
-    if line[kept - 1] == b'\r' {
-        return kept - 1;
-    }
-    kept
 }
 
-fn flush(out: &[u8], at: usize) -> usize {
-    io::write_all(STDOUT_FILENO, text::part(out, 0, at));
-    0
+// A fault by its place among the names.
+fn say_fault(fault: usize) {
+    let names = b"long command words hex number room device full";
+    answers::say_error(words::word(names, fault));
 }
 
-// An answer behind those that wait.
-fn append(said: Line, out: &mut [u8], at: usize) -> usize {
-    let octets = said.octets;
-    octets::put_all(out, at, text::part(&octets, 0, said.len));
-    let end = text::store(out, text::moved(at, said.len, out.len()), b'\n');
-    if end < NEARLY_FULL {
-        return end;
-    }
-    flush(out, end)
-}
-
-fn obeyed(bench: Bench, line: [u8; KEPT], len: usize) -> Obeyed {
-    script::obey(bench, text::part(&line, 0, len))
-}
-
-// A line, whole or as much as was kept of it, is answered, unless it is empty or a comment.
-fn answer(desk: Desk, len: usize, out: &mut [u8]) -> Desk {
-    let mut next = desk;
-    next.kept = 0;
-    if len == 0 {
-        return next;
-    }
-    if desk.line[0] == b'#' {
-        return next;
-    }
-    let bench = desk.bench;
-    let line = desk.line;
-    let obeyed = obeyed(bench, line, len);
-    let bench = obeyed.bench;
-    let said = obeyed.line;
-    next.bench = bench;
-    next.at = append(said, out, desk.at);
+// A command to a device of the bench; a number that is read is one of the bench's.
+fn tell_device(bench: Bench, asked: Asked) -> Bench {
+    let mut next = bench;
+    let number = asked.values[1] % PLACES;
+    let device = drives::obey(bench.devices[number], asked);
+    next.devices[number] = device;
     next
 }
 
-// The end of a line.
-fn end_line(desk: Desk, out: &mut [u8]) -> Desk {
-    let line = desk.line;
-    answer(desk, without_return(line, desk.kept), out)
-}
-
-// A run of the script's octets.
-fn feed(desk: Desk, octets: &[u8], out: &mut [u8]) -> Desk {
-    let mut desk = desk;
-    let mut i = 0;
-    while i < octets.len() {
-        let octet = octets[i];
-        let kept = desk.kept;
-        i += 1;
-        if octet == b'\n' {
-            desk = end_line(desk, out);
-        } else if kept < KEPT {
-            desk.line[kept] = octet;
-            desk.kept = kept + 1;
-        }
+// A 33rd device is a fault of the line, found once the line itself has none; a refused one takes no number.
+fn make(bench: Bench, asked: Asked) -> Bench {
+    let mut next = bench;
+    let count = bench.count;
+    if MOST <= count {
+        say_fault(words::FULL);
+        return bench;
     }
-    desk
+    let changed = drives::fresh(asked);
+    let device = changed.device;
+    let outcome = changed.outcome;
+    if let Outcome::Refused(refusal) = outcome {
+        answers::say_refused(refusal);
+        return bench;
+    }
+    next.devices[count + 1] = device;
+    next.count = count + 1;
+    answers::say_count(DEVICE, count + 1);
+    next
 }
 
-// ---- the script
+// A scan of the bench; the scan by hand stands aside.
+fn scan_bench(bench: Bench, limit: usize) -> Bench {
+    let mut next = bench;
+    let before = bench.devices;
+    let devices = scans::scan_all(before, bench.count, (limit % 65536) as u16);
+    next.devices = devices;
+    next
+}
 
-// One run of octets is read; how many came, none at the end.
-fn read(run: &mut [u8]) -> usize {
-    let got = libc::read(STDIN_FILENO, run);
-    io::count(got, run)
+fn by_hand(bench: Bench, asked: Asked) -> Bench {
+    let mut next = bench;
+    let scan = bench.scan;
+    next.scan = scans::by_hand(scan, asked);
+    next
+}
+
+// The commands that need nothing of the bench, and the lines that mean nothing.
+fn answer(asked: Asked) {
+    let octets = asked.octets;
+    let command = asked.command;
+    let address = (asked.values[1] % 256) as u8;
+    let control = (asked.values[2] % 256) as u8;
+    let src = rows::part(&octets, 0, asked.len);
+    match command {
+        11 => codec::decode(src, asked.values[2]),
+        12 => codec::write(address, control, src, asked.values[4]),
+        _ => say_fault(asked.fault),
+    }
+}
+
+// A command by its place among the names: 0 frame, 1 hear, 2 show, 3 stopped, 4 raise, 5 clear, 6 device, 7 scan, 8 begin,
+// 9 probe, 10 report, 11 decode, 12 write.
+fn obey(bench: Bench, asked: Asked) -> Bench {
+    let command = asked.command;
+    if command < 6 {
+        return tell_device(bench, asked);
+    }
+    if command == 6 {
+        return make(bench, asked);
+    }
+    if command == 7 {
+        return scan_bench(bench, asked.values[1]);
+    }
+    if command < 11 {
+        return by_hand(bench, asked);
+    }
+    answer(asked);
+    bench
 }
 
 // A proved loop has to end, and nothing says that a script does: the turns are counted down from a number that no script
-// uses up. What waits is written before each read, so that a person sees the answers.
-fn play(run: &mut [u8], out: &mut [u8]) -> Desk {
-    let mut desk = Desk {
-        bench: state::empty(),
-        line: [0u8; KEPT],
-        kept: 0,
-        at: 0,
-    };
+// uses up.
+fn play(bench: Bench) {
+    let mut bench = bench;
+    let mut input = input::unread();
     let mut turns = u64::MAX;
     while 0 < turns {
         turns -= 1;
-        let n = read(run);
-        if n == 0 {
-            return desk;
+        input = input::next_line(input);
+        let asked = input::asked_of(input, bench.count);
+        if asked.command != words::SILENT {
+            bench = obey(bench, asked);
+            answers::end_line();
         }
-        desk = feed(desk, text::part(run, 0, n), out);
-        desk.at = flush(out, desk.at);
+        if !input.whole {
+            return;
+        }
     }
-    desk
-}
-
-// Octets behind the last 0x0A are a line of their own, with no 0x0A for a 0x0D to stand before.
-fn play_all(run: &mut [u8], out: &mut [u8]) {
-    let desk = play(run, out);
-    let last = answer(desk, desk.kept, out);
-    flush(out, last.at);
 }
 
 fn main() {
-    let mut run = io::large_buffer();
-    let mut out = io::large_buffer();
-    play_all(&mut run, &mut out);
+    play(empty(b""));
 }

@@ -1,109 +1,33 @@
 // `scan`, a scan of the whole bench; `begin`, `probe` and `report`, a scan by hand. Assumes nothing of the caller.
-use crate::state;
-use crate::state::Bench;
-use crate::state::Obeyed;
-use crate::state::PLACES;
-use crate::text;
-use crate::text::FILL;
-use crate::text::Line;
-use crate::text::Name;
-use crate::text::ROOM;
+use crate::PLACES;
+use crate::answers;
+use crate::answers::Name;
+use crate::rows;
+use crate::scanned;
 use crate::words::Asked;
-use device::Judged;
 use device::Said;
 use record::Device;
 use refusal::Handed;
-use refusal::Outcome;
 use scan::Scan;
 use scan::State;
 
-const GOING: Name = *b"going       ";
-
-const COMPLETE: Name = *b"complete    ";
-
-const DOUBTFUL: Name = *b"doubtful    ";
-
-const LIMIT: Name = *b"limit       ";
-
-const FULL: Name = *b"full        ";
-
-const BEGUN: Name = *b"begun       ";
-
-const PROBE: Name = *b"probe       ";
-
-// ---- what a scan comes to
-
-fn say_comma(line: Line, nth: usize) -> Line {
-    if nth == 0 {
-        return line;
-    }
-    text::put(line, b',')
-}
-
-fn say_identity(line: Line, list: &[u8], nth: usize) -> Line {
-    if scan::ROOM <= nth {
-        return line;
-    }
-    let from = identity::OCTETS * nth;
-    text::say_hex(
-        say_comma(line, nth),
-        text::part(list, from, from + identity::OCTETS),
-    )
-}
-
-fn say_list(line: Line, list: [u8; scan::LIST], listed: usize) -> Line {
-    if listed == 0 {
-        return text::put(line, b'-');
-    }
-    let mut line = line;
-    let mut i = 0;
-    while i < listed {
-        line = say_identity(line, &list, i);
-        i += 1;
-    }
-    line
-}
-
-fn say_found(line: Line, name: Name, scan: Scan) -> Line {
-    let list = scan.list;
-    let counted = text::say_count(line, name, scan.count as usize);
-    say_list(text::put(counted, b' '), list, scan.listed)
-}
-
-// The beginning that a scan names stands behind what it found.
-fn say_stopped(line: Line, name: Name, scan: Scan) -> Line {
-    let beginning = scan.beginning;
-    let octets = identity::octets_of(beginning, scan.bits);
-    let found = say_found(line, name, scan);
-    let bits = text::say_number(text::put(found, b' '), scan.bits);
-    text::say_hex(text::put(bits, b':'), &octets)
-}
-
-fn say_scan(line: Line, scan: Scan) -> Line {
-    let state = scan.state;
-    match state {
-        State::Asking { quiet: _, doubt: _ } => text::say_count(line, GOING, scan.count as usize),
-        State::Complete => say_found(line, COMPLETE, scan),
-        State::Doubtful => say_found(line, DOUBTFUL, scan),
-        State::Limit => say_stopped(line, LIMIT, scan),
-        State::Full => say_stopped(line, FULL, scan),
-    }
-}
+const BEGUN: Name = *b"begun.......";
 
 // ---- a scan of the bench
 
 // Room for any answer.
 const ANSWER: usize = 76;
 
+// A written line's octets between its flags.
+struct Written {
+    octets: [u8; 158],
+    end: usize,
+}
+
 // Whether some device answered, and the devices after it.
 struct Heard {
     heard: bool,
     devices: [Device; PLACES],
-}
-
-fn listen(device: Device, line: &[u8]) -> Judged {
-    let mut answer = [0u8; ANSWER];
-    device::hear(device, line, &mut answer)
 }
 
 // Whether there is an answer, now or before.
@@ -115,48 +39,60 @@ fn is_heard(before: bool, said: Said) -> bool {
     }
 }
 
-// A line goes to each device.
-fn send(devices: [Device; PLACES], count: usize, line: &[u8]) -> Heard {
+// A device after the line, and whether it or one before answered.
+struct Listened {
+    heard: bool,
+    device: Device,
+}
+
+fn listen(device: Device, written: Written, before: bool) -> Listened {
+    let mut answer = [0u8; ANSWER];
+    let line = written.octets;
+    let judged = device::hear(device, rows::part(&line, 1, written.end), &mut answer);
+    let said = judged.said;
+    let device = judged.device;
+    Listened {
+        heard: is_heard(before, said),
+        device,
+    }
+}
+
+// A line goes to each device, in any order, since none hears another.
+fn send(devices: [Device; PLACES], count: usize, line: Written) -> Heard {
     let mut devices = devices;
     let mut heard = false;
-    let mut i = 1;
-    while i < PLACES {
-        if count < i {
-            return Heard { heard, devices };
-        }
-        let judged = listen(devices[i], line);
-        let said = judged.said;
-        let device = judged.device;
-        devices[i] = device;
-        heard = is_heard(heard, said);
-        i += 1;
+    let mut left = count % PLACES;
+    while 0 < left {
+        let listened = listen(devices[left], line, heard);
+        let device = listened.device;
+        devices[left] = device;
+        heard = listened.heard;
+        left -= 1;
     }
     Heard { heard, devices }
 }
 
-// The octets of the next probe; zeros where there is none.
-fn next_probe(scan: Scan) -> [u8; 47] {
-    let mut probe = [0u8; 47];
-    scan::probe(scan, &mut probe);
-    probe
-}
-
-// What lies between a written line's flags.
-fn between(line: &[u8], handed: Handed) -> &[u8] {
+// The octet before the closing flag is the last between the flags.
+fn end_of(handed: Handed) -> usize {
     let Handed::Octets(len) = handed else {
-        return &line[..0];
+        return 0;
     };
-    if len < 2 {
-        return &line[..0];
+    if len == 0 {
+        return 0;
     }
-    text::part(line, 1, len - 1)
+    len - 1
 }
 
-// A probe goes out as a written line.
-fn ask(devices: [Device; PLACES], count: usize, probe: [u8; 47]) -> Heard {
-    let mut line = [0u8; 158];
-    let handed = writer::write(probe[0], probe[1], text::part(&probe, 2, 47), &mut line);
-    send(devices, count, between(&line, handed))
+// The next probe as a written line; none where the scan has ended.
+fn next_line(scan: Scan) -> Written {
+    let mut probe = [0u8; 47];
+    let mut octets = [0u8; 158];
+    scan::probe(scan, &mut probe);
+    let handed = writer::write(probe[0], probe[1], rows::part(&probe, 2, 47), &mut octets);
+    Written {
+        octets,
+        end: end_of(handed),
+    }
 }
 
 fn is_asking(scan: Scan) -> bool {
@@ -168,79 +104,51 @@ fn is_asking(scan: Scan) -> bool {
     }
 }
 
-// The bench with its scan one probe further.
-fn step(bench: Bench) -> Bench {
-    let devices = bench.devices;
-    let scan = bench.scan;
-    let answered = ask(devices, bench.count, next_probe(scan));
-    let devices = answered.devices;
-    let reported = scan::report(scan, answered.heard);
-    let scan = reported.scan;
-    Bench {
-        devices,
-        count: bench.count,
-        scan,
-    }
+fn reported(scan: Scan, heard: bool) -> Scan {
+    let reported = scan::report(scan, heard);
+    reported.scan
 }
 
-// Each turn answers a probe, so there are no more than the limit allows.
-fn scan_all(bench: Bench, limit: u16) -> Bench {
-    let mut bench = bench;
+// Each turn answers a probe, so there are no more than the limit allows. The devices after it.
+pub fn scan_all(devices: [Device; PLACES], count: usize, limit: u16) -> [Device; PLACES] {
+    let mut devices = devices;
+    let mut scan = scan::new(limit);
     let mut left = limit;
     while 0 < left {
         left -= 1;
-        let scan = bench.scan;
-        if !is_asking(scan) {
-            return bench;
+        if is_asking(scan) {
+            let answered = send(devices, count, next_line(scan));
+            devices = answered.devices;
+            scan = reported(scan, answered.heard);
+        } else {
+            left = 0;
         }
-        bench = step(bench);
     }
-    bench
-}
-
-// The scan by hand stands aside meanwhile.
-pub fn scan_bench(bench: Bench, asked: Asked, line: Line) -> Obeyed {
-    let limit = (asked.values[1] % 65536) as u16;
-    let by_hand = bench.scan;
-    let scanned = scan_all(state::with_scan(bench, scan::new(limit)), limit);
-    let scan = scanned.scan;
-    Obeyed {
-        bench: state::with_scan(scanned, by_hand),
-        line: say_scan(line, scan),
-    }
+    scanned::say_scan(scan);
+    devices
 }
 
 // ---- a scan by hand
 
-pub fn begin(bench: Bench, asked: Asked, line: Line) -> Obeyed {
-    let scan = scan::new((asked.values[1] % 65536) as u16);
-    Obeyed {
-        bench: state::with_scan(bench, scan),
-        line: text::say(line, BEGUN),
-    }
-}
-
-pub fn probe(scan: Scan, asked: Asked, line: Line) -> Line {
-    let room = asked.values[1];
-    let mut lent = [FILL; ROOM];
-    let handed = scan::probe(scan, text::front(&mut lent, room));
-    text::say_buffer(text::say_handed(line, PROBE, handed), lent, room)
-}
-
-fn say_reported(line: Line, outcome: Outcome, scan: Scan) -> Line {
-    match outcome {
-        Outcome::Done => say_scan(line, scan),
-        Outcome::Refused(refusal) => text::say_refused(line, refusal),
-    }
-}
-
-pub fn report(bench: Bench, asked: Asked, line: Line) -> Obeyed {
-    let scan = bench.scan;
-    let reported = scan::report(scan, asked.values[1] == 1);
+fn report(scan: Scan, heard: bool) -> Scan {
+    let reported = scan::report(scan, heard);
     let outcome = reported.outcome;
     let scan = reported.scan;
-    Obeyed {
-        bench: state::with_scan(bench, scan),
-        line: say_reported(line, outcome, scan),
+    scanned::say_reported(outcome, scan);
+    scan
+}
+
+// `begin`, `probe` or `report`.
+pub fn by_hand(scan: Scan, asked: Asked) -> Scan {
+    let command = asked.command;
+    let value = asked.values[1];
+    if command == 8 {
+        answers::say(BEGUN);
+        return scan::new((value % 65536) as u16);
     }
+    if command == 9 {
+        scanned::probe(scan, value);
+        return scan;
+    }
+    report(scan, value == 1)
 }

@@ -1,7 +1,7 @@
 // `show`: a device's state in one line. Assumes nothing of the caller.
-use crate::text;
-use crate::text::Line;
-use crate::text::Name;
+use crate::answers;
+use crate::answers::Name;
+use crate::rows;
 use antenna::Alarms;
 use antenna::Antenna;
 use antenna::Motion;
@@ -9,67 +9,66 @@ use record::Device;
 use record::Link;
 use record::Payload;
 use record::Pending;
-use record::Session;
 use record::Station;
 
-const STATE: Name = *b"state       ";
+const STATE: Name = *b"state.......";
 
-const NONE: Name = *b"none        ";
+const NONE: Name = *b" none.......";
 
-const ASSIGNED: Name = *b"assigned    ";
+const ASSIGNED: Name = *b" assigned...";
 
-const CONNECTED: Name = *b"connected:  ";
+const CONNECTED: Name = *b" connected..";
 
-const INDICATION: Name = *b"i:          ";
+const NOTHING: Name = *b" -..........";
 
-const STILL: Name = *b"still       ";
+const INDICATION: Name = *b" i..........";
 
-const MOVING: Name = *b"moving      ";
+const STILL: Name = *b" still......";
 
-const OWING: Name = *b"moving:     ";
+const MOVING: Name = *b" moving.....";
 
-const REACHED: Name = *b"stopped:ok  ";
+const REACHED: Name = *b" stopped:ok.";
 
-const JAMMED: Name = *b"stopped:jam ";
+const JAMMED: Name = *b" stopped:jam";
 
-fn say_link(line: Line, link: Link) -> Line {
+fn say_link(link: Link) {
     match link {
-        Link::NoAddress => text::say(line, NONE),
-        Link::AddressAssigned => text::say(line, ASSIGNED),
+        Link::NoAddress => answers::say(NONE),
+        Link::AddressAssigned => answers::say(ASSIGNED),
         Link::Connected(session) => {
-            let started = text::say_number(text::say(line, CONNECTED), session.r as usize);
-            text::say_number(text::put(started, b':'), session.s as usize)
+            answers::say(CONNECTED);
+            answers::say_number(b':', session.r as usize);
+            answers::say_number(b':', session.s as usize);
         }
     }
 }
 
-fn say_payload(line: Line, payload: Payload) -> Line {
+fn say_payload(mark: u8, payload: Payload) {
     let octets = payload.octets;
-    text::say_hex(line, text::part(&octets, 0, payload.len))
+    answers::say_hex(mark, rows::part(&octets, 0, payload.len));
 }
 
-fn say_indication(line: Line, said: Alarms, told: Alarms) -> Line {
-    say_payload(text::say(line, INDICATION), report::indication(said, told))
+fn say_indication(said: Alarms, told: Alarms) {
+    answers::say(INDICATION);
+    say_payload(b':', report::indication(said, told));
 }
 
-fn say_answer(line: Line, station: Station, session: Session) -> Line {
-    let pending = session.pending;
+fn pending_of(link: Link) -> Pending {
+    match link {
+        Link::NoAddress => Pending::Nothing,
+        Link::AddressAssigned => Pending::Nothing,
+        Link::Connected(session) => session.pending,
+    }
+}
+
+fn say_pending(pending: Pending, station: Station) {
     let reply = station.reply;
     let said = station.said;
     let told = station.told;
     match pending {
-        Pending::Nothing => text::put(line, b'-'),
-        Pending::Answer => say_payload(line, reply),
-        Pending::Indication => say_indication(line, said, told),
-    }
-}
-
-fn say_pending(line: Line, station: Station) -> Line {
-    let link = station.link;
-    match link {
-        Link::NoAddress => text::put(line, b'-'),
-        Link::AddressAssigned => text::put(line, b'-'),
-        Link::Connected(session) => say_answer(line, station, session),
+        Pending::Nothing => answers::say(NOTHING),
+        Pending::Answer => say_payload(b' ', reply),
+        Pending::Indication => say_indication(said, told),
     }
 }
 
@@ -77,46 +76,48 @@ fn result_name(reached: bool) -> Name {
     if reached { REACHED } else { JAMMED }
 }
 
-fn say_drive(line: Line, motion: Motion) -> Line {
+fn say_drive(motion: Motion) {
     match motion {
-        Motion::Still => text::say(line, STILL),
-        Motion::Moving => text::say(line, MOVING),
-        Motion::Owing { asked } => text::say_tilt(text::say(line, OWING), asked),
-        Motion::Stopped { reached } => text::say(line, result_name(reached)),
+        Motion::Still => answers::say(STILL),
+        Motion::Moving => answers::say(MOVING),
+        Motion::Owing { asked } => {
+            answers::say(MOVING);
+            answers::say_tilt(b':', asked);
+        }
+        Motion::Stopped { reached } => answers::say(result_name(reached)),
     }
 }
 
 // The codes stand in the answer to alarm status behind its code, its length and its return code.
-fn say_alarms(line: Line, alarms: Alarms) -> Line {
+fn say_alarms(alarms: Alarms) {
     let told = report::alarms(alarms);
     let octets = told.octets;
-    text::say_hex(line, text::part(&octets, 4, told.len))
+    answers::say_hex(b' ', rows::part(&octets, 4, told.len));
 }
 
-fn say_station(line: Line, station: Station) -> Line {
+fn say_station(station: Station) {
     let link = station.link;
-    let linked = say_link(text::put(text::say(line, STATE), b' '), link);
-    let addressed = text::say_number(text::put(linked, b' '), station.address as usize);
-    say_pending(text::put(addressed, b' '), station)
+    answers::say(STATE);
+    say_link(link);
+    answers::say_number(b' ', station.address as usize);
+    say_pending(pending_of(link), station);
 }
 
-fn say_antenna(line: Line, antenna: Antenna) -> Line {
+fn say_antenna(antenna: Antenna) {
     let motion = antenna.motion;
     let tilt = antenna.tilt;
     let raised = antenna.raised;
-    let driven = say_drive(text::put(line, b' '), motion);
-    let tilted = text::say_tilt(text::put(driven, b' '), tilt);
-    say_alarms(text::put(tilted, b' '), raised)
+    say_drive(motion);
+    answers::say_tilt(b' ', tilt);
+    say_alarms(raised);
 }
 
-fn say_told(line: Line, station: Station) -> Line {
-    let told = station.told;
-    let listed = say_alarms(text::put(line, b' '), told);
-    text::say_number(text::put(listed, b' '), station.subscribed as usize)
-}
-
-pub fn show(device: Device, line: Line) -> Line {
+pub fn show(device: Device) {
     let station = device.station;
     let antenna = device.antenna;
-    say_told(say_antenna(say_station(line, station), antenna), station)
+    let told = station.told;
+    say_station(station);
+    say_antenna(antenna);
+    say_alarms(told);
+    answers::say_number(b' ', station.subscribed as usize);
 }

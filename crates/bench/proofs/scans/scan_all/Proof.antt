@@ -4,10 +4,13 @@ use Rattle.bench.proofs.scans.scan_all.Statement.{statement}
 use Rattle.bench.proofs.scans.scan_all.Tie as tie
 
 abbrev Inv-loop : tie.InvT-loop
-Inv-loop limit bench₀ left₀ bench left = Unit {0}
+Inv-loop count limit devices₀ scan₀ left₀ devices scan left = Unit {0}
 
 abbrev μ-loop : tie.MeasureT-loop
-μ-loop limit bench₀ left₀ bench left = left
+μ-loop count limit devices₀ scan₀ left₀ devices scan left = left
+
+new-requires : tie.Need-new-requires Inv-loop μ-loop
+new-requires c κs = search needs
 
 loop-holds : tie.Need-loop-holds Inv-loop μ-loop
 loop-holds c = search needs
@@ -18,11 +21,14 @@ sub-left c = search needs
 is-asking-requires : tie.Need-is-asking-requires Inv-loop μ-loop
 is-asking-requires c κs = search needs
 
-returns : tie.Need-returns Inv-loop μ-loop
-returns c = search needs
+next-line-requires : tie.Need-next-line-requires Inv-loop μ-loop
+next-line-requires c κs = search needs
 
-step-requires : tie.Need-step-requires Inv-loop μ-loop
-step-requires c κs = search needs
+send-requires : tie.Need-send-requires Inv-loop μ-loop
+send-requires c κs = search needs
+
+reported-requires : tie.Need-reported-requires Inv-loop μ-loop
+reported-requires c κs = search needs
 
 loop-less : tie.Need-loop-less Inv-loop μ-loop
 loop-less c = search needs
@@ -30,8 +36,17 @@ loop-less c = search needs
 loop-again : tie.Need-loop-again Inv-loop μ-loop
 loop-again c = search needs
 
-returns-2 : tie.Need-returns-2 Inv-loop μ-loop
-returns-2 c = search needs
+loop-less-2 : tie.Need-loop-less-2 Inv-loop μ-loop
+loop-less-2 c = search needs
+
+loop-again-2 : tie.Need-loop-again-2 Inv-loop μ-loop
+loop-again-2 c = search needs
+
+say-scan-requires : tie.Need-say-scan-requires Inv-loop μ-loop
+say-scan-requires c κs = search needs
+
+returns : tie.Need-returns Inv-loop μ-loop
+returns c = search needs
 
 pub scan-all-spec : {M : Type 1} → statement M
 scan-all-spec =
@@ -39,11 +54,16 @@ scan-all-spec =
     (tie.spec
     Inv-loop
     μ-loop
+    new-requires
     loop-holds
     sub-left
     is-asking-requires
-    returns
-    step-requires
+    next-line-requires
+    send-requires
+    reported-requires
     loop-less
     loop-again
-    returns-2)
+    loop-less-2
+    loop-again-2
+    say-scan-requires
+    returns)

@@ -29,9 +29,6 @@ word-requires c κs = search needs
 with-word-requires : tie.Need-with-word-requires Inv-loop μ-loop
 with-word-requires c κs = search needs
 
-is-good-requires : tie.Need-is-good-requires Inv-loop μ-loop
-is-good-requires c κs = search needs
-
 returns : tie.Need-returns Inv-loop μ-loop
 returns c = search needs
 
@@ -56,7 +53,6 @@ read-words-spec =
     add-i
     word-requires
     with-word-requires
-    is-good-requires
     returns
     loop-less
     loop-again

@@ -11,26 +11,20 @@ Inv-loop word from n₀ i₀ n i = Unit {0}
 abbrev μ-loop : tie.MeasureT-loop
 μ-loop word from n₀ i₀ n i = length word - i
 
-bad-requires : tie.Need-bad-requires Inv-loop μ-loop
-bad-requires c κs = search needs
-
 returns : tie.Need-returns Inv-loop μ-loop
 returns c = search needs
 
 loop-holds : tie.Need-loop-holds Inv-loop μ-loop
 loop-holds c = search needs
 
-shared-slice-read-octet : tie.Need-shared-slice-read-octet Inv-loop μ-loop
-shared-slice-read-octet c = search needs
+shared-slice-read-nibble : tie.Need-shared-slice-read-nibble Inv-loop μ-loop
+shared-slice-read-nibble c = search needs
+
+nibble-requires : tie.Need-nibble-requires Inv-loop μ-loop
+nibble-requires c κs = search needs
 
 add-i : tie.Need-add-i Inv-loop μ-loop
 add-i c = search needs
-
-is-digit-requires : tie.Need-is-digit-requires Inv-loop μ-loop
-is-digit-requires c κs = search needs
-
-bad-requires-2 : tie.Need-bad-requires-2 Inv-loop μ-loop
-bad-requires-2 c κs = search needs
 
 returns-2 : tie.Need-returns-2 Inv-loop μ-loop
 returns-2 c = search needs
@@ -44,9 +38,6 @@ loop-less c = search needs
 loop-again : tie.Need-loop-again Inv-loop μ-loop
 loop-again c = search needs
 
-good-requires : tie.Need-good-requires Inv-loop μ-loop
-good-requires c κs = search needs
-
 returns-3 : tie.Need-returns-3 Inv-loop μ-loop
 returns-3 c = search needs
 
@@ -56,16 +47,13 @@ size-spec =
     (tie.spec
     Inv-loop
     μ-loop
-    bad-requires
     returns
     loop-holds
-    shared-slice-read-octet
+    shared-slice-read-nibble
+    nibble-requires
     add-i
-    is-digit-requires
-    bad-requires-2
     returns-2
     longer-requires
     loop-less
     loop-again
-    good-requires
     returns-3)

@@ -2,8 +2,8 @@
 use mathlib.Core.Path.{sym}
 use lib.Seq.{length-take-le}
 use borrow.Author.Needs.{needs}
-use Rattle.bench.proofs.text.front.Statement.{statement}
-use Rattle.bench.proofs.text.front.Tie as tie
+use Rattle.bench.proofs.rows.front.Statement.{statement}
+use Rattle.bench.proofs.rows.front.Tie as tie
 
 returns : tie.Need-returns
 returns c = search needs

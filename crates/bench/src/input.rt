@@ -1,0 +1,102 @@
+// Standard input, cut into lines. Assumes nothing of the caller: an input that holds no such octets has an empty line.
+use crate::rows;
+use crate::words;
+use crate::words::Asked;
+use libc::STDIN_FILENO;
+
+// Octets kept of a line: one more than the longest has and a 0x0D, so that a longer one is too long whatever follows.
+const KEPT: usize = 2002;
+
+// Octets read at a time.
+const RUN: usize = 4096;
+
+// The octets of the run from `from` to `end` are still to be read; `len` octets of a line have come. A whole line had a
+// 0x0A, and the last one, at the end of the input, has none.
+pub struct Input {
+    pub whole: bool,
+    run: [u8; RUN],
+    from: usize,
+    end: usize,
+    line: [u8; KEPT],
+    len: usize,
+}
+
+pub fn unread() -> Input {
+    Input {
+        whole: false,
+        run: [0u8; RUN],
+        from: 0,
+        end: 0,
+        line: [0u8; KEPT],
+        len: 0,
+    }
+}
+
+// What the run has of a line goes behind what has come.
+fn take(input: Input) -> Input {
+    let run = input.run;
+    let mut line = input.line;
+    let rest = rows::part(&run, input.from, input.end);
+    let n = octets::find(b'\n', rest);
+    octets::put_all(&mut line, input.len, rows::part(rest, 0, n));
+    Input {
+        whole: n < rest.len(),
+        run,
+        from: rows::moved(rows::moved(input.from, n, RUN), 1, RUN),
+        end: input.end,
+        line,
+        len: rows::moved(input.len, n, KEPT),
+    }
+}
+
+// The next run; none at the end of the input.
+fn refill(input: Input) -> Input {
+    let mut next = input;
+    let mut run = [0u8; RUN];
+    let got = libc::read(STDIN_FILENO, &mut run);
+    next.end = io::count(got, &run);
+    next.run = run;
+    next.from = 0;
+    next
+}
+
+// A proved loop has to end, and nothing says that a line does.
+pub fn next_line(input: Input) -> Input {
+    let mut next = input;
+    next.len = 0;
+    let mut turns = u64::MAX;
+    while 0 < turns {
+        turns -= 1;
+        next = take(next);
+        if next.whole {
+            return next;
+        }
+        next = refill(next);
+        if next.end == 0 {
+            return next;
+        }
+    }
+    next
+}
+
+// A line without the 0x0D before its end.
+fn without_return(line: &[u8], whole: bool) -> &[u8] {
+    if !whole {
+        return line;
+    }
+    let n = line.len();
+    if n == 0 {
+        return line;
+    }
+    if line[n - 1] == b'\r' {
+        return rows::part(line, 0, n - 1);
+    }
+    line
+}
+
+// What the line asks of a bench with so many devices.
+pub fn asked_of(input: Input, devices: usize) -> Asked {
+    let octets = input.line;
+    let line = rows::part(&octets, 0, input.len);
+    words::read_line(without_return(line, input.whole), devices)
+}
