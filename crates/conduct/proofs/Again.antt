@@ -18,8 +18,9 @@ use Rattle.record.specs.declared.Event.{Event}
 use Rattle.record.specs.Changes.{withAntenna}
 use Rattle.session.specs.Session.{pends, acknowledges, goodNumber, accepts}
 use Rattle.session.proofs.Numbers.{accepts-exactly}
-use Rattle.station.specs.Station.{sessionAfter, resent}
-use Rattle.station.proofs.Settled.{session-kept}
+use Rattle.station.specs.Station.{resent}
+use Rattle.acknowledge.specs.Acknowledge.{sessionAfter}
+use Rattle.acknowledge.proofs.Settled.{session-kept}
 use Rattle.turn.specs.declared.Turn.{Turn}
 use Rattle.turn.specs.Turns.{saying}
 use Rattle.turn.specs.Sessions.{informOf, informedBy}

@@ -20,7 +20,8 @@ use Rattle.record.specs.declared.Device.{Device}
 use Rattle.record.specs.Changes.{endedAs}
 use Rattle.session.specs.Session.{accepts, taken}
 use Rattle.session.proofs.Numbers.{accepts-exactly}
-use Rattle.station.specs.Station.{sessionAfter, heeded}
+use Rattle.station.specs.Station.{heeded}
+use Rattle.acknowledge.specs.Acknowledge.{sessionAfter}
 use Rattle.message.specs.Messages.{askedOf}
 use Rattle.message.specs.Carried.{unanswered}
 use Rattle.message.proofs.Moves.{moved-or-not, due-moves}

@@ -11,7 +11,8 @@ use Rattle.record.specs.declared.Session.{Session}
 use Rattle.record.specs.declared.Link.the-variants.{Connected}
 use Rattle.record.specs.declared.Device.{Device}
 use Rattle.session.specs.Session.{pends}
-use Rattle.station.specs.Station.{sessionAfter, stationAfter, awaiting, indicates, toTell}
+use Rattle.station.specs.Station.{awaiting, indicates, toTell}
+use Rattle.acknowledge.specs.Acknowledge.{sessionAfter, stationAfter}
 use Rattle.turn.specs.declared.Turn.{Turn}
 use Rattle.turn.specs.Turns.{saying, deviceOf, acknowledged}
 use Rattle.turn.specs.Sessions.{pend, idlePoll, waitingPoll, pollOf, polledBy}

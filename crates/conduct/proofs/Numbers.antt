@@ -15,7 +15,7 @@ use Rattle.record.specs.declared.Link.the-variants.{Connected}
 use Rattle.record.specs.declared.Device.{Device}
 use Rattle.record.specs.Changes.{unsaidAt, endedAs}
 use Rattle.session.specs.Session.{acknowledges, accepts}
-use Rattle.station.specs.Station.{emptied, sessionAfter}
+use Rattle.acknowledge.specs.Acknowledge.{emptied, sessionAfter}
 use Rattle.turn.specs.declared.Turn.{Turn}
 use Rattle.turn.specs.Turns.{saying}
 use Rattle.link.specs.Link.{released, rejected, judgedFrame}

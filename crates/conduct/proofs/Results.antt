@@ -20,7 +20,8 @@ use Rattle.record.specs.declared.Link.the-variants.{Connected}
 use Rattle.record.specs.declared.Device.{Device}
 use Rattle.record.specs.Allowed.{identityOf}
 use Rattle.session.specs.Session.{pends, goodNumber, accepts, taken}
-use Rattle.station.specs.Station.{sessionAfter, stationAfter, resent, awaiting, answersWith}
+use Rattle.station.specs.Station.{resent, awaiting, answersWith}
+use Rattle.acknowledge.specs.Acknowledge.{sessionAfter, stationAfter}
 use Rattle.payload.specs.Payloads.{payloadOf, resultOf}
 use Rattle.message.specs.declared.Carried.{Carried}
 use Rattle.message.specs.declared.Reply.{Reply}

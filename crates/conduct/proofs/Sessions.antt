@@ -14,7 +14,8 @@ use Rattle.record.specs.declared.Link.the-variants.{Connected}
 use Rattle.record.specs.declared.Device.{Device}
 use Rattle.session.specs.Session.{acknowledges, goodNumber, accepts, taken}
 use Rattle.session.proofs.Numbers.{acknowledges-exactly}
-use Rattle.station.specs.Station.{emptied, sessionAfter, answersWith, indicates, awaiting, heeded}
+use Rattle.station.specs.Station.{answersWith, indicates, awaiting, heeded}
+use Rattle.acknowledge.specs.Acknowledge.{emptied, sessionAfter}
 use Rattle.turn.specs.declared.Turn.{Turn}
 use Rattle.turn.specs.Turns.{saying, acknowledged, deviceOf}
 use Rattle.turn.specs.Sessions.{repliedBy, informedBy, polledBy, pausedBy}

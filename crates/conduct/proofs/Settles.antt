@@ -18,7 +18,7 @@ use Rattle.record.specs.declared.Link.the-variants.{AddressAssigned, Connected}
 use Rattle.record.specs.declared.Device.{Device}
 use Rattle.record.specs.Changes.{unsaidAt}
 use Rattle.session.specs.Session.{pends, acknowledges}
-use Rattle.station.specs.Station.{emptied, settled, retold, sessionAfter, stationAfter}
+use Rattle.acknowledge.specs.Acknowledge.{emptied, settled, retold, sessionAfter, stationAfter}
 use Rattle.turn.specs.Turns.{acknowledged, deviceOf}
 use Rattle.turn.specs.Sessions.{informedBy, polledBy, pausedBy}
 use Rattle.link.specs.Link.{infoBy, rrBy, rnrBy, connectedBy, linkedBy, judgedFrame}

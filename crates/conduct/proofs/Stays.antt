@@ -23,7 +23,8 @@ use Rattle.record.specs.Changes.{unsaidAt, endedAs}
 use Rattle.record.proofs.Stays.{sound, end-stays}
 use Rattle.session.specs.Session.{taken}
 use Rattle.session.proofs.Numbers.{accepts-exactly}
-use Rattle.station.specs.Station.{sessionAfter, answersWith, indicates, awaiting, heeded, toTell}
+use Rattle.station.specs.Station.{answersWith, indicates, awaiting, heeded, toTell}
+use Rattle.acknowledge.specs.Acknowledge.{sessionAfter}
 use Rattle.xid.specs.Match.{readOf}
 use Rattle.xid.specs.declared.Xid as xids
 use Rattle.xid.proofs.Exactly.{assignment-exactly}

@@ -18,8 +18,8 @@ use Rattle.record.specs.declared.Device.{Device}
 use Rattle.record.specs.Fresh.{calm}
 use Rattle.record.specs.Changes.{unsaidAt, endedAs}
 use Rattle.session.specs.Session.{acknowledges, accepts}
-use Rattle.station.specs.Station.{sessionAfter, stationAfter, settled, retold, toldAfter}
-use Rattle.station.proofs.Settled.{station-kept, told-said}
+use Rattle.acknowledge.specs.Acknowledge.{sessionAfter, stationAfter, settled, retold, toldAfter}
+use Rattle.acknowledge.proofs.Settled.{station-kept, told-said}
 use Rattle.turn.specs.declared.Turn.{Turn}
 use Rattle.turn.specs.Turns.{saying, deviceOf, acknowledged}
 use Rattle.turn.specs.Sessions.{informedBy, polledBy, pausedBy}

@@ -14,7 +14,7 @@ use Rattle.record.specs.Allowed.{platesAllowed, numbersAllowed, pendingFits, se
 use Rattle.record.specs.Allowed.{stationAllowed, owedAllowed, allowedDevice}
 use Rattle.record.proofs.Stays.{sound, allowed-by}
 use Rattle.session.specs.Session.{acknowledges, taken}
-use Rattle.station.specs.Station.{emptied, settled, sessionAfter, stationAfter}
+use Rattle.acknowledge.specs.Acknowledge.{emptied, settled, sessionAfter, stationAfter}
 use Rattle.turn.specs.Turns.{acknowledged, deviceOf}
 use Rattle.conduct.proofs.Settles.{address-kept, settled-link}
 

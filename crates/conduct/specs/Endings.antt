@@ -26,7 +26,7 @@ use Rattle.record.specs.Allowed.{identityOf}
 use Rattle.record.specs.Fresh.{calm, noReply}
 use Rattle.session.specs.Session.{pends, goodNumber}
 use Rattle.xid.specs.Meaning.{Takes}
-use Rattle.station.specs.Station.{sessionAfter}
+use Rattle.acknowledge.specs.Acknowledge.{sessionAfter}
 use Rattle.conduct.specs.Conduct.{numberIn}
 use Rattle.link.specs.Frames.{hasAddress, Own, Numbered, Everyone}
 

@@ -35,7 +35,8 @@ use Rattle.record.specs.Fresh.{identityFrom, productFrom, versionFrom, plateFro
 use Rattle.record.specs.Fresh.{freshOf, blankDevice}
 use Rattle.record.specs.Changes.{unsaidAt, endedAs, canBe, afterEvent, eventRows, happened}
 use Rattle.session.specs.Session.{pends, acknowledges, goodNumber, accepts, taken, vsOf, countsOf}
-use Rattle.station.specs.Station.{sessionAfter, stationAfter, resent, awaiting}
+use Rattle.station.specs.Station.{resent, awaiting}
+use Rattle.acknowledge.specs.Acknowledge.{sessionAfter, stationAfter}
 use Rattle.station.specs.Station.{answersWith, heeded}
 use Rattle.params.specs.Field.{opened, triplesAfter, before, checked, allRight, rightLength, identityLong, identifiers}
 use Rattle.params.specs.Field.{noneTwice, paramsOf, valueOf, valuesOf, given, octetsIn}

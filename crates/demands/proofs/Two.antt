@@ -32,7 +32,7 @@ use Rattle.record.specs.Allowed.{allowedDevice}
 use Rattle.record.specs.Changes.{unsaidAt, endedAs}
 use Rattle.session.specs.Session.{goodNumber}
 use Rattle.session.proofs.Numbers.{accepts-exactly}
-use Rattle.station.specs.Station.{sessionAfter}
+use Rattle.acknowledge.specs.Acknowledge.{sessionAfter}
 use Rattle.message.proofs.Moves.{Due}
 use Rattle.xid.specs.Meaning.{Answers, Takes}
 use Rattle.xid.specs.Match.{readOf}

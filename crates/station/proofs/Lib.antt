@@ -1,3 +1,2 @@
 -- The laws of a station that the link cites.
 pub mod Only
-pub mod Settled

@@ -1,22 +1,14 @@
 -- Each promise of this crate is one equation, so it allows one result. Assumes nothing.
 use mathlib.Core.Path.{_≡_}
 use mathlib.Core.Bool.{Bool}
-use Prim.Native.Nat.{ℕ}
 use Rattle.octets.proofs.Only.{only}
 use Rattle.antenna.specs.declared.Alarms.{Alarms}
 use Rattle.antenna.specs.declared.Antenna.{Antenna}
 use Rattle.record.specs.declared.Payload.{Payload}
 use Rattle.record.specs.declared.Session.{Session}
 use Rattle.record.specs.declared.Station.{Station}
-use Rattle.station.specs.Station.{sessionAfter, stationAfter, resent, answersWith, indicates, heeded, toTell}
+use Rattle.station.specs.Station.{resent, answersWith, indicates, heeded, toTell}
 use Rattle.station.specs.declared.Say.{Say}
-
-pub session-after-only : (s : Session) (n : ℕ) {r q : Session} → r ≡ sessionAfter s n → q ≡ sessionAfter s n → r ≡ q
-session-after-only s n = only
-
-pub station-after-only : (t : Station) (s : Session) (n : ℕ) {r q : Station}
-    → r ≡ stationAfter t s n → q ≡ stationAfter t s n → r ≡ q
-station-after-only t s n = only
 
 pub resend-only : (s : Session) {r q : Say} → r ≡ resent s → q ≡ resent s → r ≡ q
 resend-only s = only

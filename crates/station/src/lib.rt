@@ -1,8 +1,6 @@
-// A station changed by its session: what an acknowledgement removes, what becomes pending, what is sent again.
-// Headline: told changes at an acknowledged indication alone, to what it said (proofs/Settled.antt).
+// A station changed by its session: what becomes pending, what is sent again, what a message leaves.
 // Assumes nothing of its caller.
 ghost use mathlib.Core.Path.{_≡_};
-ghost use Rattle.station.specs.Station.{emptied, toldAfter, retold, settled, sessionAfter, stationAfter};
 ghost use Rattle.station.specs.Station.{resent, awaiting, answersWith, indicates, heeded, toTell};
 use antenna::Alarms;
 use antenna::Antenna;
@@ -21,75 +19,6 @@ pub enum Say {
     Pend { control: u8 },
     Scanned,
     Assigned,
-}
-
-fn emptied_session(s: Session) -> Session
-    ensures { λ r. ⌜ r ≡ emptied s ⌝ }
-{
-    Session {
-        r: s.r,
-        s: control::next(s.s),
-        pending: Pending::Nothing,
-    }
-}
-
-fn told_after(station: Station, pending: Pending) -> Alarms
-    ensures { λ r. ⌜ r ≡ toldAfter station pending ⌝ }
-{
-    match pending {
-        Pending::Nothing => station.told,
-        Pending::Answer => station.told,
-        Pending::Indication => station.said,
-    }
-}
-
-fn retell(station: Station, told: Alarms) -> Station
-    ensures { λ r. ⌜ r ≡ retold station told ⌝ }
-{
-    let link = station.link;
-    let said = station.said;
-    let reply = station.reply;
-    Station {
-        address: station.address,
-        link,
-        subscribed: station.subscribed,
-        told,
-        said,
-        reply,
-    }
-}
-
-fn settle(station: Station, s: Session) -> Station
-    ensures { λ r. ⌜ r ≡ settled station s ⌝ }
-{
-    let pending = s.pending;
-    let told = told_after(station, pending);
-    let next = emptied_session(s);
-    record::unsaid(
-        retell(station, told),
-        station.address,
-        Link::Connected(next),
-    )
-}
-
-// The session after a good N(R).
-pub fn session_after(s: Session, nr: u8) -> Session
-    ensures { λ r. ⌜ r ≡ sessionAfter s nr ⌝ }
-{
-    if session::is_acknowledged(s, nr) {
-        return emptied_session(s);
-    }
-    s
-}
-
-// The station after a good N(R).
-pub fn station_after(station: Station, s: Session, nr: u8) -> Station
-    ensures { λ r. ⌜ r ≡ stationAfter station s nr ⌝ }
-{
-    if session::is_acknowledged(s, nr) {
-        return settle(station, s);
-    }
-    station
 }
 
 // The pending answer again, else RR.

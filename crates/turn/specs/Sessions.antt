@@ -14,7 +14,8 @@ use Rattle.antenna.specs.Motions.{waitingOf, moves}
 use Rattle.record.specs.declared.Session.{Session}
 use Rattle.record.specs.declared.Device.{Device}
 use Rattle.session.specs.Session.{pends, accepts, taken}
-use Rattle.station.specs.Station.{sessionAfter, retold, resent, answersWith, indicates, heeded, toTell}
+use Rattle.station.specs.Station.{resent, answersWith, indicates, heeded, toTell}
+use Rattle.acknowledge.specs.Acknowledge.{sessionAfter, retold}
 use Rattle.station.specs.declared.Say.{Say}
 use Rattle.payload.specs.Payloads.{payloadOf, resultOf}
 use Rattle.message.specs.Carried.{carriedOf}

@@ -8,7 +8,7 @@ use Rattle.antenna.specs.declared.Antenna.{Antenna}
 use Rattle.record.specs.declared.Session.{Session}
 use Rattle.record.specs.declared.Station.{Station}
 use Rattle.record.specs.declared.Device.{Device}
-use Rattle.station.specs.Station.{stationAfter}
+use Rattle.acknowledge.specs.Acknowledge.{stationAfter}
 use Rattle.station.specs.declared.Say.{Say}
 use Rattle.turn.specs.declared.Turn.{Turn}
 

@@ -45,7 +45,7 @@ fn acknowledge(device: Device, s: Session, nr: u8) -> Device
 {
     let station = device.station;
     let antenna = device.antenna;
-    device_of(device, station::station_after(station, s, nr), antenna)
+    device_of(device, acknowledge::station_after(station, s, nr), antenna)
 }
 
 fn pending_answer(s: Session) -> Say
@@ -159,7 +159,7 @@ fn inform_by(device: Device, s: Session, ns: u8, m: &[u8]) -> Turn
 pub fn inform(device: Device, s: Session, ns: u8, nr: u8, m: &[u8]) -> Turn
     ensures { λ r. ⌜ r ≡ informedBy device s ns nr (now (m .entry)) ⌝ }
 {
-    let next = station::session_after(s, nr);
+    let next = acknowledge::session_after(s, nr);
     inform_by(acknowledge(device, s, nr), next, ns, m)
 }
 
@@ -167,7 +167,7 @@ pub fn inform(device: Device, s: Session, ns: u8, nr: u8, m: &[u8]) -> Turn
 pub fn poll(device: Device, s: Session, nr: u8) -> Turn
     ensures { λ r. ⌜ r ≡ polledBy device s nr ⌝ }
 {
-    let next = station::session_after(s, nr);
+    let next = acknowledge::session_after(s, nr);
     poll_by(acknowledge(device, s, nr), next)
 }
 
@@ -175,6 +175,6 @@ pub fn poll(device: Device, s: Session, nr: u8) -> Turn
 pub fn pause(device: Device, s: Session, nr: u8) -> Turn
     ensures { λ r. ⌜ r ≡ pausedBy device s nr ⌝ }
 {
-    let next = station::session_after(s, nr);
+    let next = acknowledge::session_after(s, nr);
     say(acknowledge(device, s, nr), ready_to_receive(next))
 }

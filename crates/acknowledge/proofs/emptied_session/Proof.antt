@@ -1,10 +1,10 @@
 -- `station::emptied_session` meets its promise: each way out, by the tests that lead to it. Assumes nothing.
-use Rattle.station.specs.Station.{emptied}
+use Rattle.acknowledge.specs.Acknowledge.{emptied}
 use mathlib.Core.Path.{sym}
 use Rattle.octets.proofs.Rules.{tests}
 use borrow.Author.Needs.{needs}
-use Rattle.station.proofs.emptied_session.Statement.{statement}
-use Rattle.station.proofs.emptied_session.Tie as tie
+use Rattle.acknowledge.proofs.emptied_session.Statement.{statement}
+use Rattle.acknowledge.proofs.emptied_session.Tie as tie
 
 next-requires : tie.Need-next-requires
 next-requires c κs = search needs

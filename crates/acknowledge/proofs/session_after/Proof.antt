@@ -1,10 +1,10 @@
 -- `station::session_after` meets its promise: each way out, by the tests that lead to it. Assumes nothing.
-use Rattle.station.specs.Station.{sessionAfter}
+use Rattle.acknowledge.specs.Acknowledge.{sessionAfter}
 use mathlib.Core.Path.{sym, _∙_}
 use Rattle.octets.proofs.Rules.{tests}
 use borrow.Author.Needs.{needs}
-use Rattle.station.proofs.session_after.Statement.{statement}
-use Rattle.station.proofs.session_after.Tie as tie
+use Rattle.acknowledge.proofs.session_after.Statement.{statement}
+use Rattle.acknowledge.proofs.session_after.Tie as tie
 
 is-acknowledged-requires : tie.Need-is-acknowledged-requires
 is-acknowledged-requires c κs = search needs

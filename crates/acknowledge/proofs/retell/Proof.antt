@@ -1,8 +1,8 @@
 -- `station::retell` meets its promise: each way out, by the tests that lead to it. Assumes nothing.
-use Rattle.station.specs.Station.{retold}
+use Rattle.acknowledge.specs.Acknowledge.{retold}
 use Rattle.octets.proofs.Rules.{tests}
-use Rattle.station.proofs.retell.Statement.{statement}
-use Rattle.station.proofs.retell.Tie as tie
+use Rattle.acknowledge.proofs.retell.Statement.{statement}
+use Rattle.acknowledge.proofs.retell.Tie as tie
 
 returns : tie.Need-returns
 unfolding retold

@@ -9,7 +9,7 @@ use Rattle.record.specs.declared.Link.the-variants.{Connected}
 use Rattle.record.specs.declared.Station.{Station}
 use Rattle.record.specs.Changes.{unsaidAt}
 use Rattle.session.specs.Session.{acknowledges}
-use Rattle.station.specs.Station.{emptied, toldAfter, retold, settled, sessionAfter, stationAfter}
+use Rattle.acknowledge.specs.Acknowledge.{emptied, toldAfter, retold, settled, sessionAfter, stationAfter}
 
 module _ (t : Station) (s : Session) (n : ℕ) where
   -- a number that acknowledges nothing changes nothing

@@ -1,9 +1,9 @@
 -- `station::told_after` meets its promise: each way out, by the tests that lead to it. Assumes nothing.
-use Rattle.station.specs.Station.{toldAfter}
+use Rattle.acknowledge.specs.Acknowledge.{toldAfter}
 use Rattle.octets.proofs.Rules.{tests}
 use borrow.Author.Needs.{needs}
-use Rattle.station.proofs.told_after.Statement.{statement}
-use Rattle.station.proofs.told_after.Tie as tie
+use Rattle.acknowledge.proofs.told_after.Statement.{statement}
+use Rattle.acknowledge.proofs.told_after.Tie as tie
 
 enum-told : tie.Need-enum-told
 enum-told c = search needs

@@ -1,10 +1,10 @@
 -- `station::settle` meets its promise: each way out, by the tests that lead to it. Assumes nothing.
-use Rattle.station.specs.Station.{settled}
+use Rattle.acknowledge.specs.Acknowledge.{settled}
 use mathlib.Core.Path.{sym}
 use Rattle.octets.proofs.Rules.{tests}
 use borrow.Author.Needs.{needs}
-use Rattle.station.proofs.settle.Statement.{statement}
-use Rattle.station.proofs.settle.Tie as tie
+use Rattle.acknowledge.proofs.settle.Statement.{statement}
+use Rattle.acknowledge.proofs.settle.Tie as tie
 
 told-after-requires : tie.Need-told-after-requires
 told-after-requires c κs = search needs

@@ -1,0 +1,2 @@
+-- What an acknowledgement does.
+pub mod Acknowledge
