@@ -23,11 +23,11 @@ use Rattle.scan.specs.declared.Scan.{Scan}
 use Rattle.scan.specs.declared.State.the-variants.{Complete}
 use Rattle.scan.specs.Record.{room, beginningOf}
 use Rattle.scan.specs.Scan.{fresh, probeOf, over, probed, reported, driven}
-use Rattle.scan.specs.Demand.{OctetBus, AnyScan, BusScan}
+use Rattle.whole_scan.specs.Demand.{OctetBus, AnyScan, BusScan}
 use Rattle.scan.proofs.Probes.{length-probe, probed-over, probed-open}
 use Rattle.scan.proofs.Reports.{report-stays}
-use Rattle.scan.proofs.AnyScans.{any-scans}
-use Rattle.scan.proofs.Demand.{demand3-octets}
+use Rattle.whole_scan.proofs.AnyScans.{any-scans}
+use Rattle.whole_scan.proofs.Demand.{demand3-octets}
 use Rattle.bus.specs.Cable.{identityIn, paddedIn, Cabled, lineFor, heardOn}
 use Rattle.bus.specs.Scanning.{Bus, oneProbeBy, oneProbe, probesAsked, started, scanned}
 use Rattle.bus.proofs.Hears.{any-exactly}

@@ -10,7 +10,7 @@ use Rattle.identity.specs.Bits.{Bits, Begins, bitsOf}
 use Rattle.identity.specs.Identity.{depth}
 use Rattle.walk.specs.Probes.{order}
 use Rattle.scan.specs.Record.{room}
-use Rattle.scan.specs.Demand.{BusScan}
+use Rattle.whole_scan.specs.Demand.{BusScan}
 use Rattle.record.specs.declared.Device.{Device}
 use Rattle.bus.specs.Cable.{paddedIn, Cabled, heardOn, lineFor, allAfter}
 use Rattle.bus.specs.Scanning.{scanned}

@@ -15,9 +15,9 @@ pub use Rattle.frame.proofs.Lengths.{line-158, flag-at-ends, write-fits, write-
 pub use Rattle.walk.proofs.Demand.{demand3}
 pub use Rattle.walk.proofs.Answers.{any-answers}
 pub use Rattle.walk.proofs.Begins.{shorter-number}
-pub use Rattle.scan.proofs.Demand.{demand3-octets, demand3-identities}
-pub use Rattle.scan.proofs.AnyScans.{any-scans}
-pub use Rattle.scan.proofs.Run.{run-ends}
+pub use Rattle.whole_scan.proofs.Demand.{demand3-octets, demand3-identities}
+pub use Rattle.whole_scan.proofs.AnyScans.{any-scans}
+pub use Rattle.whole_scan.proofs.Run.{run-ends}
 -- ---- XID: which payloads are scans and assignments, and whom they mean; the scanner's probe is a scan
 pub use Rattle.params.proofs.Exact.{params-exactly, one-reading}
 pub use Rattle.xid.proofs.Exactly.{scan-exactly, assignment-exactly, never-both, address-edge}

@@ -21,12 +21,12 @@ use Rattle.walk.specs.Demand.{Shorter}
 use Rattle.walk.proofs.Begins.{shorter-number}
 use Rattle.scan.specs.Record.{listOf}
 use Rattle.scan.specs.Scan.{fresh, driven, probeOf, probed, over, ended, reportedAll}
-use Rattle.scan.specs.Demand.{OctetBus, Demand3, Demand3Identities, AnyScans}
+use Rattle.whole_scan.specs.Demand.{OctetBus, Demand3, Demand3Identities, AnyScans}
 use Rattle.scan.specs.declared.Scan.{Scan}
 use Rattle.scan.specs.declared.State.the-variants.{Complete}
-use Rattle.scan.proofs.AnyScans.{any-scans}
-use Rattle.scan.proofs.Demand.{demand3-octets, demand3-identities}
-use Rattle.scan.proofs.Run.{run-ends}
+use Rattle.whole_scan.proofs.AnyScans.{any-scans}
+use Rattle.whole_scan.proofs.Demand.{demand3-octets, demand3-identities}
+use Rattle.whole_scan.proofs.Run.{run-ends}
 
 -- the whole of it: "complete", "limit" and "full", in one record
 pub whole : Demand3

@@ -2,4 +2,3 @@
 pub mod Record
 pub mod Steps
 pub mod Scan
-pub mod Demand

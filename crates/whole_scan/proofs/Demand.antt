@@ -17,14 +17,14 @@ use Rattle.walk.specs.Probes.{Mark, order}
 use Rattle.walk.specs.Machine.{Phase, complete, limited, full, named, Walk, start, run}
 use Rattle.walk.specs.Demand.{BusEnd}
 use Rattle.walk.proofs.Demand.{demand3}
 use Rattle.scan.specs.Record.{room, stateOf, beginningOf}
 use Rattle.scan.specs.Scan.{fresh, driven}
-use Rattle.scan.specs.Demand.{OctetBus, BusScan, Demand3, Demand3Identities}
+use Rattle.whole_scan.specs.Demand.{OctetBus, BusScan, Demand3, Demand3Identities}
 use Rattle.scan.specs.declared.Scan.{Scan}
 use Rattle.scan.specs.declared.State.the-variants.{Complete, Limit, Full}
-use Rattle.scan.proofs.Drives.{Driven, drives-new}
-use Rattle.scan.proofs.Ends.{full-of, limit-of, complete-of, count-is, state-is, beginning-is, list-is}
-use Rattle.scan.proofs.Buses.{octets-of-bits, bits-long, bit-bus, padded-bus}
+use Rattle.whole_scan.proofs.Drives.{Driven, drives-new}
+use Rattle.whole_scan.proofs.Ends.{full-of, limit-of, complete-of, count-is, state-is, beginning-is, list-is}
+use Rattle.whole_scan.proofs.Buses.{octets-of-bits, bits-long, bit-bus, padded-bus}
 
 module _ (limit : ℕ) (ids : List (List ℕ)) (heard : Bits → Bool) (b : OctetBus ids heard)
     (all shorter : List Bits) where

@@ -15,7 +15,7 @@ use Rattle.identity.proofs.Identities.{allowed-parts, printable-octets, length-
 use Rattle.identity.proofs.Scans.{same-is, is-same}
 use Rattle.identity.proofs.Lists.{map-in, map-out, map-different}
 use Rattle.walk.specs.Demand.{Bus}
-use Rattle.scan.specs.Demand.{OctetBus, IdentityBus}
+use Rattle.whole_scan.specs.Demand.{OctetBus, IdentityBus}
 
 -- 19 octets answer the probe of p exactly if their bits begin with p
 pub probe-begins : (i : List ℕ) (p : Bits) → length i ≡ width → Octets i → length p ≤ depth

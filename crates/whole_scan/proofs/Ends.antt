@@ -7,15 +7,15 @@ use lib.ListN.{length, drop}
 use lib.Seq.{take-append-seam}
 use Rattle.identity.specs.Bits.{Bits}
 use Rattle.walk.specs.Machine.{Phase, asking, complete, doubtful, limited, full, Ended, named, Walk}
 use Rattle.scan.specs.Record.{flat, phaseOf, stateOf, beginningOf, listOf, recordOf}
 use Rattle.scan.specs.Scan.{ended, over}
 use Rattle.scan.specs.declared.Scan.{Scan}
 use Rattle.scan.specs.declared.State.{State}
 use Rattle.scan.specs.declared.State.the-variants.{Complete, Doubtful, Limit, Full}
 use Rattle.scan.proofs.Overs.{open-over}
 use Rattle.scan.proofs.Rows.{rows-flat}
-use Rattle.scan.proofs.Bounded.{Counts}
-use Rattle.scan.proofs.Drives.{Driven, phase-back}
+use Rattle.whole_scan.proofs.Bounded.{Counts}
+use Rattle.whole_scan.proofs.Drives.{Driven, phase-back}
 
 -- a phase by its state and the beginning that it names
 pub phase-of : (x : Phase) {t : State} → stateOf x ≡ t → x ≡ phaseOf t (named x)

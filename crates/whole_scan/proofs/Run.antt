@@ -12,19 +12,19 @@ use Rattle.identity.specs.Bits.{Bits}
 use Rattle.identity.specs.Identity.{depth, octetsOf}
 use Rattle.walk.specs.Beginnings.{then}
 use Rattle.walk.specs.Machine.{Phase, asking, complete, doubtful, limited, full, Walk, settle, next, listing, noted}
 use Rattle.scan.specs.Record.{room, stateOf, beginningOf, listOf, recordOf}
 use Rattle.refusal.specs.Answer.{stateAfter}
 use Rattle.scan.specs.Scan.{ended, reported, reportedAll}
 use Rattle.scan.specs.Steps.{notedIn}
-use Rattle.scan.specs.Demand.{RunsOut}
+use Rattle.whole_scan.specs.Demand.{RunsOut}
 use Rattle.scan.specs.declared.Scan.{Scan}
 use Rattle.scan.specs.declared.State.{State}
 use Rattle.scan.specs.declared.State.the-variants.{Asking, Complete, Doubtful, Limit, Full}
 use Rattle.scan.proofs.Overs.{Open, open-parts, open-over, over-ended}
 use Rattle.scan.proofs.Reports.{report-stays, report-steps}
 use Rattle.scan.proofs.Rows.{length-rows}
 use Rattle.scan.proofs.Moves.{noted-step}
-use Rattle.scan.proofs.Bounded.{Counts, Bounded, noted-bounded}
+use Rattle.whole_scan.proofs.Bounded.{Counts, Bounded, noted-bounded}
 
 -- a scan that has ended stays
 stays : (s : Scan) (answers : List Bool) → ended (s .state) ≡ true → reportedAll s answers ≡ s

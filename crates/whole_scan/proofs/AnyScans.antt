@@ -12,13 +12,13 @@ use Rattle.walk.specs.Probes.{Mark, order, beginningsOf, hits}
 use Rattle.walk.specs.Machine.{Walk, named, start, run}
 use Rattle.walk.specs.Demand.{AnyEnd}
 use Rattle.walk.proofs.Answers.{any-answers}
 use Rattle.scan.specs.Record.{room, stateOf, beginningOf}
 use Rattle.scan.specs.Scan.{fresh, ended, probeOf, probed, driven}
-use Rattle.scan.specs.Demand.{AnyScan, AnyScans}
+use Rattle.whole_scan.specs.Demand.{AnyScan, AnyScans}
 use Rattle.scan.proofs.Probes.{probed-open}
-use Rattle.scan.proofs.Drives.{Driven, drives-new}
-use Rattle.scan.proofs.Ends.{full-of, limit-of, complete-of, doubtful-of, ended-of}
-use Rattle.scan.proofs.Ends.{count-is, state-is, beginning-is, list-is, asks-open}
+use Rattle.whole_scan.proofs.Drives.{Driven, drives-new}
+use Rattle.whole_scan.proofs.Ends.{full-of, limit-of, complete-of, doubtful-of, ended-of}
+use Rattle.whole_scan.proofs.Ends.{count-is, state-is, beginning-is, list-is, asks-open}
 
 module _ (limit : ℕ) (heard : Bits → Bool) where
   abbrev walk : ℕ → Walk (List ℕ)

@@ -15,16 +15,16 @@ use Rattle.refusal.specs.Answer.{answered, stateAfter}
 use Rattle.walk.specs.Beginnings.{then}
 use Rattle.walk.specs.Machine.{next, Phase, asking, complete, doubtful, limited, full, named}
 use Rattle.walk.specs.Machine.{Walk, goOn, settle, start, listing, noted, stepIn, step, run}
 use Rattle.scan.specs.Record.{room, flat, phaseOf, stateOf, beginningOf, walkOf, recordOf}
 use Rattle.scan.specs.Steps.{standsAt}
 use Rattle.scan.specs.Scan.{fresh, ended, over, reported, driven}
 use Rattle.scan.specs.declared.Scan.{Scan}
 use Rattle.scan.specs.declared.State.the-variants.{Asking, Limit}
 use Rattle.scan.proofs.Overs.{open-over}
 use Rattle.scan.proofs.Reports.{report-steps}
 use Rattle.scan.proofs.Rows.{Wide, wide-more, rows-flat}
 use Rattle.scan.proofs.Moves.{made}
-use Rattle.scan.proofs.Bounded.{Bounded, settle-bounded, noted-bounded, asking-open}
+use Rattle.whole_scan.proofs.Bounded.{Bounded, settle-bounded, noted-bounded, asking-open}
 
 pub phase-back : (x : Phase) → phaseOf (stateOf x) (named x) ≡ x
 unfolding phaseOf stateOf named

@@ -1,0 +1,9 @@
+-- What is proved of a scan run to its end.
+pub mod Bounded
+pub mod Drives
+pub mod Ends
+pub mod AnyScans
+pub mod Run
+pub mod Buses
+pub mod Demand
+pub mod Cases
