@@ -60,7 +60,7 @@ pub fn say_count(name: Name, count: usize) {
 
 // A tilt's pattern of 16 bits stands in the answer to get tilt. One with the first bit set is negative.
 pub fn say_tilt(mark: u8, tilt: Angle) {
-    let told = payload::tilt(tilt);
+    let told = tilt::tilt(tilt);
     let pattern = octets::pair(told.octets[4], told.octets[5]) as usize;
     if pattern < 32768 {
         return say_number(mark, pattern);

@@ -210,7 +210,7 @@ fn within(word: &[u8], least: usize, most: usize, outside: usize) -> usize {
 
 // The tilt of a pattern.
 pub fn angle(pattern: usize) -> Angle {
-    payload::angle((pattern % 256) as u8, (pattern / 256 % 256) as u8)
+    tilt::angle((pattern % 256) as u8, (pattern / 256 % 256) as u8)
 }
 
 // An answer to a probe: 1 where it was heard.

@@ -44,7 +44,7 @@ use Rattle.xid.specs.Match.{isScan, scanShape, assignmentShape, scanMatches, id
 use Rattle.xid.specs.Match.{vendorMatches, assignmentMatches, assigned as assignedIn, judged as judgedXid, judgedParams}
 use Rattle.xid.specs.Match.{readOf}
 use Rattle.payload.specs.Payloads.{messageOf, successOf, failureOf, resultOf, payloadOf}
-use Rattle.payload.specs.Tilts.{tiltOctets, angleOf}
+use Rattle.tilt.specs.Tilts.{tiltOctets, angleOf}
 use Rattle.message.specs.Messages.{driveChecks, checks, inTable, takenBy}
 use Rattle.message.specs.Carried.{carriedOf, outcome, doneBy, replies, unanswered}
 use Rattle.turn.specs.Turns.{saying, deviceOf, acknowledged}

@@ -21,8 +21,8 @@ use Rattle.antenna.specs.Motions.{started}
 use Rattle.record.specs.declared.Plate.{Plate}
 use Rattle.record.specs.Fresh.{calm}
 use Rattle.payload.specs.Payloads.{payloadOf, messageOf, successOf, failureOf}
-use Rattle.payload.specs.Tilts.{tiltOctets}
-use Rattle.report.specs.Reports.{informationOf}
+use Rattle.tilt.specs.Tilts.{tiltOctets}
+use Rattle.information.specs.Information.{informationOf}
 use Rattle.message.specs.declared.Carried.{Carried}
 use Rattle.message.specs.Messages.{codeOf, askedOf, checks}
 use Rattle.message.specs.Carried.{replies, unanswered, quieted, doneBy, outcome, carriedOf}

@@ -17,7 +17,7 @@ use Rattle.antenna.specs.Motions.{inRange, busyOf, aimOf, started}
 use Rattle.record.specs.declared.Payload.{Payload}
 use Rattle.record.specs.declared.Plate.{Plate}
 use Rattle.payload.specs.Payloads.{payloadOf, successOf, failureOf}
-use Rattle.payload.specs.Tilts.{tiltOctets}
+use Rattle.tilt.specs.Tilts.{tiltOctets}
 use Rattle.message.specs.declared.Check.{Check}
 use Rattle.message.specs.declared.Check.the-variants.{Passed, Failed}
 use Rattle.message.specs.declared.Carried.{Carried}

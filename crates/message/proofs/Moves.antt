@@ -25,8 +25,8 @@ use Rattle.record.specs.Fresh.{calm}
 use Rattle.payload.specs.Payloads.{payloadOf, successOf, failureOf}
 use Rattle.payload.proofs.Laws.{length-success}
 use Rattle.report.proofs.Counts.{length-codes}
-use Rattle.payload.specs.Tilts.{tiltOctets}
-use Rattle.report.specs.Reports.{informationOf}
+use Rattle.tilt.specs.Tilts.{tiltOctets}
+use Rattle.information.specs.Information.{informationOf}
 use Rattle.message.specs.declared.Check.{Check}
 use Rattle.message.specs.declared.Check.the-variants.{Passed, Failed}
 use Rattle.message.specs.declared.Carried.{Carried}

@@ -15,7 +15,7 @@ use Rattle.antenna.specs.Motions.{inRange, busyOf, started, moves}
 use Rattle.record.specs.declared.Plate.{Plate}
 use Rattle.record.specs.Fresh.{calm}
 use Rattle.payload.specs.Payloads.{payloadOf, successOf, failureOf, messageOf}
-use Rattle.payload.specs.Tilts.{tiltOctets, angleOf}
+use Rattle.tilt.specs.Tilts.{tiltOctets, angleOf}
 use Rattle.message.specs.declared.Carried.{Carried}
 use Rattle.message.specs.Messages.{driveChecks, checks, inTable, takenBy}
 use Rattle.message.specs.Carried.{carriedOf, outcome, doneBy, replies, unanswered}

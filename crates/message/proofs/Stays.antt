@@ -14,7 +14,7 @@ use Rattle.record.specs.declared.Plate.{Plate}
 use Rattle.record.specs.declared.Session.{Session}
 use Rattle.record.specs.declared.Link.the-variants.{Connected}
 use Rattle.record.specs.Allowed.{platesAllowed, owedAllowed, replyMost}
-use Rattle.report.proofs.Laws.{information-fits, allowed-short}
+use Rattle.information.proofs.Laws.{information-fits, allowed-short}
 use Rattle.message.specs.Carried.{carriedOf}
 use Rattle.message.proofs.Moves.{range-stays, carried-fits}
 

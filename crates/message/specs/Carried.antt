@@ -21,8 +21,8 @@ use Rattle.antenna.specs.Motions.{started}
 use Rattle.record.specs.declared.Plate.{Plate}
 use Rattle.record.specs.Fresh.{calm, noReply}
 use Rattle.payload.specs.Payloads.{payloadOf, successOf, failureOf}
-use Rattle.payload.specs.Tilts.{tiltOctets}
-use Rattle.report.specs.Reports.{informationOf}
+use Rattle.tilt.specs.Tilts.{tiltOctets}
+use Rattle.information.specs.Information.{informationOf}
 use Rattle.message.specs.Messages.{codeOf, askedOf, checks}
 use Rattle.message.specs.declared.Reply.{Reply}
 use Rattle.message.specs.declared.Reply.the-variants.{None}

@@ -20,7 +20,7 @@ use Rattle.refusal.specs.Answer.{Row, _when_}
 use Rattle.antenna.specs.declared.Angle.{Angle}
 use Rattle.antenna.specs.declared.Antenna.{Antenna}
 use Rattle.antenna.specs.Motions.{inRange, busyOf}
-use Rattle.payload.specs.Tilts.{angleOf}
+use Rattle.tilt.specs.Tilts.{angleOf}
 
 infix 70 _takes_
 -- "Code, data length (two octets, low first), data."

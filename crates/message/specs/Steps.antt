@@ -20,8 +20,8 @@ use Rattle.record.specs.declared.Payload.{Payload}
 use Rattle.record.specs.declared.Plate.{Plate}
 use Rattle.record.specs.Fresh.{calm}
 use Rattle.payload.specs.Payloads.{successOf, failureOf}
-use Rattle.payload.specs.Tilts.{tiltOctets}
-use Rattle.report.specs.Reports.{informationOf}
+use Rattle.tilt.specs.Tilts.{tiltOctets}
+use Rattle.information.specs.Information.{informationOf}
 use Rattle.message.specs.Messages.{unsupported, table, inTable, takenBy}
 use Rattle.message.specs.Carried.{replies, unanswered, quieted}
 use Rattle.message.specs.declared.Check.{Check}

@@ -72,7 +72,7 @@ fn octet(m: &[u8], i: usize) -> u8
 fn asked(m: &[u8]) -> Angle
     ensures { λ r. ⌜ r ≡ askedOf (now (m .entry)) ⌝ }
 {
-    payload::angle(octet(m, 3), octet(m, 4))
+    tilt::angle(octet(m, 3), octet(m, 4))
 }
 
 fn is_unsupported(code: u8) -> bool
@@ -177,7 +177,7 @@ fn get_tilt(antenna: Antenna, told: Alarms, subscribed: bool) -> Carried
     if antenna::busy(motion) {
         return replied(payload::failure(0x34, 0x05), antenna, told, subscribed);
     }
-    replied(payload::tilt(tilt), antenna, told, subscribed)
+    replied(tilt::tilt(tilt), antenna, told, subscribed)
 }
 
 // The codes that change something or ask the drive.
@@ -216,7 +216,7 @@ fn perform(
         return replied(report::alarms(raised), antenna, told, subscribed);
     }
     if code == 0x05 {
-        return replied(report::information(plate), antenna, told, subscribed);
+        return replied(information::information(plate), antenna, told, subscribed);
     }
     operate(antenna, told, subscribed, code, t)
 }

@@ -5,10 +5,8 @@ use mathlib.Core.List.{List, []}
 use Prim.Native.Nat.{ℕ}
 use lib.ListN.{take}
 use Rattle.octets.proofs.Only.{only}
-use Rattle.antenna.specs.declared.Angle.{Angle}
 use Rattle.record.specs.declared.Payload.{Payload}
 use Rattle.payload.specs.Payloads.{messageOf, successOf, failureOf, resultOf, payloadOf, bodyMost}
-use Rattle.payload.specs.Tilts.{tiltOctets, angleOf}
 
 module _ {r q : Payload} where
   pub laid-only : (code : ℕ) (d : List ℕ) → r ≡ payloadOf (messageOf code (take bodyMost d))
@@ -23,10 +21,3 @@ module _ {r q : Payload} where
 
   pub result-only : (reached : Bool) → r ≡ payloadOf (resultOf reached) → q ≡ payloadOf (resultOf reached) → r ≡ q
   result-only reached = only
-
-  pub tilt-only : (t : Angle) → r ≡ payloadOf (successOf 0x34 (tiltOctets t))
-      → q ≡ payloadOf (successOf 0x34 (tiltOctets t)) → r ≡ q
-  tilt-only t = only
-
-pub angle-only : (low high : ℕ) {r q : Angle} → r ≡ angleOf low high → q ≡ angleOf low high → r ≡ q
-angle-only low high = only

@@ -1,4 +1,3 @@
 -- What the other crates cite of payloads.
 pub mod Payloads
 pub mod Puts
-pub mod Tilts

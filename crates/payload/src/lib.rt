@@ -1,18 +1,12 @@
-// Payloads of layer 7: code, length and data at the start of 74 zeros; successes, failures, the tilt result, a tilt
-// told. Assumes nothing of its caller.
-// Headline: no payload has more than 74 octets, and get tilt -15 is 34 03 00 00 F1 FF (proofs/Laws.antt).
+// Payloads of layer 7: code, length and data at the start of 74 zeros; successes, failures, the tilt result.
+// Assumes nothing of its caller.
+// Headline: no payload has more than 74 octets (proofs/Laws.antt).
 ghost use mathlib.Core.Path.{_≡_};
 ghost use mathlib.Core.List.{[]};
 ghost use Prim.Native.Nat.{min};
 ghost use lib.ListN.{take};
-ghost use mir.Val.{ofZ};
-ghost use mir.Syntax.{w16};
 ghost use Rattle.payload.specs.Payloads.{payloadOf, messageOf, successOf, failureOf, resultOf, bodyMost};
-ghost use Rattle.payload.specs.Tilts.{tiltOctets, angleOf};
-use antenna::Angle;
 use record::Payload;
-
-// ---- a payload from its code and its data
 
 fn fewer(a: usize, b: usize) -> usize
     ensures { λ r. ⌜ r ≡ min a b ⌝ }
@@ -57,41 +51,4 @@ pub fn result(reached: bool) -> Payload
         return done(0x33);
     }
     failure(0x33, 0x02)
-}
-
-// ---- tilts as octets
-
-// The pattern of 16 bits of a tilt.
-fn pattern(t: Angle) -> u16
-    ensures { λ r. ⌜ r ≡ ofZ w16 (t .tenths) ⌝ }
-{
-    if t.tenths < 0 {
-        65535 - (!t.tenths as u16)
-    } else {
-        t.tenths as u16
-    }
-}
-
-// The tilt that two octets stand for, the low one first.
-pub fn angle(low: u8, high: u8) -> Angle
-    ensures { λ r. ⌜ r ≡ angleOf low high ⌝ }
-{
-    let x = octets::pair(low, high);
-    if x < 32768 {
-        return Angle { tenths: x as i16 };
-    }
-    Angle {
-        tenths: !((65535 - x) as i16),
-    }
-}
-
-// The answer to get tilt.
-pub fn tilt(t: Angle) -> Payload
-    ensures { λ r. ⌜ r ≡ payloadOf (successOf 0x34 (tiltOctets t)) ⌝ }
-{
-    let x = pattern(t);
-    let low = (x % 256) as u8;
-    let high = (x / 256 % 256) as u8;
-    let body = [0x00, low, high];
-    laid(0x34, &body)
 }

@@ -1,16 +1,11 @@
--- How many octets the lists have that payloads are made of. Assumes nothing.
+-- How many octets the alarms take that are told. Assumes nothing.
 use mathlib.Core.Path.{_≡_}
 use mathlib.Core.Bool.{Bool, true, false, cond}
-use mathlib.Core.List.{List, [], _∷_, _++_}
-use Prim.Native.Nat.{ℕ, suc, _+_, _*_, _≤_}
+use mathlib.Core.List.{List, [], _∷_}
+use Prim.Native.Nat.{ℕ, suc, _*_, _≤_}
 use native.Mathlib.Omega.{arith}
-use lib.ListN.{length, length-append}
+use lib.ListN.{length}
 use Rattle.antenna.specs.Alarms.{codesAmong, changesAmong, differs, stateOf}
-use Rattle.report.specs.Reports.{textOf}
-
-pub length-text : (t : List ℕ) → length (textOf t) ≡ 1 + length t
-unfolding textOf
-length-text t = omega arith
 
 -- at most as many codes as there are
 pub length-codes : (cs : List ℕ) (fs : List Bool) → length (codesAmong cs fs) ≤ length cs
@@ -32,9 +27,3 @@ length-changes (c ∷ cs) (p ∷ ps) (t ∷ ts) = go (differs p t) (length-chang
         → length (cond b (c ∷ stateOf p ∷ changesAmong cs ps ts) (changesAmong cs ps ts)) ≤ 2 * suc (length cs)
     go true h = omega (arith, h)
     go false h = omega (arith, h)
-
-module _ (p s h w : List ℕ) where
-  pub length-texts : length (textOf p ++ (textOf s ++ (textOf h ++ textOf w)))
-      ≡ 4 + length p + length s + length h + length w
-  length-texts =
-      simp (length-append, length-text) (omega arith)

@@ -1,22 +1,18 @@
--- How long the reports are, and when an indication says something. Assumes nothing.
-use mathlib.Core.Path.{_≡_, refl, sym, ap}
-use mathlib.Core.Bool.{Bool, true, false, cond, _&&_}
+-- How long the reports of alarms are, and when an indication says something. Assumes nothing.
+use mathlib.Core.Path.{_≡_, refl, ap}
+use mathlib.Core.Bool.{Bool, true, false, cond}
 use mathlib.Core.List.{List, [], _∷_}
 use mathlib.Core.Logic.{_↔_}
 use Prim.Native.Nat.{ℕ, _≤_}
 use native.Mathlib.Omega.{arith}
-use borrow.Author.Tests.{leb-true}
-use lib.Dec.{leb}
-use lib.ListN.{length, take, length-take, length-drop}
+use lib.ListN.{length}
 use Rattle.octets.proofs.Words.{true-not-false}
 use Rattle.antenna.specs.declared.Alarms.{Alarms}
 use Rattle.antenna.specs.Alarms.{alarmCodes, codesOf, changesAmong, changesOf, differs, anyDiffer, stateOf}
-use Rattle.record.specs.Allowed.{identityOf, productOf, hardwareOf, softwareOf, platesAllowed, identityAllowed}
-use Rattle.record.specs.declared.Plate.{Plate}
 use Rattle.payload.specs.Payloads.{successOf}
 use Rattle.payload.proofs.Laws.{length-message, length-success}
-use Rattle.report.specs.Reports.{withoutVendor, serialOf, informationOf, indicationOf}
-use Rattle.report.proofs.Counts.{length-texts, length-codes, length-changes}
+use Rattle.report.specs.Reports.{indicationOf}
+use Rattle.report.proofs.Counts.{length-codes, length-changes}
 
 -- at most 10 octets tell the alarms, and at most 15 which have changed
 pub alarms-fits : (flags : List Bool) → length (successOf 0x04 (codesOf flags)) ≤ 10
@@ -30,63 +26,6 @@ indication-fits present told =
       length-message 0x07 (changesOf (present .flags) (told .flags)),
       length-changes alarmCodes (present .flags) (told .flags),
     )
-
--- the texts of a plate are no longer than 20, 17, 14 and 14 octets
-pub record Short (p : Plate) : Type 0 where
-  pub product : length (productOf p) ≤ 20
-  pub serial : length (serialOf p) ≤ 17
-  pub hardware : length (hardwareOf p) ≤ 14
-  pub software : length (softwareOf p) ≤ 14
-
--- at most 73 octets tell what a device is
-pub information-fits : (p : Plate) → Short p → length (successOf 0x05 (informationOf p)) ≤ 73
-unfolding informationOf
-information-fits p s =
-    omega (
-      arith,
-      length-success 0x05 (informationOf p),
-      length-texts (productOf p) (serialOf p) (hardwareOf p) (softwareOf p),
-      s .product,
-      s .serial,
-      s .hardware,
-      s .software,
-    )
-
-both : (a b : Bool) → (a && b) ≡ true → (a ≡ true) × (b ≡ true)
-both true b e = (refl, e)
-both false b e = absurd (true-not-false (sym e))
-
-taken : (n k : ℕ) (s : List ℕ) → leb n k ≡ true → length (take n s) ≤ k
-taken n k s e = simp length-take (omega (arith, leb-true n k e))
-
-behind : (i : List ℕ) → length i ≤ 19 → length (withoutVendor i) ≤ 17
-behind i h = simp length-drop (omega arith)
-
--- the texts of a plate that is allowed are so short
-pub allowed-short : (p : Plate) → platesAllowed p ≡ true → Short p
-unfolding platesAllowed identityAllowed
-allowed-short p h =
-    let first = both _ _ h in
-    let second = both _ _ (first .1) in
-    let third = both _ _ (second .1) in
-    let name = taken (p .identity .len) 19 (p .identity .octets) (both _ _ (first .0) .0) in
-    record {
-      product = taken (p .product .len) 20 (p .product .octets) (second .0);
-      serial = behind (identityOf p) name;
-      hardware = taken (p .hardware .len) 14 (p .hardware .octets) (third .0);
-      software = taken (p .software .len) 14 (p .software .octets) (third .1);
-    }
-
--- and those of any plate whose arrays are as long as their types say
-pub sized-short : (p : Plate) → length (p .identity .octets) ≡ 19 → length (p .product .octets) ≡ 20
-    → length (p .hardware .octets) ≡ 14 → length (p .software .octets) ≡ 14 → Short p
-sized-short p i q h s =
-    record {
-      product = simp length-take (omega (arith, q));
-      serial = simp (length-drop, length-take) (omega (arith, i));
-      hardware = simp length-take (omega (arith, h));
-      software = simp length-take (omega (arith, s));
-    }
 
 -- an indication says something exactly if some flag differs from what was told
 nothing : (cs : List ℕ) (ps ts : List Bool) → length ps ≤ length cs

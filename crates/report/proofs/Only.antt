@@ -4,9 +4,8 @@ use Rattle.octets.proofs.Only.{only}
 use Rattle.antenna.specs.declared.Alarms.{Alarms}
 use Rattle.antenna.specs.Alarms.{codesOf}
 use Rattle.record.specs.declared.Payload.{Payload}
-use Rattle.record.specs.declared.Plate.{Plate}
 use Rattle.payload.specs.Payloads.{payloadOf, successOf}
-use Rattle.report.specs.Reports.{informationOf, indicationOf}
+use Rattle.report.specs.Reports.{indicationOf}
 
 module _ {r q : Payload} where
   pub alarms-only : (raised : Alarms) → r ≡ payloadOf (successOf 0x04 (codesOf (raised .flags)))
@@ -16,7 +15,3 @@ module _ {r q : Payload} where
   pub indication-only : (present told : Alarms) → r ≡ payloadOf (indicationOf present told)
       → q ≡ payloadOf (indicationOf present told) → r ≡ q
   indication-only present told = only
-
-  pub information-only : (p : Plate) → r ≡ payloadOf (successOf 0x05 (informationOf p))
-      → q ≡ payloadOf (successOf 0x05 (informationOf p)) → r ≡ q
-  information-only p = only

@@ -1,34 +1,11 @@
--- What a device reports of itself, and of its alarms.
---   textOf t         == a text after its length
---   withoutVendor i  == of the identity i, all but the two vendor octets
---   serialOf p       == the serial number
---   informationOf p  == data out of information: the four texts
+-- What a device reports of its alarms.
 --   indicationOf now told == the alarm indication
--- A text is the first octets of its array, as many as its length says, and the whole array where its length says more;
--- so any plate has an answer of at most 73 octets. Assumes nothing.
-use mathlib.Core.List.{List, _∷_, _++_}
+-- Assumes nothing.
+use mathlib.Core.List.{List}
 use Prim.Native.Nat.{ℕ}
-use lib.ListN.{length, drop}
-use Rattle.record.specs.Allowed.{identityOf, productOf, hardwareOf, softwareOf}
-use Rattle.record.specs.declared.Plate.{Plate}
 use Rattle.antenna.specs.declared.Alarms.{Alarms}
 use Rattle.antenna.specs.Alarms.{changesOf}
 use Rattle.payload.specs.Payloads.{messageOf}
-
--- "each after its length"
-unfoldable pub textOf : List ℕ → List ℕ
-textOf t = length t ∷ t
-
--- "Identity: 2 vendor octets and 1 to 17 serial octets"
-abbrev pub withoutVendor : List ℕ → List ℕ
-withoutVendor i = drop 2 i
-
-abbrev pub serialOf : Plate → List ℕ
-serialOf p = withoutVendor (identityOf p)
-
--- "product, serial, hardware, software, each after its length"
-unfoldable pub informationOf : Plate → List ℕ
-informationOf p = textOf (productOf p) ++ (textOf (serialOf p) ++ (textOf (hardwareOf p) ++ textOf (softwareOf p)))
 
 -- "An indication is code 0x07, length, then pairs alarm and 1 (raised) or 0, ascending, for alarms whose present state
 -- differs from what was told."

@@ -4,7 +4,8 @@ use mathlib.Core.Path.{_∙_}
 use native.Mathlib.Omega.{arith}
 use lib.ListN.{length-take}
 use Rattle.payload.specs.Payloads.{successOf}
-use Rattle.report.proofs.Parts.{codes-few, laid-back}
+use Rattle.payload.proofs.Backs.{laid-back}
+use Rattle.report.proofs.Parts.{codes-few}
 use Rattle.report.proofs.alarms.Statement.{statement}
 use Rattle.report.proofs.alarms.Tie as tie
 

@@ -4,7 +4,8 @@ use mathlib.Core.Path.{_∙_}
 use native.Mathlib.Omega.{arith}
 use lib.ListN.{length-take}
 use Rattle.report.specs.Reports.{indicationOf}
-use Rattle.report.proofs.Parts.{changes-few, laid-back}
+use Rattle.payload.proofs.Backs.{laid-back}
+use Rattle.report.proofs.Parts.{changes-few}
 use Rattle.report.proofs.indication.Statement.{statement}
 use Rattle.report.proofs.indication.Tie as tie
 

@@ -7,7 +7,7 @@ use lib.ListN.{length, drop}
 use Rattle.octets.proofs.Runs.{Run, run-all, run-one, run-is}
 use Rattle.antenna.specs.Alarms.{alarmCodes, codesAmong, codesOf}
 use Rattle.report.proofs.Flags.{codes-on, codes-off, codes-done}
-use Rattle.report.proofs.Parts.{success-put}
+use Rattle.payload.proofs.Backs.{success-put}
 use Rattle.report.proofs.put_codes.Statement.{statement}
 use Rattle.report.proofs.put_codes.Tie as tie
 

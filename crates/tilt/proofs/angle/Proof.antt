@@ -4,9 +4,9 @@ use mathlib.Core.Path.{_≡_, sym}
 use Prim.Native.Nat.{_-_}
 use native.Mathlib.Omega.{arith}
 use Rattle.octets.proofs.Rules.{tests}
-use Rattle.payload.specs.Tilts.{angleOf}
-use Rattle.payload.proofs.angle.Statement.{statement}
-use Rattle.payload.proofs.angle.Tie as tie
+use Rattle.tilt.specs.Tilts.{angleOf}
+use Rattle.tilt.proofs.angle.Statement.{statement}
+use Rattle.tilt.proofs.angle.Tie as tie
 
 pair-requires : tie.Need-pair-requires
 pair-requires c κs = search needs

@@ -1,8 +1,8 @@
 -- `report::put_text` meets its promise: the length is stored, and the text behind it. Assumes nothing.
 use borrow.Author.Needs.{needs}
-use Rattle.report.proofs.Parts.{text-put}
-use Rattle.report.proofs.put_text.Statement.{statement}
-use Rattle.report.proofs.put_text.Tie as tie
+use Rattle.information.proofs.Parts.{text-put}
+use Rattle.information.proofs.put_text.Statement.{statement}
+use Rattle.information.proofs.put_text.Tie as tie
 
 cast-put : tie.Need-cast-put
 cast-put c = search needs

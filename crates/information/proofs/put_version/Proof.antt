@@ -4,9 +4,9 @@ use mathlib.Core.Path.{_≡_, ap, _∙_}
 use Prim.Native.Nat.{ℕ}
 use native.Mathlib.Omega.{arith}
 use lib.ListN.{length, take, length-take}
-use Rattle.report.proofs.Parts.{take-fewer, length-fewer}
-use Rattle.report.proofs.put_version.Statement.{statement}
-use Rattle.report.proofs.put_version.Tie as tie
+use Rattle.information.proofs.Parts.{take-fewer, length-fewer}
+use Rattle.information.proofs.put_version.Statement.{statement}
+use Rattle.information.proofs.put_version.Tie as tie
 
 fewer-requires : tie.Need-fewer-requires
 fewer-requires c κs = search needs

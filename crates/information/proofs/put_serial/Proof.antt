@@ -3,9 +3,9 @@
 use borrow.Author.Needs.{needs}
 use mathlib.Core.Path.{_≡_}
 use lib.ListN.{length}
-use Rattle.report.proofs.Parts.{serial-part, length-serial}
-use Rattle.report.proofs.put_serial.Statement.{statement}
-use Rattle.report.proofs.put_serial.Tie as tie
+use Rattle.information.proofs.Parts.{serial-part, length-serial}
+use Rattle.information.proofs.put_serial.Statement.{statement}
+use Rattle.information.proofs.put_serial.Tie as tie
 
 fewer-requires : tie.Need-fewer-requires
 fewer-requires c κs = search needs

@@ -5,10 +5,11 @@ use mathlib.Core.Path.{_∙_}
 use native.Mathlib.Omega.{arith}
 use lib.ListN.{replicate, length-take}
 use Rattle.payload.specs.Payloads.{successOf}
-use Rattle.report.specs.Reports.{informationOf}
-use Rattle.report.proofs.Parts.{one-few, two-few, three-few, four-few, texts-put, laid-back}
-use Rattle.report.proofs.information.Statement.{statement}
-use Rattle.report.proofs.information.Tie as tie
+use Rattle.information.specs.Information.{informationOf}
+use Rattle.payload.proofs.Backs.{laid-back}
+use Rattle.information.proofs.Parts.{one-few, two-few, three-few, four-few, texts-put}
+use Rattle.information.proofs.information.Statement.{statement}
+use Rattle.information.proofs.information.Tie as tie
 
 array-write-body : tie.Need-array-write-body
 array-write-body c = search needs

@@ -1,10 +1,10 @@
 -- `payload::tilt` meets its promise: the data is 0x00 and the two octets of the pattern. Assumes nothing.
 use borrow.Author.Needs.{needs}
 use mathlib.Core.Path.{_∙_}
-use Rattle.payload.specs.Tilts.{tiltOctets}
+use Rattle.tilt.specs.Tilts.{tiltOctets}
 use Rattle.payload.specs.Payloads.{successOf}
-use Rattle.payload.proofs.tilt.Statement.{statement}
-use Rattle.payload.proofs.tilt.Tie as tie
+use Rattle.tilt.proofs.tilt.Statement.{statement}
+use Rattle.tilt.proofs.tilt.Tie as tie
 
 pattern-requires : tie.Need-pattern-requires
 pattern-requires c κs = search needs

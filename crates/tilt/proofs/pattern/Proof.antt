@@ -6,9 +6,9 @@ use native.Mathlib.Omega.{arith}
 use mir.Syntax.{w16}
 use mir.Val.{SFits, ofZ}
 use mir.Facts.{toZ-ofZ, toZ-pos}
-use Rattle.payload.proofs.Signs.{below, above, fits}
-use Rattle.payload.proofs.pattern.Statement.{statement}
-use Rattle.payload.proofs.pattern.Tie as tie
+use Rattle.tilt.proofs.Signs.{below, above, fits}
+use Rattle.tilt.proofs.pattern.Statement.{statement}
+use Rattle.tilt.proofs.pattern.Tie as tie
 
 cast-result : tie.Need-cast-result
 cast-result c =

@@ -1,0 +1,2 @@
+-- What the other crates cite of tilts as octets.
+pub mod Tilts
