@@ -51,7 +51,7 @@ fn settle(station: Station, s: Session) -> Station
     let pending = s.pending;
     let told = told_after(station, pending);
     let next = emptied_session(s);
-    record::unsaid(
+    ending::unsaid(
         retell(station, told),
         station.address,
         Link::Connected(next),

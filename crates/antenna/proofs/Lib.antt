@@ -2,4 +2,3 @@
 pub mod Flags
 pub mod Happenings
 pub mod Movements
-pub mod Only

@@ -1,10 +1,8 @@
-// One drive: its range, its tilt, its movement and its alarms. What happens to it is in `motor`; the definitions of that
-// and the laws about it are here. Assumes nothing of its caller.
+// One drive: its range, its tilt, its movement and its alarms. What is asked of it is in `aim`, what happens to it in
+// `motor`; the definitions of both and the laws about them are here. Assumes nothing of its caller.
 // Headline: a movement starts only where nothing moves or waits and the tilt asked is in range (proofs/Movements.antt).
 ghost use mathlib.Core.Path.{_≡_};
-ghost use Rattle.antenna.specs.Angles.{atMost};
-ghost use Rattle.antenna.specs.Motions.{inRange, busyOf, owesOf, waitingOf, moves, unowedOf};
-ghost use Rattle.antenna.specs.Motions.{aimOf, started};
+ghost use Rattle.antenna.specs.Motions.{busyOf, owesOf, waitingOf, moves, unowedOf};
 use refusal::Outcome;
 
 // Tenths of a degree.
@@ -57,25 +55,6 @@ pub struct Aimed {
 pub struct Changed {
     pub outcome: Outcome,
     pub antenna: Antenna,
-}
-
-fn at_most(a: Angle, b: Angle) -> bool
-    ensures { λ r. ⌜ r ≡ atMost a b ⌝ }
-{
-    a.tenths <= b.tenths
-}
-
-// Whether a tilt is in the antenna's range.
-pub fn in_range(antenna: Antenna, t: Angle) -> bool
-    ensures { λ r. ⌜ r ≡ inRange antenna t ⌝ }
-{
-    let lowest = antenna.lowest;
-    let highest = antenna.highest;
-    if at_most(lowest, t) {
-        at_most(t, highest)
-    } else {
-        false
-    }
 }
 
 // Whether something moves or waits.
@@ -140,29 +119,5 @@ pub fn in_motion(antenna: Antenna, motion: Motion) -> Antenna
         tilt,
         motion,
         raised,
-    }
-}
-
-// A tilt is asked: busy comes before the range.
-pub fn aim_at(antenna: Antenna, t: Angle) -> Aimed
-    ensures { λ r. ⌜ (r .aim ≡ aimOf antenna t) × (r .antenna ≡ started antenna t (aimOf antenna t)) ⌝ }
-{
-    let motion = antenna.motion;
-    if busy(motion) {
-        return Aimed {
-            aim: Aim::Busy,
-            antenna,
-        };
-    }
-    if in_range(antenna, t) {
-        let moved = in_motion(antenna, Motion::Owing { asked: t });
-        return Aimed {
-            aim: Aim::Started,
-            antenna: moved,
-        };
-    }
-    Aimed {
-        aim: Aim::Outside,
-        antenna,
     }
 }

@@ -1,7 +1,6 @@
 // Rows of octets compared: the same, the same under a mask, the right-most ones; and an identity padded.
 // Assumes nothing of its caller.
 ghost use mathlib.Core.Path.{_≡_};
-ghost use Prim.Native.Nat.{min};
 ghost use lib.ListN.{take};
 ghost use Rattle.identity.specs.Bits.{masked};
 ghost use Rattle.identity.specs.Identity.{padded, same};
@@ -24,18 +23,11 @@ pub fn same(a: &[u8], b: &[u8]) -> bool
     true
 }
 
-// The smaller of two numbers.
-fn fewer(a: usize, b: usize) -> usize
-    ensures { λ r. ⌜ r ≡ min a b ⌝ }
-{
-    if a < b { a } else { b }
-}
-
 // Whether octets under a mask are the value, which isn't masked.
 pub fn under_mask(s: &[u8], mask: &[u8], value: &[u8]) -> bool
     ensures { λ r. ⌜ r ≡ same (masked (now (s .entry)) (now (mask .entry))) (now (value .entry)) ⌝ }
 {
-    let n = fewer(s.len(), mask.len());
+    let n = octets::fewer(s.len(), mask.len());
     if value.len() != n {
         return false;
     }

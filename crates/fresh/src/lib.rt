@@ -54,7 +54,7 @@ fn data_allowed(
 {
     let tilt = antenna.tilt;
     if texts_allowed(identity, product, hardware, software) {
-        antenna::in_range(antenna, tilt)
+        aim::in_range(antenna, tilt)
     } else {
         false
     }

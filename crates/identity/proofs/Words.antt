@@ -116,16 +116,6 @@ pub bit-past : (l : Bits) (n at : ℕ) → n ≤ at → 0 ≡ digit (getD (take 
 bit-past l n at h =
     ap digit (sym (List·getD-eq-default (take n l) false {n = at} (omega (arith, length-take n l))))
 
--- a row has no more bits than it has
-pub take-within : (l : Bits) (n k : ℕ) → length l ≡ k → take (min n k) l ≡ take n l
-take-within l n k e = go (leb n k) refl
-  where
-    go : (t : Bool) → leb n k ≡ t → take (min n k) l ≡ take n l
-    go true f = let h : min n k ≡ n = omega (arith, leb-true n k f) in rw h
-    go false f =
-        let h : min n k ≡ k = omega (arith, leb-false n k f) in
-        rw h (take-all k l (omega arith) ∙ sym (take-all n l (omega (arith, leb-false n k f))))
-
 -- a row of octets that is being filled: what is left to store, from j on
 pub fill-start : (n : ℕ) (p : Bits) (o : List ℕ) → length o ≡ n → sets o (0 + 0) (drop 0 (packed n p)) ≡ packed n p
 unfolding _atStartOf_

@@ -8,17 +8,17 @@ use borrow.Author.Tests.{leb-true, leb-false}
 use lib.Dec.{leb}
 use lib.ListN.{length, set, take, drop, length-take, length-drop, drop-of-length-le}
 use lib.Seq.{sets, take-all}
+use Rattle.octets.proofs.Takes.{take-within}
 use Rattle.octets.proofs.Runs.{Run, run-all, run-one, run-some, run-done}
 use Rattle.payload.specs.Puts.{Puts}
 use Rattle.payload.proofs.Backs.{success-put}
-use Rattle.payload.proofs.Places.{take-room}
 use Rattle.information.specs.Information.{textOf, withoutVendor}
 use Rattle.information.proofs.Laws.{length-text}
 
 module _ (s : List ℕ) (n : ℕ) {k : ℕ} (whole : length s ≡ k) where
   -- no more of an array than there is
   pub take-fewer : take (min n k) s ≡ take n s
-  take-fewer = let e : min n k ≡ min (length s) n = omega arith in rw e (take-room s n)
+  take-fewer = take-within n k s (omega arith)
 
   pub length-fewer : length (take n s) ≤ k
   length-fewer = simp length-take (omega arith)

@@ -2,19 +2,13 @@
 // Assumes nothing of its caller: any record of the type may be handed in.
 // Headline: it never has more than 73 octets (proofs/Laws.antt).
 ghost use mathlib.Core.Path.{_≡_};
-ghost use Prim.Native.Nat.{_≤_, min};
+ghost use Prim.Native.Nat.{_≤_};
 ghost use lib.ListN.{length, take};
 ghost use Rattle.payload.specs.Payloads.{payloadOf, successOf};
 ghost use Rattle.payload.specs.Puts.{Puts};
 ghost use Rattle.information.specs.Information.{textOf, withoutVendor, informationOf};
 use record::Payload;
 use record::Plate;
-
-fn fewer(a: usize, b: usize) -> usize
-    ensures { λ r. ⌜ r ≡ min a b ⌝ }
-{
-    if a < b { a } else { b }
-}
 
 // A text after its length.
 fn put_text(text: &[u8], out: &mut [u8], at: usize) -> usize
@@ -31,7 +25,7 @@ fn put_product(text: [u8; 20], len: usize, out: &mut [u8], at: usize) -> usize
     ensures few { λ _. ⌜ length (take len text) ≤ 20 ⌝ }
     ensures put { λ r. ⌜ Puts (now (out .entry)) at (textOf (take len text)) r (now (out .exit)) ⌝ }
 {
-    let n = fewer(len, 20);
+    let n = octets::fewer(len, 20);
     put_text(&text[..n], out, at)
 }
 
@@ -40,7 +34,7 @@ fn put_version(text: [u8; 14], len: usize, out: &mut [u8], at: usize) -> usize
     ensures few { λ _. ⌜ length (take len text) ≤ 14 ⌝ }
     ensures put { λ r. ⌜ Puts (now (out .entry)) at (textOf (take len text)) r (now (out .exit)) ⌝ }
 {
-    let n = fewer(len, 14);
+    let n = octets::fewer(len, 14);
     put_text(&text[..n], out, at)
 }
 
@@ -50,8 +44,8 @@ fn put_serial(name: [u8; 19], len: usize, out: &mut [u8], at: usize) -> usize
     ensures few { λ _. ⌜ length (withoutVendor (take len name)) ≤ 17 ⌝ }
     ensures put { λ r. ⌜ Puts (now (out .entry)) at (textOf (withoutVendor (take len name))) r (now (out .exit)) ⌝ }
 {
-    let n = fewer(len, 19);
-    let from = fewer(2, n);
+    let n = octets::fewer(len, 19);
+    let from = octets::fewer(2, n);
     put_text(&name[from..n], out, at)
 }
 

@@ -33,14 +33,14 @@ fn begin(device: Device) -> Device
         s: 0,
         pending: Pending::Nothing,
     };
-    record::ended(device, station.address, Link::Connected(fresh))
+    ending::ended(device, station.address, Link::Connected(fresh))
 }
 
 fn release(device: Device) -> Device
     ensures { λ r. ⌜ r ≡ released device ⌝ }
 {
     let station = device.station;
-    record::ended(device, station.address, Link::AddressAssigned)
+    ending::ended(device, station.address, Link::AddressAssigned)
 }
 
 fn restart(device: Device) -> Turn
@@ -178,7 +178,7 @@ fn by_xid(device: Device, xid: Xid) -> Turn
         Xid::Scan => say(device, Say::Scanned),
         Xid::Assignment { address } => {
             say(
-                record::ended(device, address, Link::AddressAssigned),
+                ending::ended(device, address, Link::AddressAssigned),
                 Say::Assigned,
             )
         }

@@ -159,7 +159,7 @@ fn quiet(antenna: Antenna) -> Antenna
 fn set_tilt(antenna: Antenna, told: Alarms, subscribed: bool, t: Angle) -> Carried
     ensures { λ r. ⌜ r ≡ setOf antenna told subscribed t ⌝ }
 {
-    let aimed = antenna::aim_at(antenna, t);
+    let aimed = aim::aim_at(antenna, t);
     let aim = aimed.aim;
     let next = aimed.antenna;
     match aim {

@@ -79,7 +79,7 @@ pub fn stopped(antenna: Antenna, t: Angle) -> Changed
 {
     let motion = antenna.motion;
     if is_running(motion) {
-        if antenna::in_range(antenna, t) {
+        if aim::in_range(antenna, t) {
             let lowest = antenna.lowest;
             let highest = antenna.highest;
             let raised = antenna.raised;

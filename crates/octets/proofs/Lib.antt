@@ -6,4 +6,5 @@ pub mod Rest
 pub mod Rules
 pub mod Runs
 pub mod Stores
+pub mod Takes
 pub mod Words

@@ -1,7 +1,7 @@
 -- Each promise of this crate allows one result, and one content of the lent buffer. Assumes nothing.
 use mathlib.Core.Path.{_≡_, sym, _∙_}
 use mathlib.Core.List.{List}
-use Prim.Native.Nat.{ℕ}
+use Prim.Native.Nat.{ℕ, min}
 use lib.ListN.{set}
 use lib.Seq.{sets}
 use Rattle.octets.specs.Octets.{pairOf, placeOf}
@@ -21,3 +21,6 @@ pair-only low high = only
 
 pub find-only : (octet : ℕ) (s : List ℕ) {r q : ℕ} → r ≡ placeOf octet s → q ≡ placeOf octet s → r ≡ q
 find-only octet s = only
+
+pub fewer-only : (a b : ℕ) {r q : ℕ} → r ≡ min a b → q ≡ min a b → r ≡ q
+fewer-only a b = only

@@ -16,7 +16,7 @@ pub fn put(out: &mut [u8], at: usize, octet: u8)
 }
 
 // The smaller of two numbers.
-fn fewer(a: usize, b: usize) -> usize
+pub fn fewer(a: usize, b: usize) -> usize
     ensures { λ r. ⌜ r ≡ min a b ⌝ }
 {
     if a < b { a } else { b }

@@ -1,27 +1,15 @@
 -- How a message comes to lie in a payload: code and length in front, the data stored behind them. Assumes nothing.
-use mathlib.Core.Path.{_≡_, refl, sym, ap₂, _∙_}
-use mathlib.Core.Bool.{Bool, true, false}
+use mathlib.Core.Path.{_≡_, sym, ap₂, _∙_}
 use mathlib.Core.List.{List, _∷_}
 use Prim.Native.Nat.{ℕ, suc, _+_, _≤_, min}
 use native.Mathlib.Omega.{arith}
-use borrow.Author.Tests.{leb-true, leb-false}
-use lib.Dec.{leb}
 use lib.ListN.{length, set, take, replicate, length-take, length-replicate}
 use lib.Seq.{sets, take-all}
 use Rattle.octets.specs.Octets.{lowOf, highOf, _atStartOf_}
 use Rattle.octets.proofs.Stores.{sets-start}
+use Rattle.octets.proofs.Takes.{take-room}
 use Rattle.record.specs.declared.Payload.{Payload}
 use Rattle.payload.specs.Payloads.{messageOf, payloadOf, bodyMost}
-
--- no more of a list than there is
-pub take-room : (s : List ℕ) (k : ℕ) → take (min (length s) k) s ≡ take k s
-take-room s k = go (leb (length s) k) refl
-  where
-    go : (t : Bool) → leb (length s) k ≡ t → take (min (length s) k) s ≡ take k s
-    go true t =
-        let h : length s ≤ k = leb-true (length s) k t in
-        take-all (min (length s) k) s (omega arith) ∙ sym (take-all k s h)
-    go false t = let e : min (length s) k ≡ k = omega (arith, leb-false (length s) k t) in rw e
 
 -- data that is laid is the message's, as far as there is room
 module _ (code : ℕ) (d : List ℕ) {o : List ℕ} {n : ℕ} (count : n ≡ min (length d) bodyMost)

@@ -3,22 +3,15 @@
 // Headline: no payload has more than 74 octets (proofs/Laws.antt).
 ghost use mathlib.Core.Path.{_≡_};
 ghost use mathlib.Core.List.{[]};
-ghost use Prim.Native.Nat.{min};
 ghost use lib.ListN.{take};
 ghost use Rattle.payload.specs.Payloads.{payloadOf, messageOf, successOf, failureOf, resultOf, bodyMost};
 use record::Payload;
-
-fn fewer(a: usize, b: usize) -> usize
-    ensures { λ r. ⌜ r ≡ min a b ⌝ }
-{
-    if a < b { a } else { b }
-}
 
 // Code, data length (low octet first), data; of more than 71 octets of data, the first 71.
 pub fn laid(code: u8, body: &[u8]) -> Payload
     ensures { λ r. ⌜ r ≡ payloadOf (messageOf code (take bodyMost (now (body .entry)))) ⌝ }
 {
-    let n = fewer(body.len(), 71);
+    let n = octets::fewer(body.len(), 71);
     let mut octets = [0u8; 74];
     octets[0] = code;
     octets[1] = (n % 256) as u8;

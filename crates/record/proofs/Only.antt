@@ -13,23 +13,13 @@ use Rattle.refusal.specs.Answer.{refuses, Given, numbersOf, apart}
 use Rattle.refusal.proofs.Exactly.{exactly}
 use Rattle.record.specs.Allowed.{allowedDevice}
 use Rattle.record.specs.Fresh.{freshOf, dataAllowed, plateFrom, freshFrom, antennaFrom}
-use Rattle.record.specs.Changes.{unsaidAt, endedAs, canBe, afterEvent, withAntenna, eventRows, happened}
-use Rattle.record.specs.declared.Link.{Link}
+use Rattle.record.specs.Changes.{canBe, afterEvent, withAntenna, eventRows, happened}
 use Rattle.record.specs.declared.Span.{Span}
-use Rattle.record.specs.declared.Station.{Station}
 use Rattle.record.specs.declared.Device.{Device}
 use Rattle.record.specs.declared.Event.{Event}
 
 pub allowed-only : (device : Device) {r q : Bool} → r ≡ allowedDevice device → q ≡ allowedDevice device → r ≡ q
 allowed-only device = only
-
-pub unsaid-only : (station : Station) (address : ℕ) (link : Link) {t u : Station}
-    → t ≡ unsaidAt station address link → u ≡ unsaidAt station address link → t ≡ u
-unsaid-only station address link = only
-
-pub ended-only : (device : Device) (address : ℕ) (link : Link) {d e : Device}
-    → d ≡ endedAs device address link → e ≡ endedAs device address link → d ≡ e
-ended-only device address link = only
 
 -- 6: "device data .. not allowed", of a fresh device
 pub fresh-6 : (i p h s : List ℕ) (w : Span) → freshOf i p h s w ≡ refuses 6 ↔ dataAllowed i p h s (antennaFrom w) ≡

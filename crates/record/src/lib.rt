@@ -1,14 +1,12 @@
-// The device's record: its plate, its station on the cable, its antenna. Which records are allowed, and what a session's
-// end leaves. A fresh record is made in `fresh` and events happen in `event`; the definitions of both and the laws about
-// them are here. Assumes nothing of its caller: any record of the type may be handed in.
+// The device's record: its plate, its station on the cable, its antenna. Which records are allowed. A fresh record is made
+// in `fresh`, events happen in `event`, and a session ends in `ending`; the definitions of these and the laws about them
+// are here. Assumes nothing of its caller: any record of the type may be handed in.
 // Headline: an allowed record stays allowed under every event and at a session's end (proofs/Stays.antt).
 ghost use mathlib.Core.Path.{_≡_};
 ghost use lib.Dec.{leb};
 ghost use Rattle.antenna.specs.Motions.{inRange};
 ghost use Rattle.record.specs.Allowed.{identityAllowed, platesAllowed, numbersAllowed, pendingFits};
 ghost use Rattle.record.specs.Allowed.{addressed, sessionAllowed, stationAllowed, owedAllowed, allowedDevice};
-ghost use Rattle.record.specs.Fresh.{calm, noReply};
-ghost use Rattle.record.specs.Changes.{unsaidAt, endedAs};
 use antenna::Alarms;
 use antenna::Angle;
 use antenna::Antenna;
@@ -209,7 +207,7 @@ fn antenna_allowed(antenna: Antenna) -> bool
     ensures { λ r. ⌜ r ≡ inRange antenna (antenna .tilt) ⌝ }
 {
     let tilt = antenna.tilt;
-    antenna::in_range(antenna, tilt)
+    aim::in_range(antenna, tilt)
 }
 
 // Whether a record may be handed in.
@@ -229,53 +227,4 @@ pub fn allowed(device: Device) -> bool
         }
     }
     false
-}
-
-// ---- what a session leaves
-
-fn calm() -> Alarms
-    ensures { λ r. ⌜ r ≡ calm ⌝ }
-{
-    Alarms { flags: [false; 6] }
-}
-
-fn no_reply() -> Payload
-    ensures { λ r. ⌜ r ≡ noReply ⌝ }
-{
-    Payload {
-        octets: [0u8; 74],
-        len: 0,
-    }
-}
-
-// The station at an address and in a link state, with nothing pending.
-pub fn unsaid(station: Station, address: u8, link: Link) -> Station
-    ensures { λ r. ⌜ r ≡ unsaidAt station address link ⌝ }
-{
-    let told = station.told;
-    Station {
-        address,
-        link,
-        subscribed: station.subscribed,
-        told,
-        said: calm(),
-        reply: no_reply(),
-    }
-}
-
-// The device after its session's end, at an address and in a link state: what was pending or owed is dropped.
-pub fn ended(device: Device, address: u8, link: Link) -> Device
-    ensures { λ r. ⌜ r ≡ endedAs device address link ⌝ }
-{
-    let plate = device.plate;
-    let station = device.station;
-    let antenna = device.antenna;
-    let motion = antenna.motion;
-    let antenna = antenna::in_motion(antenna, antenna::unowed(motion));
-    let station = unsaid(station, address, link);
-    Device {
-        plate,
-        station,
-        antenna,
-    }
 }

@@ -18,7 +18,7 @@ use Rattle.record.specs.Allowed.{identityOf}
 use Rattle.payload.specs.Payloads.{payloadOf}
 use Rattle.payload.proofs.Laws.{payload-says}
 use Rattle.report.specs.Reports.{indicationOf}
-use Rattle.xid.proofs.Judging.{take-within}
+use Rattle.octets.proofs.Takes.{take-within}
 use Rattle.xid_answer.specs.Answer.{scanAnswer, assignmentAnswer}
 use Rattle.station.specs.declared.Say.{Say}
 use Rattle.station.specs.declared.Say.the-variants.{Scanned, Assigned}

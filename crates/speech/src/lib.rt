@@ -4,7 +4,7 @@
 ghost use mathlib.Core.Path.{_≡_};
 ghost use mathlib.Core.List.{[], _∷_};
 ghost use mathlib.Core.Option.{Option, none, some};
-ghost use Prim.Native.Nat.{min, _≤_};
+ghost use Prim.Native.Nat.{_≤_};
 ghost use lib.ListN.{take};
 ghost use Rattle.speech.specs.Speech.{octetsOf, pendingOctets, linkOctets, isSilent, controlBy, payloadBy};
 ghost use Rattle.speech.specs.Speech.{frameBy, spokenOf};
@@ -19,12 +19,6 @@ use station::Say;
 pub struct Spoken {
     pub octets: [u8; 76],
     pub len: usize,
-}
-
-fn fewer(a: usize, b: usize) -> usize
-    ensures { λ r. ⌜ r ≡ min a b ⌝ }
-{
-    if a < b { a } else { b }
 }
 
 fn nothing() -> Payload
@@ -129,7 +123,7 @@ fn payload_of(device: Device, say: Say) -> Payload
 fn laid(address: u8, control: u8, row: [u8; 74], len: usize) -> Spoken
     ensures { λ r. ⌜ (r ≡ spokenOf (some (address ∷ control ∷ take len row))) × (r .len ≤ 76) ⌝ }
 {
-    let n = fewer(len, 74);
+    let n = octets::fewer(len, 74);
     let mut octets = [0u8; 76];
     octets[0] = address;
     octets[1] = control;

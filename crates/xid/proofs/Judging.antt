@@ -7,6 +7,7 @@ use Prim.Native.Nat.{ℕ, zero, suc, _≤_, min}
 use native.Mathlib.Omega.{arith}
 use lib.ListN.{length, getD, take, drop, length-take}
 use lib.Seq.{take-all, take-nil}
+use Rattle.octets.proofs.Takes.{take-min, take-within}
 use Rattle.identity.specs.Bits.{masked}
 use Rattle.identity.specs.Identity.{padded, same, answersScan}
 use Rattle.compare.specs.Rows.{endsWith}
@@ -20,18 +21,6 @@ use Rattle.xid.specs.Match.{isScan, isAssignment, scanMatches, identityM
 use Rattle.xid.specs.Match.{vendorMatches, addressOf, assignmentMatches, assigned, judged, judgedParams, readOf}
 use Rattle.xid.specs.declared.Xid.{Xid}
 use Rattle.xid.specs.declared.Xid.the-variants.{Silence, Scan, Assignment}
-
--- the first octets of the first octets
-pub take-min : (a b : ℕ) (s : List ℕ) → take (min a b) s ≡ take b (take a s)
-take-min zero b s = let n : min zero b ≡ 0 = omega arith in rw n (sym (take-nil b))
-take-min (suc a) zero s = let n : min (suc a) zero ≡ 0 = omega arith in rw n
-take-min (suc a) (suc b) [] = take-nil (min (suc a) (suc b))
-take-min (suc a) (suc b) (x ∷ s) =
-    let n : min (suc a) (suc b) ≡ suc (min a b) = omega arith in
-    rw n (ap (λ (l : List ℕ). x ∷ l) (take-min a b s))
-
-pub take-within : (a b : ℕ) (s : List ℕ) → length s ≤ b → take (min a b) s ≡ take a s
-take-within a b s h = take-min a b s ∙ take-all b (take a s) (omega (arith, length-take a s))
 
 -- ---- the end of the identity, the type, the vendor
 

@@ -2,7 +2,6 @@
 // the padded identity under the mask is the value, an assignment taken exactly if all that it names fits, and no
 // payload is both (proofs/Exactly.antt). Assumes nothing of its caller: any plate, any octets.
 ghost use mathlib.Core.Path.{_≡_};
-ghost use Prim.Native.Nat.{min};
 ghost use lib.ListN.{take, getD};
 ghost use Rattle.record.specs.Allowed.{addressed, identityOf};
 ghost use Rattle.params.specs.Field.{octetsIn};
@@ -22,13 +21,6 @@ pub enum Xid {
     Silence,
     Scan,
     Assignment { address: u8 },
-}
-
-// The smaller of two numbers.
-fn fewer(a: usize, b: usize) -> usize
-    ensures { λ r. ⌜ r ≡ min a b ⌝ }
-{
-    if a < b { a } else { b }
 }
 
 // ---- what is given
@@ -135,7 +127,7 @@ fn identity_matches(octets: [u8; 19], len: usize, payload: &[u8], part: Part) ->
     match part {
         Part::Absent => true,
         Part::At { from, len: count } => {
-            let n = fewer(len, 19);
+            let n = octets::fewer(len, 19);
             let tail = params::value_at(payload, from, count);
             compare::ends_with(&octets[..n], tail)
         }
@@ -161,7 +153,7 @@ fn vendor_matches(octets: [u8; 19], len: usize, payload: &[u8], part: Part) -> b
     match part {
         Part::Absent => true,
         Part::At { from, len: count } => {
-            let n = fewer(len, 2);
+            let n = octets::fewer(len, 2);
             let asked = params::value_at(payload, from, count);
             compare::same(asked, &octets[..n])
         }

@@ -12,7 +12,7 @@ use Rattle.octets.proofs.Stores.{sets-start}
 use Rattle.record.specs.declared.Payload.{Payload}
 use Rattle.params.specs.Field.{Param, _is_, tripleOf, fieldOf, payloadOf}
 use Rattle.xid.specs.Match.{deviceType}
-use Rattle.xid.proofs.Judging.{take-within}
+use Rattle.octets.proofs.Takes.{take-within}
 use Rattle.xid_answer.specs.Answer.{opening, scanParams, assignmentParams, scanAnswer, assignmentAnswer}
 use Rattle.payload.specs.Puts.{Puts}
 use Rattle.payload.specs.Payloads.{payloadOf as held}

@@ -1,7 +1,7 @@
 // The payloads of a device's answers to a scan and to an assignment. Headline: they are the well-formed payloads that
 // 01 lists, with length fields n+8 and n+5 (proofs/Lengths.antt). Assumes nothing of its caller: any plate.
 ghost use mathlib.Core.Path.{_≡_};
-ghost use Prim.Native.Nat.{_≤_, min};
+ghost use Prim.Native.Nat.{_≤_};
 ghost use lib.ListN.{length, take};
 ghost use lib.Seq.{sets};
 ghost use Rattle.record.specs.Allowed.{identityOf};
@@ -11,13 +11,6 @@ ghost use Rattle.payload.specs.Puts.{Puts};
 ghost use Rattle.payload.specs.Payloads.{payloadOf as held};
 use record::Payload;
 use record::Plate;
-
-// The smaller of two numbers.
-fn fewer(a: usize, b: usize) -> usize
-    ensures { λ r. ⌜ r ≡ min a b ⌝ }
-{
-    if a < b { a } else { b }
-}
 
 // Puts a triple at a place, as far as there is room, and gives the place behind it.
 fn put_param(out: &mut [u8], at: usize, id: u8, value: &[u8]) -> usize
@@ -64,7 +57,7 @@ fn put_assignment_answer(out: &mut [u8], identity: &[u8]) -> usize
 fn scan_payload(row: [u8; 19], count: usize, address: u8) -> Payload
     ensures { λ r. ⌜ r ≡ held (scanAnswer (take count row) address) ⌝ }
 {
-    let n = fewer(count, 19);
+    let n = octets::fewer(count, 19);
     let mut octets = [0u8; 74];
     let len = put_scan_answer(&mut octets, &row[..n], address);
     Payload { octets, len }
@@ -73,7 +66,7 @@ fn scan_payload(row: [u8; 19], count: usize, address: u8) -> Payload
 fn assignment_payload(row: [u8; 19], count: usize) -> Payload
     ensures { λ r. ⌜ r ≡ held (assignmentAnswer (take count row)) ⌝ }
 {
-    let n = fewer(count, 19);
+    let n = octets::fewer(count, 19);
     let mut octets = [0u8; 74];
     let len = put_assignment_answer(&mut octets, &row[..n]);
     Payload { octets, len }

@@ -1,4 +1,4 @@
--- `station::emptied_session` meets its promise: each way out, by the tests that lead to it. Assumes nothing.
+-- `acknowledge::emptied_session` meets its promise: each way out, by the tests that lead to it. Assumes nothing.
 use Rattle.acknowledge.specs.Acknowledge.{emptied}
 use mathlib.Core.Path.{sym}
 use Rattle.octets.proofs.Rules.{tests}

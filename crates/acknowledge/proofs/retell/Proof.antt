@@ -1,4 +1,4 @@
--- `station::retell` meets its promise: each way out, by the tests that lead to it. Assumes nothing.
+-- `acknowledge::retell` meets its promise: each way out, by the tests that lead to it. Assumes nothing.
 use Rattle.acknowledge.specs.Acknowledge.{retold}
 use Rattle.octets.proofs.Rules.{tests}
 use Rattle.acknowledge.proofs.retell.Statement.{statement}

@@ -1,4 +1,4 @@
--- `station::session_after` meets its promise: each way out, by the tests that lead to it. Assumes nothing.
+-- `acknowledge::session_after` meets its promise: each way out, by the tests that lead to it. Assumes nothing.
 use Rattle.acknowledge.specs.Acknowledge.{sessionAfter}
 use mathlib.Core.Path.{sym, _∙_}
 use Rattle.octets.proofs.Rules.{tests}

@@ -1,4 +1,4 @@
--- `station::settle` meets its promise: each way out, by the tests that lead to it. Assumes nothing.
+-- `acknowledge::settle` meets its promise: each way out, by the tests that lead to it. Assumes nothing.
 use Rattle.acknowledge.specs.Acknowledge.{settled}
 use mathlib.Core.Path.{sym}
 use Rattle.octets.proofs.Rules.{tests}

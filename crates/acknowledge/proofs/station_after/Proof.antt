@@ -1,4 +1,4 @@
--- `station::station_after` meets its promise: each way out, by the tests that lead to it. Assumes nothing.
+-- `acknowledge::station_after` meets its promise: each way out, by the tests that lead to it. Assumes nothing.
 use Rattle.acknowledge.specs.Acknowledge.{stationAfter}
 use mathlib.Core.Path.{sym, _∙_}
 use Rattle.octets.proofs.Rules.{tests}

@@ -1,4 +1,4 @@
--- `station::told_after` meets its promise: each way out, by the tests that lead to it. Assumes nothing.
+-- `acknowledge::told_after` meets its promise: each way out, by the tests that lead to it. Assumes nothing.
 use Rattle.acknowledge.specs.Acknowledge.{toldAfter}
 use Rattle.octets.proofs.Rules.{tests}
 use borrow.Author.Needs.{needs}

@@ -12,7 +12,7 @@ use Rattle.compare.proofs.under_mask.Statement.{statement}
 use Rattle.compare.proofs.under_mask.Tie as tie
 use Rattle.compare.proofs.under_mask.Reads as reads
 use Rattle.compare.proofs.under_mask.Lts as lts
-use Rattle.compare.proofs.fewer.Reads as fewer-reads
+use Rattle.octets.proofs.fewer.Reads as fewer-reads
 
 abbrev Inv-loop : tie.InvT-loop
 Inv-loop s mask value n i₀ i =

@@ -6,7 +6,8 @@ use native.Mathlib.Omega.{arith}
 use lib.ListN.{length, take, drop, length-set, length-replicate}
 use lib.Seq.{sets}
 use Rattle.identity.specs.Identity.{octetsOf, width, depth}
-use Rattle.identity.proofs.Words.{fill-start, fill-more, fill-done, take-within}
+use Rattle.octets.proofs.Takes.{take-within}
+use Rattle.identity.proofs.Words.{fill-start, fill-more, fill-done}
 use Rattle.identity.proofs.octets_of.Statement.{statement}
 use Rattle.identity.proofs.octets_of.Tie as tie
 
@@ -55,7 +56,7 @@ returns c =
     let row : length (start .args .t1) ≡ depth = omega (arith, start .good) in
     let cut = ap (λ (n : ℕ). take n (start .args .t1)) (c .before .before .within .ensures) in
     fill-done width _ _ _ (c .loop-test .left) (c .before .loop .inv .2)
-    ∙ ap octetsOf (cut ∙ take-within (start .args .t1) (start .args .bits) depth row)
+    ∙ ap octetsOf (cut ∙ take-within (start .args .bits) depth (start .args .t1) (omega (arith, row)))
 
 pub octets-of-spec : {M : Type 1} → statement M
 octets-of-spec =

@@ -1,4 +1,4 @@
--- `report::information` meets its promise: four texts stored one behind the other, read back, are the data. Assumes
+-- `information::information` meets its promise: four texts stored one behind the other, read back, are the data. Assumes
 -- nothing.
 use borrow.Author.Needs.{needs}
 use mathlib.Core.Path.{_∙_}

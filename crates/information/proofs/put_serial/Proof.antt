@@ -1,4 +1,4 @@
--- `report::put_serial` meets its promise: no more is taken of the array than there is, and the vendor is left out.
+-- `information::put_serial` meets its promise: no more is taken of the array than there is, and the vendor is left out.
 -- Assumes nothing.
 use borrow.Author.Needs.{needs}
 use mathlib.Core.Path.{_≡_}

@@ -1,4 +1,4 @@
--- `report::put_text` meets its promise: the length is stored, and the text behind it. Assumes nothing.
+-- `information::put_text` meets its promise: the length is stored, and the text behind it. Assumes nothing.
 use borrow.Author.Needs.{needs}
 use Rattle.information.proofs.Parts.{text-put}
 use Rattle.information.proofs.put_text.Statement.{statement}

@@ -1,4 +1,4 @@
--- `report::put_version` meets its promise: no more is taken of the array than there is. Assumes nothing.
+-- `information::put_version` meets its promise: no more is taken of the array than there is. Assumes nothing.
 use borrow.Author.Needs.{needs}
 use mathlib.Core.Path.{_≡_, ap, _∙_}
 use Prim.Native.Nat.{ℕ}

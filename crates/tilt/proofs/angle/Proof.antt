@@ -1,4 +1,4 @@
--- `payload::angle` meets its promise: the number of the pair, in the upper half less 65536. Assumes nothing.
+-- `tilt::angle` meets its promise: the number of the pair, in the upper half less 65536. Assumes nothing.
 use borrow.Author.Needs.{needs}
 use mathlib.Core.Path.{_≡_, sym}
 use Prim.Native.Nat.{_-_}

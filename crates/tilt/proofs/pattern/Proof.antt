@@ -1,4 +1,4 @@
--- `payload::pattern` meets its promise: the sign's test tells which half of the patterns the tilt has. Assumes
+-- `tilt::pattern` meets its promise: the sign's test tells which half of the patterns the tilt has. Assumes
 -- nothing.
 use borrow.Author.Needs.{needs}
 use Prim.Native.Nat.{_-_, _<_}

@@ -1,4 +1,4 @@
--- `payload::tilt` meets its promise: the data is 0x00 and the two octets of the pattern. Assumes nothing.
+-- `tilt::tilt` meets its promise: the data is 0x00 and the two octets of the pattern. Assumes nothing.
 use borrow.Author.Needs.{needs}
 use mathlib.Core.Path.{_∙_}
 use Rattle.tilt.specs.Tilts.{tiltOctets}

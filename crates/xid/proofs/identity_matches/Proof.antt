@@ -9,7 +9,7 @@ use Rattle.xid.proofs.identity_matches.Reads as reads
 use Rattle.xid.proofs.identity_matches.Lts as lts
 use Rattle.params.proofs.value_at.Reads as value-at-reads
 use Rattle.compare.proofs.ends_with.Reads as ends-with-reads
-use Rattle.xid.proofs.fewer.Reads as fewer-reads
+use Rattle.octets.proofs.fewer.Reads as fewer-reads
 
 enum-told : tie.Need-enum-told
 enum-told c = search needs

@@ -1,10 +1,10 @@
--- `record::unsaid` meets its promise: each way out, by the tests that lead to it. Assumes nothing.
+-- `ending::unsaid` meets its promise: each way out, by the tests that lead to it. Assumes nothing.
 use Rattle.record.specs.Changes.{unsaidAt}
 use mathlib.Core.Path.{sym}
 use Rattle.octets.proofs.Rules.{tests}
 use borrow.Author.Needs.{needs}
-use Rattle.record.proofs.unsaid.Statement.{statement}
-use Rattle.record.proofs.unsaid.Tie as tie
+use Rattle.ending.proofs.unsaid.Statement.{statement}
+use Rattle.ending.proofs.unsaid.Tie as tie
 
 calm-requires : tie.Need-calm-requires
 calm-requires c κs = search needs

@@ -1,10 +1,10 @@
--- `antenna::in_range` meets its promise: each way out, by the tests that lead to it. Assumes nothing.
+-- `aim::in_range` meets its promise: each way out, by the tests that lead to it. Assumes nothing.
 use Rattle.antenna.specs.Motions.{inRange}
 use mathlib.Core.Path.{sym, _∙_}
 use Rattle.octets.proofs.Rules.{tests}
 use borrow.Author.Needs.{needs}
-use Rattle.antenna.proofs.in_range.Statement.{statement}
-use Rattle.antenna.proofs.in_range.Tie as tie
+use Rattle.aim.proofs.in_range.Statement.{statement}
+use Rattle.aim.proofs.in_range.Tie as tie
 
 at-most-requires : tie.Need-at-most-requires
 at-most-requires c κs = search needs

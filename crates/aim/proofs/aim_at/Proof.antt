@@ -1,11 +1,11 @@
--- `antenna::aim_at` meets its promise: each way out, by the tests that lead to it. Assumes nothing.
+-- `aim::aim_at` meets its promise: each way out, by the tests that lead to it. Assumes nothing.
 use Rattle.antenna.specs.Motions.{started}
 use Rattle.antenna.specs.Motions.{aimOf}
 use mathlib.Core.Path.{sym, _∙_}
 use Rattle.octets.proofs.Rules.{tests}
 use borrow.Author.Needs.{needs}
-use Rattle.antenna.proofs.aim_at.Statement.{statement}
-use Rattle.antenna.proofs.aim_at.Tie as tie
+use Rattle.aim.proofs.aim_at.Statement.{statement}
+use Rattle.aim.proofs.aim_at.Tie as tie
 
 busy-requires : tie.Need-busy-requires
 busy-requires c κs = search needs

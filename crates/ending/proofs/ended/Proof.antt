@@ -1,10 +1,10 @@
--- `record::ended` meets its promise: each way out, by the tests that lead to it. Assumes nothing.
+-- `ending::ended` meets its promise: each way out, by the tests that lead to it. Assumes nothing.
 use Rattle.record.specs.Changes.{endedAs}
 use mathlib.Core.Path.{sym}
 use Rattle.octets.proofs.Rules.{tests}
 use borrow.Author.Needs.{needs}
-use Rattle.record.proofs.ended.Statement.{statement}
-use Rattle.record.proofs.ended.Tie as tie
+use Rattle.ending.proofs.ended.Statement.{statement}
+use Rattle.ending.proofs.ended.Tie as tie
 
 unowed-requires : tie.Need-unowed-requires
 unowed-requires c κs = search needs

@@ -1,0 +1,24 @@
+-- The first of a list, as many as there are. Assumes nothing.
+use mathlib.Core.Path.{_≡_, sym, ap, _∙_}
+use mathlib.Core.List.{List, [], _∷_}
+use Prim.Native.Nat.{ℕ, zero, suc, _≤_, min}
+use native.Mathlib.Omega.{arith}
+use lib.ListN.{length, take, length-take}
+use lib.Seq.{take-all, take-nil}
+
+module _ {A : Type 0} where
+  -- the first of the first
+  pub take-min : (a b : ℕ) (s : List A) → take (min a b) s ≡ take b (take a s)
+  take-min zero b s = let n : min zero b ≡ 0 = omega arith in rw n (sym (take-nil b))
+  take-min (suc a) zero s = let n : min (suc a) zero ≡ 0 = omega arith in rw n
+  take-min (suc a) (suc b) [] = take-nil (min (suc a) (suc b))
+  take-min (suc a) (suc b) (x ∷ s) =
+      let n : min (suc a) (suc b) ≡ suc (min a b) = omega arith in
+      rw n (ap (λ (l : List A). x ∷ l) (take-min a b s))
+
+  -- no more than there are
+  pub take-within : (a b : ℕ) (s : List A) → length s ≤ b → take (min a b) s ≡ take a s
+  take-within a b s h = take-min a b s ∙ take-all b (take a s) (omega (arith, length-take a s))
+
+  pub take-room : (s : List A) (k : ℕ) → take (min (length s) k) s ≡ take k s
+  take-room s k = take-min (length s) k s ∙ ap (take k) (take-all (length s) s (omega arith))
