@@ -2,7 +2,7 @@
 -- device matches it: a scan run to its end says "complete" exactly if there are at most 32 devices and the limit is at
 -- least 1 plus twice the number of different beginnings of 0 to 151 bits of the padded identities. It then lists each
 -- identity once, ascending, with exactly that many probes, never more than 1 + 304n."
--- The premises are `OctetBus ids heard` (scan/specs/Demand): `ids` are the padded identities. The scan is the record
+-- The premises are `OctetBus ids heard` (whole_scan/specs/Demand): `ids` are the padded identities. The scan is the record
 -- that the code makes by `new` and one `report` for each answer: `driven heard limit (fresh limit)`.
 -- Cable.antt has the same of a row of devices, where "heard" is what writing the probe, decoding and judging it at each
 -- device comes to: there no premise about hearing is left. Proved by citation. Assumes nothing.
