@@ -48,11 +48,11 @@ pub fn ended(device: Device, address: u8, link: Link) -> Device
     let station = device.station;
     let antenna = device.antenna;
     let motion = antenna.motion;
-    let antenna = antenna::in_motion(antenna, antenna::unowed(motion));
-    let station = unsaid(station, address, link);
+    let released = antenna::in_motion(antenna, antenna::unowed(motion));
+    let quiet = unsaid(station, address, link);
     Device {
         plate,
-        station,
-        antenna,
+        station: quiet,
+        antenna: released,
     }
 }
