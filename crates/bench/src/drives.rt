@@ -5,19 +5,24 @@ use crate::answers::FILL;
 use crate::answers::ROOM;
 use crate::rows;
 use crate::shown;
-use crate::words;
-use crate::words::Asked;
+use antenna::Angle;
 use record::Changed;
 use record::Device;
 use record::Event;
 use record::Span;
+use script::Asked;
 
 // ---- device
 
+// The tilt of a pattern of 16 bits.
+pub fn angle(pattern: usize) -> Angle {
+    tilt::angle((pattern % 256) as u8, (pattern / 256 % 256) as u8)
+}
+
 fn span_of(values: [usize; 8]) -> Span {
-    let lowest = words::angle(values[5]);
-    let highest = words::angle(values[6]);
-    let present = words::angle(values[7]);
+    let lowest = angle(values[5]);
+    let highest = angle(values[6]);
+    let present = angle(values[7]);
     Span {
         lowest,
         highest,
@@ -46,7 +51,7 @@ fn judge(device: Device, asked: Asked) -> Device {
     let octets = asked.octets;
     let room = asked.values[3];
     let mut lent = [FILL; ROOM];
-    let src = rows::part(&octets, 0, asked.len);
+    let src = rows::part(&octets, 0, asked.len as usize);
     let judged = device::judge(device, src, rows::front(&mut lent, room));
     let said = judged.said;
     let device = judged.device;
@@ -59,7 +64,7 @@ fn hear(device: Device, asked: Asked) -> Device {
     let octets = asked.octets;
     let room = asked.values[3];
     let mut lent = [FILL; ROOM];
-    let src = rows::part(&octets, 0, asked.len);
+    let src = rows::part(&octets, 0, asked.len as usize);
     let judged = device::hear(device, src, rows::front(&mut lent, room));
     let said = judged.said;
     let device = judged.device;
@@ -75,7 +80,7 @@ fn event_of(command: usize, value: usize) -> Event {
     match command {
         4 => Event::Raised(code),
         5 => Event::Cleared(code),
-        _ => Event::Stopped(words::angle(value)),
+        _ => Event::Stopped(angle(value)),
     }
 }
 
@@ -88,8 +93,7 @@ fn happen(device: Device, event: Event) -> Device {
 }
 
 // A command to a device.
-pub fn obey(device: Device, asked: Asked) -> Device {
-    let command = asked.command;
+pub fn obey(device: Device, command: usize, asked: Asked) -> Device {
     if command == 0 {
         return judge(device, asked);
     }

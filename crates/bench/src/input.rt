@@ -1,8 +1,7 @@
 // Standard input, cut into lines. Assumes nothing of the caller: an input that holds no such octets has an empty line.
 use crate::rows;
-use crate::words;
-use crate::words::Asked;
 use libc::STDIN_FILENO;
+use script::Asked;
 
 // Octets kept of a line: one more than the longest has and a 0x0D, so that a longer one is too long whatever follows.
 const KEPT: usize = 2002;
@@ -98,5 +97,5 @@ fn without_return(line: &[u8], whole: bool) -> &[u8] {
 pub fn asked_of(input: Input, devices: usize) -> Asked {
     let octets = input.line;
     let line = rows::part(&octets, 0, input.len);
-    words::read_line(without_return(line, input.whole), devices)
+    script::read_line(without_return(line, input.whole), (devices % 256) as u8)
 }

@@ -55,3 +55,5 @@ pub use Rattle.demands.proofs.Two.{snrm-heard, never-unallowed}
 pub use Rattle.demands.proofs.Three.{complete-exactly, complete-count, complete-lists, never-more, probes-sent}
 pub use Rattle.demands.proofs.Cable.{heard-when, whole-row, installer}
 pub use Rattle.demands.proofs.Cases.{starred-hold}
+-- ---- and of a scan of a row of devices, in code
+pub use Rattle.mast.proofs.Demand.{sweep-unchanged, sweep-row, sweep-any, sweep-complete}

@@ -24,11 +24,8 @@ next-line-requires c κs = search needs
 asked-of-requires : tie.Need-asked-of-requires Inv-loop μ-loop
 asked-of-requires c κs = search needs
 
-obey-requires : tie.Need-obey-requires Inv-loop μ-loop
-obey-requires c κs = search needs
-
-end-line-requires : tie.Need-end-line-requires Inv-loop μ-loop
-end-line-requires c κs = search needs
+heed-requires : tie.Need-heed-requires Inv-loop μ-loop
+heed-requires c κs = search needs
 
 returns : tie.Need-returns Inv-loop μ-loop
 returns c = search needs
@@ -53,8 +50,7 @@ play-spec =
     sub-turns
     next-line-requires
     asked-of-requires
-    obey-requires
-    end-line-requires
+    heed-requires
     returns
     loop-less
     loop-again

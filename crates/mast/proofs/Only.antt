@@ -1,0 +1,10 @@
+-- The promise of this crate allows one result. Assumes nothing.
+use mathlib.Core.Path.{_≡_}
+use Prim.Native.Nat.{ℕ}
+use Rattle.octets.proofs.Only.{only}
+use Rattle.mast.specs.declared.Row.{Row}
+use Rattle.mast.specs.declared.Swept.{Swept}
+use Rattle.mast.specs.Mast.{swept}
+
+pub sweep-only : (row : Row) (limit : ℕ) {r q : Swept} → r ≡ swept row limit → q ≡ swept row limit → r ≡ q
+sweep-only row limit = only

@@ -1,0 +1,3 @@
+-- What the code does with a row of devices.
+pub mod Mast
+pub mod Steps

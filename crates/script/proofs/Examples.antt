@@ -1,0 +1,58 @@
+-- Lines of the bench script and what they ask, computed. Assumes nothing.
+use mathlib.Core.Path.{_≡_, refl}
+use mathlib.Core.List.{List, [], _∷_}
+use Prim.Native.Nat.{ℕ}
+use lib.ListN.{length, replicate}
+use lib.Seq.{sets}
+use Rattle.octets.specs.Octets.{placeOf}
+use Rattle.identity.specs.Identity.{same}
+use Rattle.script.specs.Words.{spelled, firstOf, behindFirst, wordAt, spacesIn, placeFrom}
+use Rattle.script.specs.Values.{hexDigit, octetBy, octetOf, octetThen, pairsOf, hexOf, allDigits, numeral}
+use Rattle.script.specs.Values.{decimal, isNegative, digitsOf, bitsOf, ranged, numberBy, fromOne, heardBy}
+use Rattle.script.specs.Values.{valueOf}
+use Rattle.script.specs.Script.{commandOf, kindsOf, blank, withValue, withOctets, withHex, withWord, isFaulty}
+use Rattle.script.specs.Script.{wordsBy, isSilent, readLine}
+use Rattle.script.specs.declared.Fault.the-variants.{Long, Command, Words, Hex, Number, Room, Device}
+use Rattle.script.specs.declared.Line.the-variants.{Silent, Faulty, Asks}
+use Rattle.script.specs.declared.Asked.{Asked}
+
+-- a command, the values of the words behind it, and the octets of its HEX words
+abbrev asks : ℕ → List ℕ → List ℕ → Asked
+asks c vs os =
+    record { line = Asks c; values = sets (replicate 8 0) 1 vs; octets = sets (replicate 1000 0) 0 os; len = length os }
+
+-- leading zeros are read; a tilt below zero is its 16 bits, and -32,768 the last; HEX is read in capitals too; the
+-- value of HEX is where its octets end
+read : (readLine (spelled "raise 1 20") 1 ≡ asks 4 (1 ∷ 20 ∷ []) [])
+    × (readLine (spelled "stopped 002 -1") 2 ≡ asks 3 (2 ∷ 65535 ∷ []) [])
+    × (readLine (spelled "stopped 1 -32768") 2 ≡ asks 3 (1 ∷ 32768 ∷ []) [])
+    × (readLine (spelled "probe 600") 0 ≡ asks 9 (600 ∷ []) [])
+    × (readLine (spelled "report heard") 0 ≡ asks 10 (1 ∷ []) [])
+    × (readLine (spelled "write 01 bf - 12") 0 ≡ asks 12 (0x01 ∷ 0xbf ∷ 0 ∷ 12 ∷ []) [])
+    × (readLine (spelled "hear 1 81F0 9") 1 ≡ asks 1 (1 ∷ 2 ∷ 9 ∷ []) (0x81 ∷ 0xF0 ∷ []))
+    × (readLine (spelled "device 4e 4141 - 31 -5 5 0") 0
+    ≡ asks 6 (1 ∷ 3 ∷ 3 ∷ 4 ∷ 65531 ∷ 5 ∷ 0 ∷ []) (0x4e ∷ 0x41 ∷ 0x41 ∷ 0x31 ∷ []))
+unfolding spelled firstOf behindFirst wordAt spacesIn placeFrom placeOf same hexDigit octetBy octetOf octetThen pairsOf
+    hexOf allDigits numeral decimal isNegative digitsOf bitsOf ranged numberBy fromOne heardBy valueOf commandOf kindsOf
+    withValue withOctets withHex withWord isFaulty wordsBy isSilent readLine
+read = (refl, refl, refl, refl, refl, refl, refl, refl)
+
+-- a line that is long has that fault before every other, unless it is a comment
+faults : (readLine (spelled "probe 601") 0 ≡ blank (Faulty Room))
+    × (readLine (spelled "probe 99999999999999999999") 0 ≡ blank (Faulty Room))
+    × (readLine (spelled "probe --1") 0 ≡ blank (Faulty Number))
+    × (readLine (spelled "hear 1 zz 9") 1 ≡ blank (Faulty Hex))
+    × (readLine (spelled "hear 1 123 9") 1 ≡ blank (Faulty Hex))
+    × (readLine (spelled "show 2") 1 ≡ blank (Faulty Device))
+    × (readLine (spelled "show -1") 1 ≡ blank (Faulty Device))
+    × (readLine (spelled "stopped 1 32768") 1 ≡ blank (Faulty Number))
+    × (readLine (spelled "report twice") 0 ≡ blank (Faulty Words))
+    × (readLine (spelled "probe  1") 0 ≡ blank (Faulty Words))
+    × (readLine (spelled "Probe 1") 0 ≡ blank (Faulty Command))
+    × (readLine (replicate 2001 97) 0 ≡ blank (Faulty Long))
+    × (readLine (replicate 2001 35) 0 ≡ blank Silent)
+    × (readLine [] 0 ≡ blank Silent)
+unfolding spelled firstOf behindFirst wordAt spacesIn placeFrom placeOf same hexDigit octetBy octetOf octetThen pairsOf
+    hexOf allDigits numeral decimal isNegative digitsOf bitsOf ranged numberBy fromOne heardBy valueOf commandOf kindsOf
+    withValue withOctets withHex withWord isFaulty wordsBy isSilent readLine
+faults = (refl, refl, refl, refl, refl, refl, refl, refl, refl, refl, refl, refl, refl, refl)

@@ -1,0 +1,6 @@
+-- The laws of the script's words and values that the proofs cite, and what the promise comes to.
+mod WordLaws
+mod ValueLaws
+mod LineLaws
+pub mod Only
+pub mod Examples

@@ -1,0 +1,11 @@
+-- The promise of this crate allows one result. Assumes nothing.
+use mathlib.Core.Path.{_≡_}
+use mathlib.Core.List.{List}
+use Prim.Native.Nat.{ℕ}
+use Rattle.octets.proofs.Only.{only}
+use Rattle.script.specs.Script.{readLine}
+use Rattle.script.specs.declared.Asked.{Asked}
+
+pub read-line-only : (line : List ℕ) (devices : ℕ) {r q : Asked}
+    → r ≡ readLine line devices → q ≡ readLine line devices → r ≡ q
+read-line-only line devices = only

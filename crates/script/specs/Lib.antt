@@ -1,0 +1,4 @@
+-- What a line of the bench script means.
+pub mod Words
+pub mod Values
+pub mod Script
