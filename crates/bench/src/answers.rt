@@ -105,9 +105,9 @@ pub fn say_hex(mark: u8, s: &[u8]) {
 // ---- what several commands say
 
 // The fault of a line, by its name.
-pub fn say_error(fault: &[u8]) {
+pub fn say_error(fault: Name) {
     say(ERROR);
-    say_octets(fault);
+    say(fault);
 }
 
 pub fn say_refused(refusal: Refusal) {

@@ -6,6 +6,7 @@ use crate::answers::ROOM;
 use crate::rows;
 use crate::shown;
 use antenna::Angle;
+use device::Judged;
 use record::Changed;
 use record::Device;
 use record::Event;
@@ -46,26 +47,20 @@ pub fn fresh(asked: Asked) -> Changed {
 
 // ---- frame and hear
 
-// Decoded octets.
-fn judge(device: Device, asked: Asked) -> Device {
-    let octets = asked.octets;
-    let room = asked.values[3];
-    let mut lent = [FILL; ROOM];
-    let src = rows::part(&octets, 0, asked.len as usize);
-    let judged = device::judge(device, src, rows::front(&mut lent, room));
-    let said = judged.said;
-    let device = judged.device;
-    answers::say_said(said, lent, room);
-    device
+// `frame`: decoded octets; `hear`: octets as they come from the line.
+fn listen(device: Device, command: usize, src: &[u8], answer: &mut [u8]) -> Judged {
+    if command == 0 {
+        return device::judge(device, src, answer);
+    }
+    device::hear(device, src, answer)
 }
 
-// Octets as they come from the line.
-fn hear(device: Device, asked: Asked) -> Device {
+fn deliver(device: Device, command: usize, asked: Asked) -> Device {
     let octets = asked.octets;
     let room = asked.values[3];
     let mut lent = [FILL; ROOM];
     let src = rows::part(&octets, 0, asked.len as usize);
-    let judged = device::hear(device, src, rows::front(&mut lent, room));
+    let judged = listen(device, command, src, rows::front(&mut lent, room));
     let said = judged.said;
     let device = judged.device;
     answers::say_said(said, lent, room);
@@ -94,11 +89,8 @@ fn happen(device: Device, event: Event) -> Device {
 
 // A command to a device.
 pub fn obey(device: Device, command: usize, asked: Asked) -> Device {
-    if command == 0 {
-        return judge(device, asked);
-    }
-    if command == 1 {
-        return hear(device, asked);
+    if command < 2 {
+        return deliver(device, command, asked);
     }
     if command == 2 {
         shown::show(device);

@@ -11,7 +11,9 @@ mod scans;
 mod shown;
 
 use answers::Name;
+use mast::MOST;
 use mast::Row;
+use record::Device;
 use record::Span;
 use refusal::Outcome;
 use scan::Scan;
@@ -20,6 +22,21 @@ use script::Fault;
 use script::Line;
 
 const DEVICE: Name = *b"device......";
+
+// The words for a line's faults.
+const LONG: Name = *b"long........";
+
+const COMMAND: Name = *b"command.....";
+
+const WORDS: Name = *b"words.......";
+
+const HEX: Name = *b"hex.........";
+
+const NUMBER: Name = *b"number......";
+
+const ROOM: Name = *b"room........";
+
+const FULL: Name = *b"full........";
 
 struct Bench {
     row: Row,
@@ -38,40 +55,40 @@ fn empty(text: &[u8]) -> Bench {
     let device = refused.device;
     Bench {
         row: Row {
-            devices: [device; mast::MOST],
+            devices: [device; MOST],
             count: 0,
         },
         scan: scan::new(0),
     }
 }
 
-fn say_fault(fault: Fault) {
+fn name_of(fault: Fault) -> Name {
     match fault {
-        Fault::Long => answers::say_error(b"long"),
-        Fault::Command => answers::say_error(b"command"),
-        Fault::Words => answers::say_error(b"words"),
-        Fault::Hex => answers::say_error(b"hex"),
-        Fault::Number => answers::say_error(b"number"),
-        Fault::Room => answers::say_error(b"room"),
-        Fault::Device => answers::say_error(b"device"),
+        Fault::Long => LONG,
+        Fault::Command => COMMAND,
+        Fault::Words => WORDS,
+        Fault::Hex => HEX,
+        Fault::Number => NUMBER,
+        Fault::Room => ROOM,
+        Fault::Device => DEVICE,
     }
 }
 
-// A command to a device of the row; a number that is read is one of the row's, counted from 1.
-fn tell_device(row: Row, command: usize, asked: Asked) -> Row {
-    let mut next = row;
-    let place = (asked.values[1] % mast::MOST + (mast::MOST - 1)) % mast::MOST;
-    let device = drives::obey(row.devices[place], command, asked);
-    next.devices[place] = device;
+// A command to a device; a number that is read is one of the row's, counted from 1.
+fn tell_device(devices: [Device; MOST], command: usize, asked: Asked) -> [Device; MOST] {
+    let mut next = devices;
+    let place = (asked.values[1] % MOST + (MOST - 1)) % MOST;
+    let device = drives::obey(devices[place], command, asked);
+    next[place] = device;
     next
 }
 
 // A 33rd device is a fault of the line, found once the line itself has none; a refused one takes no number.
 fn make(row: Row, asked: Asked) -> Row {
-    let mut next = row;
+    let mut devices = row.devices;
     let count = row.count;
-    if mast::MOST <= count {
-        answers::say_error(b"full");
+    if MOST <= count {
+        answers::say_error(FULL);
         return row;
     }
     let changed = drives::fresh(asked);
@@ -81,10 +98,12 @@ fn make(row: Row, asked: Asked) -> Row {
         answers::say_refused(refusal);
         return row;
     }
-    next.devices[count] = device;
-    next.count = count + 1;
     answers::say_count(DEVICE, count + 1);
-    next
+    devices[count] = device;
+    Row {
+        devices,
+        count: count + 1,
+    }
 }
 
 // A scan of the row; the scan by hand stands aside.
@@ -98,13 +117,18 @@ fn sweep(row: Row, limit: usize) -> Row {
 
 // The commands to the row: the first six to one device, then `device`, then `scan`.
 fn obey_row(row: Row, command: usize, asked: Asked) -> Row {
-    if command < 6 {
-        return tell_device(row, command, asked);
-    }
     if command == 6 {
         return make(row, asked);
     }
-    sweep(row, asked.values[1])
+    if command == 7 {
+        return sweep(row, asked.values[1]);
+    }
+    let before = row.devices;
+    let devices = tell_device(before, command, asked);
+    Row {
+        devices,
+        count: row.count,
+    }
 }
 
 // A command by its place among the names, as `script` has them.
@@ -129,7 +153,7 @@ fn heed(bench: Bench, asked: Asked) -> Bench {
     match line {
         Line::Silent => bench,
         Line::Faulty(fault) => {
-            say_fault(fault);
+            answers::say_error(name_of(fault));
             answers::end_line();
             bench
         }
