@@ -1,13 +1,13 @@
 -- How long it is what a device tells of itself. Assumes nothing.
-use mathlib.Core.Path.{_≡_, refl, sym}
-use mathlib.Core.Bool.{Bool, true, false, _&&_}
+use mathlib.Core.Path.{_≡_}
+use mathlib.Core.Bool.{true}
 use mathlib.Core.List.{List, _++_}
 use Prim.Native.Nat.{ℕ, _+_, _≤_}
 use native.Mathlib.Omega.{arith}
 use borrow.Author.Tests.{leb-true}
 use lib.Dec.{leb}
 use lib.ListN.{length, take, length-take, length-drop, length-append}
-use Rattle.octets.proofs.Words.{true-not-false}
+use Rattle.identity.proofs.Identities.{and-parts}
 use Rattle.record.specs.Allowed.{identityOf, productOf, hardwareOf, softwareOf, platesAllowed, identityAllowed}
 use Rattle.record.specs.declared.Plate.{Plate}
 use Rattle.payload.specs.Payloads.{successOf}
@@ -45,10 +45,6 @@ information-fits p s =
       s .software,
     )
 
-both : (a b : Bool) → (a && b) ≡ true → (a ≡ true) × (b ≡ true)
-both true b e = (refl, e)
-both false b e = absurd (true-not-false (sym e))
-
 taken : (n k : ℕ) (s : List ℕ) → leb n k ≡ true → length (take n s) ≤ k
 taken n k s e = simp length-take (omega (arith, leb-true n k e))
 
@@ -59,10 +55,10 @@ behind i h = simp length-drop (omega arith)
 pub allowed-short : (p : Plate) → platesAllowed p ≡ true → Short p
 unfolding platesAllowed identityAllowed
 allowed-short p h =
-    let first = both _ _ h in
-    let second = both _ _ (first .1) in
-    let third = both _ _ (second .1) in
-    let name = taken (p .identity .len) 19 (p .identity .octets) (both _ _ (first .0) .0) in
+    let first = and-parts _ _ h in
+    let second = and-parts _ _ (first .1) in
+    let third = and-parts _ _ (second .1) in
+    let name = taken (p .identity .len) 19 (p .identity .octets) (and-parts _ _ (first .0) .0) in
     record {
       product = taken (p .product .len) 20 (p .product .octets) (second .0);
       serial = behind (identityOf p) name;
