@@ -3,12 +3,12 @@ use mathlib.Core.Path.{_≡_}
 use Prim.Native.Nat.{ℕ}
 use Rattle.octets.proofs.Only.{only}
 use Rattle.record.specs.declared.Session.{Session}
-use Rattle.record.specs.declared.Station.{Station}
-use Rattle.acknowledge.specs.Acknowledge.{sessionAfter, stationAfter}
+use Rattle.record.specs.declared.Device.{Device}
+use Rattle.acknowledge.specs.Acknowledge.{sessionAfter, acknowledged}
 
 pub session-after-only : (s : Session) (n : ℕ) {r q : Session} → r ≡ sessionAfter s n → q ≡ sessionAfter s n → r ≡ q
 session-after-only s n = only
 
-pub station-after-only : (t : Station) (s : Session) (n : ℕ) {r q : Station}
-    → r ≡ stationAfter t s n → q ≡ stationAfter t s n → r ≡ q
-station-after-only t s n = only
+pub device-after-only : (d : Device) (s : Session) (n : ℕ) {r q : Device}
+    → r ≡ acknowledged d s n → q ≡ acknowledged d s n → r ≡ q
+device-after-only d s n = only

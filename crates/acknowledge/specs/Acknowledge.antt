@@ -3,6 +3,7 @@
 --   toldAfter t p   == what is told once p, pending, is acknowledged
 --   settled t s     == the station t once the pending answer of its session s is acknowledged
 --   sessionAfter s n, stationAfter t s n == after a good N(R) = n
+--   acknowledged d s n == the device d, in its session s, after a good N(R) = n
 -- Assumes nothing.
 use mathlib.Core.Bool.{cond}
 use Prim.Native.Nat.{ℕ}
@@ -13,7 +14,8 @@ use Rattle.record.specs.declared.Pending.the-variants.{Nothing, Answer, Indicat
 use Rattle.record.specs.declared.Session.{Session}
 use Rattle.record.specs.declared.Link.the-variants.{Connected}
 use Rattle.record.specs.declared.Station.{Station}
-use Rattle.record.specs.Changes.{unsaidAt}
+use Rattle.record.specs.declared.Device.{Device}
+use Rattle.record.specs.Changes.{unsaidAt, deviceOf}
 use Rattle.session.specs.Session.{acknowledges}
 
 -- "which removes it and moves S on"
@@ -45,3 +47,6 @@ sessionAfter s n = cond (acknowledges s n) (emptied s) s
 
 unfoldable pub stationAfter : Station → Session → ℕ → Station
 stationAfter t s n = cond (acknowledges s n) (settled t s) t
+
+unfoldable pub acknowledged : Device → Session → ℕ → Device
+acknowledged d s n = deviceOf d (stationAfter (d .station) s n) (d .antenna)

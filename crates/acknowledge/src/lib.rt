@@ -1,9 +1,11 @@
-// An acknowledgement: what a good N(R) does to a session and its station.
+// An acknowledgement: what a good N(R) does to a session and its device.
 // Headline: told changes at an acknowledged indication alone, to what it said (proofs/Settled.antt).
 // Assumes nothing of its caller.
 ghost use mathlib.Core.Path.{_≡_};
 ghost use Rattle.acknowledge.specs.Acknowledge.{emptied, toldAfter, retold, settled, sessionAfter, stationAfter};
+ghost use Rattle.acknowledge.specs.Acknowledge.{acknowledged};
 use antenna::Alarms;
+use record::Device;
 use record::Link;
 use record::Pending;
 use record::Session;
@@ -58,6 +60,15 @@ fn settle(station: Station, s: Session) -> Station
     )
 }
 
+fn station_after(station: Station, s: Session, nr: u8) -> Station
+    ensures { λ r. ⌜ r ≡ stationAfter station s nr ⌝ }
+{
+    if session::is_acknowledged(s, nr) {
+        return settle(station, s);
+    }
+    station
+}
+
 // The session after a good N(R).
 pub fn session_after(s: Session, nr: u8) -> Session
     ensures { λ r. ⌜ r ≡ sessionAfter s nr ⌝ }
@@ -68,12 +79,16 @@ pub fn session_after(s: Session, nr: u8) -> Session
     s
 }
 
-// The station after a good N(R).
-pub fn station_after(station: Station, s: Session, nr: u8) -> Station
-    ensures { λ r. ⌜ r ≡ stationAfter station s nr ⌝ }
+// The device after a good N(R).
+pub fn device_after(device: Device, s: Session, nr: u8) -> Device
+    ensures { λ r. ⌜ r ≡ acknowledged device s nr ⌝ }
 {
-    if session::is_acknowledged(s, nr) {
-        return settle(station, s);
+    let plate = device.plate;
+    let station = device.station;
+    let antenna = device.antenna;
+    Device {
+        plate,
+        station: station_after(station, s, nr),
+        antenna,
     }
-    station
 }

@@ -29,8 +29,8 @@ use Rattle.xid.specs.Meaning.{AssignmentOf, EndOf}
 use Rattle.xid.specs.declared.Xid.{Xid}
 use Rattle.xid.proofs.Exactly.{assignment-read}
 use Rattle.station.specs.declared.Say.{Say}
-use Rattle.turn.specs.declared.Turn.{Turn}
-use Rattle.turn.specs.Turns.{saying, mute}
+use Rattle.station.specs.declared.Turn.{Turn}
+use Rattle.station.specs.Turns.{saying, mute}
 use Rattle.link.specs.Link.{xidBy, judgedFrame}
 use Rattle.link.proofs.Cases.{everyone-is}
 use Rattle.device.specs.Judge.{reacts, deviceAfter}

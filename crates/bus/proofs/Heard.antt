@@ -22,8 +22,8 @@ use Rattle.record.proofs.Stays.{sound}
 use Rattle.xid.specs.declared.Xid.{Xid}
 use Rattle.xid.proofs.Probe.{probePayload, probe-read}
 use Rattle.station.specs.declared.Say.{Say}
-use Rattle.turn.specs.declared.Turn.{Turn}
-use Rattle.turn.specs.Turns.{saying}
+use Rattle.station.specs.declared.Turn.{Turn}
+use Rattle.station.specs.Turns.{saying}
 use Rattle.link.specs.Link.{xidBy, judgedFrame}
 use Rattle.link.proofs.Cases.{everyone-is}
 use Rattle.speech.specs.Speech.{isSilent, frameBy}

@@ -24,9 +24,10 @@ use Rattle.record.specs.declared.Station.{Station}
 use Rattle.record.specs.Allowed.{addressed, sessionAllowed, linkAllowed, stationAllowed, allowedDevice}
 use Rattle.record.specs.Changes.{unsaidAt, endedAs}
 use Rattle.record.proofs.Stays.{sound}
-use Rattle.turn.specs.declared.Turn.{Turn}
-use Rattle.turn.specs.Turns.{saying, mute}
-use Rattle.link.specs.Link.{begun, isOwn, addressedBy, controlledBy, judgedFrame}
+use Rattle.station.specs.declared.Turn.{Turn}
+use Rattle.station.specs.Turns.{saying, mute}
+use Rattle.states.specs.States.{begun}
+use Rattle.link.specs.Link.{isOwn, addressedBy, controlledBy, judgedFrame}
 use Rattle.link.specs.Frames.{hasAddress}
 use Rattle.link.proofs.Judged.{judged-is}
 use Rattle.speech.specs.Speech.{isSilent, controlBy, payloadBy, frameBy}

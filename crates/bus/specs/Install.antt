@@ -27,7 +27,7 @@ use Rattle.record.specs.declared.Link.the-variants.{AddressAssigned}
 use Rattle.record.specs.declared.Device.{Device}
 use Rattle.params.specs.Field.{_is_, payloadOf}
 use Rattle.xid.specs.Meaning.{EndOf}
-use Rattle.link.specs.Link.{begun}
+use Rattle.states.specs.States.{begun}
 use Rattle.scan.specs.declared.State.the-variants.{Complete}
 use Rattle.scan.specs.Record.{listOf}
 use Rattle.bus.specs.Cable.{identityIn, paddedIn, lineFor, hears, allAfterLines}

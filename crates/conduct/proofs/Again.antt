@@ -21,9 +21,10 @@ use Rattle.session.proofs.Numbers.{accepts-exactly}
 use Rattle.station.specs.Station.{resent}
 use Rattle.acknowledge.specs.Acknowledge.{sessionAfter}
 use Rattle.acknowledge.proofs.Settled.{session-kept}
-use Rattle.turn.specs.declared.Turn.{Turn}
-use Rattle.turn.specs.Turns.{saying}
-use Rattle.turn.specs.Sessions.{informOf, informedBy}
+use Rattle.station.specs.declared.Turn.{Turn}
+use Rattle.station.specs.Turns.{saying}
+use Rattle.inform.specs.Inform.{informOf}
+use Rattle.states.specs.States.{informedBy}
 use Rattle.link.specs.Link.{isOwn, judgedFrame}
 use Rattle.link.specs.Frames.{Own}
 use Rattle.conduct.specs.Conduct.{after, starts, Accepted, occurAll}

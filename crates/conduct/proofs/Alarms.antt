@@ -11,15 +11,20 @@ use Rattle.record.specs.declared.Session.{Session}
 use Rattle.record.specs.declared.Device.{Device}
 use Rattle.record.specs.Fresh.{calm}
 use Rattle.session.specs.Session.{pends, accepts, taken}
-use Rattle.station.specs.Station.{answersWith, indicates, heeded, resent, toTell}
+use Rattle.station.specs.Station.{answersWith, resent}
+use Rattle.poll.specs.Poll.{indicates, toTell}
+use Rattle.inform.specs.Inform.{heeded}
 use Rattle.message.specs.Carried.{replies, quieted}
 use Rattle.message.specs.declared.Carried.{Carried}
 use Rattle.message.specs.declared.Reply.{Reply}
 use Rattle.message.proofs.Moves.{cleared-or-not, clear-clears}
-use Rattle.turn.specs.declared.Turn.{Turn}
-use Rattle.turn.specs.Turns.{saying, deviceOf}
-use Rattle.turn.specs.Sessions.{pend, ready, idlePoll, waitingPoll, pollOf, carriedHere, repliedBy, carriedBy}
-use Rattle.turn.specs.Sessions.{informOf}
+use Rattle.station.specs.declared.Turn.{Turn}
+use Rattle.station.specs.Turns.{saying}
+use Rattle.record.specs.Changes.{deviceOf}
+use Rattle.station.specs.Turns.{pend, ready}
+use Rattle.poll.specs.Poll.{idlePoll, waitingPoll, pollOf}
+use Rattle.inform.specs.Inform.{carriedHere, repliedBy, carriedBy}
+use Rattle.inform.specs.Inform.{informOf}
 
 -- told and raised are as they were in the device e
 abbrev pub Keeps : Device → Turn → Type 0

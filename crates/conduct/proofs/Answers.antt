@@ -30,9 +30,10 @@ use Rattle.xid.specs.declared.Xid.{Xid}
 use Rattle.xid.specs.declared.Xid.the-variants as xid
 use Rattle.xid.proofs.Exactly.{scan-read, scan-exactly, assignment-read, assignment-exactly, matches-exactly}
 use Rattle.station.specs.declared.Say.{Say}
-use Rattle.turn.specs.declared.Turn.{Turn}
-use Rattle.turn.specs.Turns.{saying, mute}
-use Rattle.link.specs.Link.{newSession, begun, ua, connectedBy, isSnrm, assignedBy, linkedBy, quiet, isOwn}
+use Rattle.station.specs.declared.Turn.{Turn}
+use Rattle.station.specs.Turns.{saying, mute}
+use Rattle.states.specs.States.{newSession, begun, ua, connectedBy, isSnrm, assignedBy, linkedBy}
+use Rattle.link.specs.Link.{quiet, isOwn}
 use Rattle.link.specs.Link.{xidBy, frameMost}
 use Rattle.link.specs.Link.{judgedFrame}
 use Rattle.link.specs.Frames.{controlOf, hasAddress, Own, Everyone}

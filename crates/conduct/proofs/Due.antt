@@ -20,15 +20,20 @@ use Rattle.record.specs.declared.Device.{Device}
 use Rattle.record.specs.Changes.{endedAs}
 use Rattle.session.specs.Session.{accepts, taken}
 use Rattle.session.proofs.Numbers.{accepts-exactly}
-use Rattle.station.specs.Station.{heeded}
+use Rattle.inform.specs.Inform.{heeded}
 use Rattle.acknowledge.specs.Acknowledge.{sessionAfter}
 use Rattle.message.specs.Messages.{askedOf}
 use Rattle.message.specs.Carried.{unanswered}
 use Rattle.message.proofs.Moves.{moved-or-not, due-moves}
-use Rattle.turn.specs.declared.Turn.{Turn}
-use Rattle.turn.specs.Turns.{saying, acknowledged, deviceOf}
-use Rattle.turn.specs.Sessions.{ready, carriedHere, repliedBy, carriedBy, informOf, informedBy, polledBy, pausedBy}
-use Rattle.link.specs.Link.{begun, released, rejected, judgedFrame}
+use Rattle.station.specs.declared.Turn.{Turn}
+use Rattle.station.specs.Turns.{saying}
+use Rattle.acknowledge.specs.Acknowledge.{acknowledged}
+use Rattle.record.specs.Changes.{deviceOf}
+use Rattle.station.specs.Turns.{ready}
+use Rattle.inform.specs.Inform.{carriedHere, repliedBy, carriedBy, informOf}
+use Rattle.states.specs.States.{informedBy, polledBy, pausedBy}
+use Rattle.states.specs.States.{begun, released, rejected}
+use Rattle.link.specs.Link.{judgedFrame}
 use Rattle.link.specs.Frames.{Numbered}
 use Rattle.link.proofs.Cases.{judged-cases}
 use Rattle.control.specs.declared.Order.the-variants.{Info}

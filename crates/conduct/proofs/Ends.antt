@@ -11,10 +11,10 @@ use Rattle.record.specs.declared.Link.{Link}
 use Rattle.record.specs.declared.Link.the-variants.{AddressAssigned, Connected}
 use Rattle.record.specs.declared.Device.{Device}
 use Rattle.record.specs.Changes.{unsaidAt, endedAs}
-use Rattle.station.specs.Station.{toTell}
-use Rattle.turn.specs.declared.Turn.{Turn}
-use Rattle.turn.specs.Turns.{saying}
-use Rattle.link.specs.Link.{newSession, begun, released, rejected}
+use Rattle.poll.specs.Poll.{toTell}
+use Rattle.station.specs.declared.Turn.{Turn}
+use Rattle.station.specs.Turns.{saying}
+use Rattle.states.specs.States.{newSession, begun, released, rejected}
 use Rattle.conduct.specs.Conduct.{after}
 use Rattle.conduct.specs.Endings.{pendingIn, Ends, begins, leaves, miscounts, unknown, assigns}
 use Rattle.conduct.specs.Endings.{Dropped, Survives}

@@ -11,11 +11,16 @@ use Rattle.record.specs.declared.Session.{Session}
 use Rattle.record.specs.declared.Link.the-variants.{Connected}
 use Rattle.record.specs.declared.Device.{Device}
 use Rattle.session.specs.Session.{pends}
-use Rattle.station.specs.Station.{awaiting, indicates, toTell}
+use Rattle.station.specs.Station.{awaiting}
+use Rattle.poll.specs.Poll.{indicates, toTell}
 use Rattle.acknowledge.specs.Acknowledge.{sessionAfter, stationAfter}
-use Rattle.turn.specs.declared.Turn.{Turn}
-use Rattle.turn.specs.Turns.{saying, deviceOf, acknowledged}
-use Rattle.turn.specs.Sessions.{pend, idlePoll, waitingPoll, pollOf, polledBy}
+use Rattle.station.specs.declared.Turn.{Turn}
+use Rattle.station.specs.Turns.{saying}
+use Rattle.record.specs.Changes.{deviceOf}
+use Rattle.acknowledge.specs.Acknowledge.{acknowledged}
+use Rattle.station.specs.Turns.{pend}
+use Rattle.poll.specs.Poll.{idlePoll, waitingPoll, pollOf}
+use Rattle.states.specs.States.{polledBy}
 use Rattle.link.specs.Link.{judgedFrame}
 use Rattle.link.specs.Frames.{Numbered}
 use Rattle.conduct.specs.Conduct.{after}

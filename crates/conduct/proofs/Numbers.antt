@@ -16,9 +16,10 @@ use Rattle.record.specs.declared.Device.{Device}
 use Rattle.record.specs.Changes.{unsaidAt, endedAs}
 use Rattle.session.specs.Session.{acknowledges, accepts}
 use Rattle.acknowledge.specs.Acknowledge.{emptied, sessionAfter}
-use Rattle.turn.specs.declared.Turn.{Turn}
-use Rattle.turn.specs.Turns.{saying}
-use Rattle.link.specs.Link.{released, rejected, judgedFrame}
+use Rattle.station.specs.declared.Turn.{Turn}
+use Rattle.station.specs.Turns.{saying}
+use Rattle.states.specs.States.{released, rejected}
+use Rattle.link.specs.Link.{judgedFrame}
 use Rattle.link.specs.Frames.{Own, Numbered}
 use Rattle.link.proofs.Cases.{judged-cases}
 use Rattle.conduct.specs.Conduct.{after, AnyAccepted, numberIn, Acknowledging}

@@ -12,8 +12,9 @@ use Rattle.record.specs.declared.Session.{Session}
 use Rattle.record.specs.declared.Link.the-variants.{Connected}
 use Rattle.record.specs.declared.Device.{Device}
 use Rattle.session.specs.Session.{goodNumber}
-use Rattle.turn.specs.Turns.{saying}
-use Rattle.link.specs.Link.{released, ua, rejected, infoBy, rrBy, rnrBy, connectedBy, judgedFrame}
+use Rattle.station.specs.Turns.{saying}
+use Rattle.states.specs.States.{released, ua, rejected, infoBy, rrBy, rnrBy, connectedBy}
+use Rattle.link.specs.Link.{judgedFrame}
 use Rattle.link.specs.Frames.{controlOf, Own}
 use Rattle.conduct.proofs.Settles.{session-is}
 use Rattle.conduct.specs.Conduct.{numberIn}

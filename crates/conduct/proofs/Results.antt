@@ -27,10 +27,14 @@ use Rattle.message.specs.declared.Carried.{Carried}
 use Rattle.message.specs.declared.Reply.{Reply}
 use Rattle.message.proofs.Moves.{moved-or-not}
 use Rattle.xid.proofs.Exactly.{assignment-exactly}
-use Rattle.turn.specs.declared.Turn.{Turn}
-use Rattle.turn.specs.Turns.{saying, deviceOf, acknowledged}
-use Rattle.turn.specs.Sessions.{pend, waitingPoll, pollOf, carriedHere, repliedBy, carriedBy, informOf}
-use Rattle.turn.specs.Sessions.{informedBy, polledBy, pausedBy}
+use Rattle.station.specs.declared.Turn.{Turn}
+use Rattle.station.specs.Turns.{saying}
+use Rattle.record.specs.Changes.{deviceOf}
+use Rattle.acknowledge.specs.Acknowledge.{acknowledged}
+use Rattle.station.specs.Turns.{pend}
+use Rattle.poll.specs.Poll.{waitingPoll, pollOf}
+use Rattle.inform.specs.Inform.{carriedHere, repliedBy, carriedBy, informOf}
+use Rattle.states.specs.States.{informedBy, polledBy, pausedBy}
 use Rattle.link.specs.Link.{quiet, judgedFrame}
 use Rattle.link.specs.Frames.{hasAddress, Own, Numbered}
 use Rattle.link.proofs.Cases.{judged-cases}

@@ -14,11 +14,16 @@ use Rattle.record.specs.declared.Link.the-variants.{Connected}
 use Rattle.record.specs.declared.Device.{Device}
 use Rattle.session.specs.Session.{acknowledges, goodNumber, accepts, taken}
 use Rattle.session.proofs.Numbers.{acknowledges-exactly}
-use Rattle.station.specs.Station.{answersWith, indicates, awaiting, heeded}
+use Rattle.station.specs.Station.{answersWith, awaiting}
+use Rattle.poll.specs.Poll.{indicates}
+use Rattle.inform.specs.Inform.{heeded}
 use Rattle.acknowledge.specs.Acknowledge.{emptied, sessionAfter}
-use Rattle.turn.specs.declared.Turn.{Turn}
-use Rattle.turn.specs.Turns.{saying, acknowledged, deviceOf}
-use Rattle.turn.specs.Sessions.{repliedBy, informedBy, polledBy, pausedBy}
+use Rattle.station.specs.declared.Turn.{Turn}
+use Rattle.station.specs.Turns.{saying}
+use Rattle.acknowledge.specs.Acknowledge.{acknowledged}
+use Rattle.record.specs.Changes.{deviceOf}
+use Rattle.inform.specs.Inform.{repliedBy}
+use Rattle.states.specs.States.{informedBy, polledBy, pausedBy}
 use Rattle.link.specs.Link.{judgedFrame}
 use Rattle.link.specs.Frames.{Numbered}
 use Rattle.conduct.proofs.Settles.{settled-link, address-kept, r-kept, info-is, rr-is, rnr-is}

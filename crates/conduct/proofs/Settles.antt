@@ -19,9 +19,11 @@ use Rattle.record.specs.declared.Device.{Device}
 use Rattle.record.specs.Changes.{unsaidAt}
 use Rattle.session.specs.Session.{pends, acknowledges}
 use Rattle.acknowledge.specs.Acknowledge.{emptied, settled, retold, sessionAfter, stationAfter}
-use Rattle.turn.specs.Turns.{acknowledged, deviceOf}
-use Rattle.turn.specs.Sessions.{informedBy, polledBy, pausedBy}
-use Rattle.link.specs.Link.{infoBy, rrBy, rnrBy, connectedBy, linkedBy, judgedFrame}
+use Rattle.acknowledge.specs.Acknowledge.{acknowledged}
+use Rattle.record.specs.Changes.{deviceOf}
+use Rattle.states.specs.States.{informedBy, polledBy, pausedBy}
+use Rattle.states.specs.States.{infoBy, rrBy, rnrBy, connectedBy, linkedBy}
+use Rattle.link.specs.Link.{judgedFrame}
 use Rattle.link.specs.Frames.{controlOf, Own, Numbered}
 use Rattle.link.proofs.Cases.{own-is}
 

@@ -23,17 +23,23 @@ use Rattle.record.specs.Changes.{unsaidAt, endedAs}
 use Rattle.record.proofs.Stays.{sound, end-stays}
 use Rattle.session.specs.Session.{taken}
 use Rattle.session.proofs.Numbers.{accepts-exactly}
-use Rattle.station.specs.Station.{answersWith, indicates, awaiting, heeded, toTell}
+use Rattle.station.specs.Station.{answersWith, awaiting}
+use Rattle.poll.specs.Poll.{indicates, toTell}
+use Rattle.inform.specs.Inform.{heeded}
 use Rattle.acknowledge.specs.Acknowledge.{sessionAfter}
 use Rattle.xid.specs.Match.{readOf}
 use Rattle.xid.specs.declared.Xid as xids
 use Rattle.xid.proofs.Exactly.{assignment-exactly}
 use Rattle.payload.specs.Payloads.{messageOf, successOf, failureOf, resultOf, payloadOf}
 use Rattle.message.proofs.Kept.{none-stays, answer-stays}
-use Rattle.turn.specs.declared.Turn.{Turn}
-use Rattle.turn.specs.Turns.{saying, acknowledged, deviceOf}
-use Rattle.turn.specs.Sessions.{pollOf, informOf, repliedBy, informedBy, polledBy, pausedBy}
-use Rattle.link.specs.Link.{begun, released, rejected}
+use Rattle.station.specs.declared.Turn.{Turn}
+use Rattle.station.specs.Turns.{saying}
+use Rattle.acknowledge.specs.Acknowledge.{acknowledged}
+use Rattle.record.specs.Changes.{deviceOf}
+use Rattle.poll.specs.Poll.{pollOf}
+use Rattle.inform.specs.Inform.{informOf, repliedBy}
+use Rattle.states.specs.States.{informedBy, polledBy, pausedBy}
+use Rattle.states.specs.States.{begun, released, rejected}
 use Rattle.link.specs.Frames.{hasAddress}
 use Rattle.link.proofs.Cases.{judged-cases}
 use Rattle.conduct.specs.Conduct.{after}

@@ -20,10 +20,12 @@ use Rattle.record.specs.Changes.{unsaidAt, endedAs}
 use Rattle.session.specs.Session.{acknowledges, accepts}
 use Rattle.acknowledge.specs.Acknowledge.{sessionAfter, stationAfter, settled, retold, toldAfter}
 use Rattle.acknowledge.proofs.Settled.{station-kept, told-said}
-use Rattle.turn.specs.declared.Turn.{Turn}
-use Rattle.turn.specs.Turns.{saying, deviceOf, acknowledged}
-use Rattle.turn.specs.Sessions.{informedBy, polledBy, pausedBy}
-use Rattle.link.specs.Link.{begun, released, rejected}
+use Rattle.station.specs.declared.Turn.{Turn}
+use Rattle.station.specs.Turns.{saying}
+use Rattle.record.specs.Changes.{deviceOf}
+use Rattle.acknowledge.specs.Acknowledge.{acknowledged}
+use Rattle.states.specs.States.{informedBy, polledBy, pausedBy}
+use Rattle.states.specs.States.{begun, released, rejected}
 use Rattle.link.specs.Frames.{Numbered}
 use Rattle.link.proofs.Cases.{judged-cases}
 use Rattle.conduct.specs.Conduct.{after}

@@ -10,13 +10,17 @@ use Rattle.antenna.specs.Motions.{waitingOf, moves}
 use Rattle.record.specs.declared.Session.{Session}
 use Rattle.record.specs.declared.Device.{Device}
 use Rattle.session.specs.Session.{pends, accepts, taken}
-use Rattle.station.specs.Station.{resent, answersWith, indicates, toTell}
+use Rattle.station.specs.Station.{resent, answersWith}
+use Rattle.poll.specs.Poll.{indicates, toTell}
 use Rattle.payload.specs.Payloads.{payloadOf, resultOf}
 use Rattle.message.specs.declared.Reply.{Reply}
-use Rattle.turn.specs.declared.Turn.{Turn}
-use Rattle.turn.specs.Turns.{saying, deviceOf}
-use Rattle.turn.specs.Sessions.{pend, ready, idlePoll, waitingPoll, pollOf, carriedHere, repliedBy, carriedBy}
-use Rattle.turn.specs.Sessions.{informOf}
+use Rattle.station.specs.declared.Turn.{Turn}
+use Rattle.station.specs.Turns.{saying}
+use Rattle.record.specs.Changes.{deviceOf}
+use Rattle.station.specs.Turns.{pend, ready}
+use Rattle.poll.specs.Poll.{idlePoll, waitingPoll, pollOf}
+use Rattle.inform.specs.Inform.{carriedHere, repliedBy, carriedBy}
+use Rattle.inform.specs.Inform.{informOf}
 
 -- the device d in its session s, the acknowledged answer being removed
 module _ (d : Device) (s : Session) (P : Turn → Type 0) where

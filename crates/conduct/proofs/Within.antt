@@ -15,7 +15,8 @@ use Rattle.record.specs.Allowed.{stationAllowed, owedAllowed, allowedDevice}
 use Rattle.record.proofs.Stays.{sound, allowed-by}
 use Rattle.session.specs.Session.{acknowledges, taken}
 use Rattle.acknowledge.specs.Acknowledge.{emptied, settled, sessionAfter, stationAfter}
-use Rattle.turn.specs.Turns.{acknowledged, deviceOf}
+use Rattle.acknowledge.specs.Acknowledge.{acknowledged}
+use Rattle.record.specs.Changes.{deviceOf}
 use Rattle.conduct.proofs.Settles.{address-kept, settled-link}
 
 pub record Within (d : Device) (s : Session) : Type 0 where

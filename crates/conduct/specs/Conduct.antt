@@ -28,11 +28,11 @@ use Rattle.record.specs.declared.Device.{Device}
 use Rattle.record.specs.declared.Event.{Event}
 use Rattle.record.specs.Changes.{happened}
 use Rattle.session.specs.Session.{acknowledges, accepts}
-use Rattle.station.specs.Station.{heeded}
+use Rattle.inform.specs.Inform.{heeded}
 use Rattle.acknowledge.specs.Acknowledge.{sessionAfter, stationAfter}
 use Rattle.message.specs.Messages.{askedOf}
 use Rattle.message.proofs.Moves.{Due}
-use Rattle.turn.specs.Sessions.{ready}
+use Rattle.station.specs.Turns.{ready}
 use Rattle.link.specs.Link.{judgedFrame}
 use Rattle.link.specs.Frames.{Numbered}
 

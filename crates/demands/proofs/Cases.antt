@@ -37,7 +37,8 @@ use Rattle.record.specs.Changes.{unsaidAt, endedAs, canBe, afterEvent, eventRow
 use Rattle.session.specs.Session.{pends, acknowledges, goodNumber, accepts, taken, vsOf, countsOf}
 use Rattle.station.specs.Station.{resent, awaiting}
 use Rattle.acknowledge.specs.Acknowledge.{sessionAfter, stationAfter}
-use Rattle.station.specs.Station.{answersWith, heeded}
+use Rattle.station.specs.Station.{answersWith}
+use Rattle.inform.specs.Inform.{heeded}
 use Rattle.params.specs.Field.{opened, triplesAfter, before, checked, allRight, rightLength, identityLong, identifiers}
 use Rattle.params.specs.Field.{noneTwice, paramsOf, valueOf, valuesOf, given, octetsIn}
 use Rattle.xid.specs.Match.{isScan, scanShape, assignmentShape, scanMatches, identityMatches, kindMatches}
@@ -47,9 +48,13 @@ use Rattle.payload.specs.Payloads.{messageOf, successOf, failureOf, resultOf, p
 use Rattle.tilt.specs.Tilts.{tiltOctets, angleOf}
 use Rattle.message.specs.Messages.{driveChecks, checks, inTable, takenBy}
 use Rattle.message.specs.Carried.{carriedOf, outcome, doneBy, replies, unanswered}
-use Rattle.turn.specs.Turns.{saying, deviceOf, acknowledged}
-use Rattle.turn.specs.Sessions.{waitingPoll, pollOf, repliedBy, carriedBy, informOf, informedBy, polledBy}
-use Rattle.link.specs.Link.{begun, released, rejected, infoBy, rrBy, connectedBy, isSnrm, assignedBy, linkedBy}
+use Rattle.station.specs.Turns.{saying}
+use Rattle.record.specs.Changes.{deviceOf}
+use Rattle.acknowledge.specs.Acknowledge.{acknowledged}
+use Rattle.poll.specs.Poll.{waitingPoll, pollOf}
+use Rattle.inform.specs.Inform.{repliedBy, carriedBy, informOf}
+use Rattle.states.specs.States.{informedBy, polledBy}
+use Rattle.states.specs.States.{begun, released, rejected, infoBy, rrBy, connectedBy, isSnrm, assignedBy, linkedBy}
 use Rattle.link.specs.Link.{quiet, ownBy, xidBy, everyoneBy, isOwn, addressedBy, controlledBy, judgedFrame, frameMost}
 use Rattle.conduct.specs.Conduct.{Meeting, frame, event, meets, run, starts}
 use Rattle.speech.specs.Speech.{pendingOctets, linkOctets, isSilent, controlBy, payloadBy, frameBy}

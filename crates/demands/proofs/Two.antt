@@ -38,8 +38,8 @@ use Rattle.xid.specs.Meaning.{Answers, Takes}
 use Rattle.xid.specs.Match.{readOf}
 use Rattle.xid.specs.declared.Xid.the-variants as xid
 use Rattle.xid.proofs.Exactly.{scan-exactly, assignment-exactly}
-use Rattle.turn.specs.Turns.{saying}
-use Rattle.link.specs.Link.{begun, newSession}
+use Rattle.station.specs.Turns.{saying}
+use Rattle.states.specs.States.{begun, newSession}
 use Rattle.link.specs.Frames.{controlOf, hasAddress}
 use Rattle.conduct.specs.Conduct.{after, starts, TiltDue, TiltStarted, occurAll, Meeting, run}
 use Rattle.conduct.proofs.Settles.{r-kept}

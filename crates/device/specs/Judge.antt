@@ -23,7 +23,7 @@ use Rattle.frame.specs.Decode.{decoded}
 use Rattle.record.specs.declared.Device.{Device}
 use Rattle.record.specs.Allowed.{allowedDevice}
 use Rattle.station.specs.declared.Say.{Say}
-use Rattle.turn.specs.declared.Turn.{Turn}
+use Rattle.station.specs.declared.Turn.{Turn}
 use Rattle.link.specs.Link.{frameMost, judgedFrame}
 use Rattle.speech.specs.Speech.{frameBy}
 use Rattle.device.specs.declared.Said.{Said}

@@ -19,10 +19,10 @@ use Rattle.session.specs.Session.{goodNumber}
 use Rattle.xid.specs.Match.{readOf}
 use Rattle.xid.specs.declared.Xid as xids
 use Rattle.station.specs.declared.Say.{Say}
-use Rattle.turn.specs.declared.Turn.{Turn}
-use Rattle.turn.specs.Turns.{saying, mute}
-use Rattle.turn.specs.Sessions.{informedBy, polledBy, pausedBy}
-use Rattle.link.specs.Link.{begun, released, ua, dm, rejected, infoBy, rrBy, rnrBy, connectedBy, isSnrm, assignedBy, linkedBy}
+use Rattle.station.specs.declared.Turn.{Turn}
+use Rattle.station.specs.Turns.{saying, mute}
+use Rattle.states.specs.States.{informedBy, polledBy, pausedBy}
+use Rattle.states.specs.States.{begun, released, ua, dm, rejected, infoBy, rrBy, rnrBy, connectedBy, isSnrm, assignedBy, linkedBy}
 use Rattle.link.specs.Link.{quiet, ownBy, xidBy, everyoneBy, isOwn, addressedBy, controlledBy, frameMost, judgedFrame}
 use Rattle.link.specs.Frames.{controlOf, hasAddress, Own, Numbered, Everyone}
 use Rattle.link.proofs.Judged.{judged-is}

@@ -7,7 +7,7 @@ use borrow.Author.Tests.{le-ltb}
 use lib.ListN.{length, getD, take, drop, length-drop}
 use lib.Seq.{take-all}
 use Rattle.record.specs.declared.Device.{Device}
-use Rattle.turn.specs.declared.Turn.{Turn}
+use Rattle.station.specs.declared.Turn.{Turn}
 use Rattle.link.specs.Link.{controlledBy, judgedFrame, frameMost}
 
 module _ (d : Device) (f : List ℕ) (two : 2 ≤ length f) (most : length f ≤ frameMost) where

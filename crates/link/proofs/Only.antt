@@ -4,7 +4,7 @@ use mathlib.Core.List.{List}
 use Prim.Native.Nat.{ℕ}
 use Rattle.octets.proofs.Only.{only}
 use Rattle.record.specs.declared.Device.{Device}
-use Rattle.turn.specs.declared.Turn.{Turn}
+use Rattle.station.specs.declared.Turn.{Turn}
 use Rattle.link.specs.Link.{judgedFrame}
 
 pub judge-frame-only : (d : Device) (f : List ℕ) {t u : Turn} → t ≡ judgedFrame d f → u ≡ judgedFrame d f → t ≡ u

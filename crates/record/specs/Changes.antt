@@ -1,5 +1,6 @@
 -- What a session's end leaves of a record, and what happens to it.
 --   unsaidAt t a l    == the station t at the address a in the link state l, with nothing pending
+--   deviceOf d t n  == the device d with the station t and the antenna n
 --   endedAs d a l   == the device d after its session's end, at the address a in the link state l
 --   canBe n e       == the event e can happen to the antenna n; afterEvent n e == the antenna then
 --   antennaHappened n e == the event e, of an antenna; happened d e == of a device
@@ -24,6 +25,9 @@ use Rattle.record.specs.declared.Event.the-variants.{Stopped, Raised, Cl
 unfoldable pub unsaidAt : Station → ℕ → Link → Station
 unsaidAt t a l =
     record { address = a; link = l; subscribed = t .subscribed; told = t .told; said = calm; reply = noReply }
+
+unfoldable pub deviceOf : Device → Station → Antenna → Device
+deviceOf d t n = record { plate = d .plate; station = t; antenna = n }
 
 unfoldable pub endedAs : Device → ℕ → Link → Device
 endedAs d a l =

@@ -1,2 +1,3 @@
 -- What the link cites of a station.
 pub mod Station
+pub mod Turns

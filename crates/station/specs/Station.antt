@@ -1,18 +1,13 @@
--- What a session does to its station. 01, "The link".
---   resent s        == what is said of a frame that is not carried out: the pending answer again, else RR
+-- What is said of a frame that is not carried out, and an answer that becomes pending. 01, "The link".
+--   resent s          == the pending answer again, else RR
+--   awaiting s p      == the session s with p pending
 --   answersWith t s p == the station t with the payload p as the pending answer of its session s
---   indicates t s a == the station t with an indication of the alarms a pending
---   heeded t s told sub == the station t in its session s, after a message
---   toTell t n      == there is something to tell, and it is subscribed
 -- Assumes nothing.
-use mathlib.Core.Bool.{Bool, cond, _&&_}
+use mathlib.Core.Bool.{cond}
 use Rattle.control.specs.Control.{infoOf, rrOf}
-use Rattle.antenna.specs.declared.Alarms.{Alarms}
-use Rattle.antenna.specs.declared.Antenna.{Antenna}
-use Rattle.antenna.specs.Alarms.{anyDiffer}
 use Rattle.record.specs.declared.Payload.{Payload}
 use Rattle.record.specs.declared.Pending.{Pending}
-use Rattle.record.specs.declared.Pending.the-variants.{Answer, Indication}
+use Rattle.record.specs.declared.Pending.the-variants.{Answer}
 use Rattle.record.specs.declared.Session.{Session}
 use Rattle.record.specs.declared.Link.the-variants.{Connected}
 use Rattle.record.specs.declared.Station.{Station}
@@ -38,29 +33,3 @@ answersWith t s p =
       said = t .said;
       reply = p;
     }
-
-unfoldable pub indicates : Station → Session → Alarms → Station
-indicates t s a =
-    record {
-      address = t .address;
-      link = Connected (awaiting s Indication);
-      subscribed = t .subscribed;
-      told = t .told;
-      said = a;
-      reply = t .reply;
-    }
-
-unfoldable pub heeded : Station → Session → Alarms → Bool → Station
-heeded t s told sub =
-    record {
-      address = t .address;
-      link = Connected s;
-      subscribed = sub;
-      told = told;
-      said = t .said;
-      reply = t .reply;
-    }
-
--- "if subscribed and there is something to tell"
-unfoldable pub toTell : Station → Antenna → Bool
-toTell t n = t .subscribed && anyDiffer (n .raised .flags) (t .told .flags)

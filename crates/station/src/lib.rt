@@ -1,9 +1,8 @@
-// A station changed by its session: what becomes pending, what is sent again, what a message leaves.
-// Assumes nothing of its caller.
+// What a device says, and the answer that becomes pending. Assumes nothing of its caller.
 ghost use mathlib.Core.Path.{_≡_};
-ghost use Rattle.station.specs.Station.{resent, awaiting, answersWith, indicates, heeded, toTell};
-use antenna::Alarms;
-use antenna::Antenna;
+ghost use Rattle.station.specs.Station.{resent, answersWith};
+ghost use Rattle.station.specs.Turns.{answering};
+use record::Device;
 use record::Link;
 use record::Payload;
 use record::Pending;
@@ -21,6 +20,12 @@ pub enum Say {
     Assigned,
 }
 
+// The device after a frame, and what it says.
+pub struct Turn {
+    pub device: Device,
+    pub say: Say,
+}
+
 // The pending answer again, else RR.
 pub fn resend(s: Session) -> Say
     ensures { λ r. ⌜ r ≡ resent s ⌝ }
@@ -36,26 +41,18 @@ pub fn resend(s: Session) -> Say
     }
 }
 
-fn awaited(s: Session, pending: Pending) -> Session
-    ensures { λ r. ⌜ r ≡ awaiting s pending ⌝ }
-{
-    Session {
-        r: s.r,
-        s: s.s,
-        pending,
-    }
-}
-
-// A payload becomes the pending answer.
-pub fn answer_with(station: Station, s: Session, payload: Payload) -> Station
+fn answered(station: Station, s: Session, payload: Payload) -> Station
     ensures { λ r. ⌜ r ≡ answersWith station s payload ⌝ }
 {
     let told = station.told;
     let said = station.said;
-    let next = awaited(s, Pending::Answer);
     Station {
         address: station.address,
-        link: Link::Connected(next),
+        link: Link::Connected(Session {
+            r: s.r,
+            s: s.s,
+            pending: Pending::Answer,
+        }),
         subscribed: station.subscribed,
         told,
         said,
@@ -63,49 +60,21 @@ pub fn answer_with(station: Station, s: Session, payload: Payload) -> Station
     }
 }
 
-// An indication becomes pending: what it says is kept.
-pub fn indicate(station: Station, s: Session, alarms: Alarms) -> Station
-    ensures { λ r. ⌜ r ≡ indicates station s alarms ⌝ }
+// A payload becomes the pending answer, and is said.
+pub fn answer(device: Device, s: Session, payload: Payload) -> Turn
+    ensures { λ r. ⌜ r ≡ answering device s payload ⌝ }
 {
-    let told = station.told;
-    let reply = station.reply;
-    let next = awaited(s, Pending::Indication);
-    Station {
-        address: station.address,
-        link: Link::Connected(next),
-        subscribed: station.subscribed,
-        told,
-        said: alarms,
-        reply,
+    let plate = device.plate;
+    let station = device.station;
+    let antenna = device.antenna;
+    Turn {
+        device: Device {
+            plate,
+            station: answered(station, s, payload),
+            antenna,
+        },
+        say: Say::Pend {
+            control: control::info(s.s, s.r),
+        },
     }
-}
-
-// The station in its session, after a message: what is told and the subscription as the message leaves them.
-pub fn heed(station: Station, s: Session, told: Alarms, subscribed: bool) -> Station
-    ensures { λ r. ⌜ r ≡ heeded station s told subscribed ⌝ }
-{
-    let said = station.said;
-    let reply = station.reply;
-    Station {
-        address: station.address,
-        link: Link::Connected(s),
-        subscribed,
-        told,
-        said,
-        reply,
-    }
-}
-
-// Whether there is something to tell, and it is subscribed.
-pub fn is_to_tell(station: Station, antenna: Antenna) -> bool
-    ensures { λ r. ⌜ r ≡ toTell station antenna ⌝ }
-{
-    let raised = antenna.raised;
-    let told = station.told;
-    let present = raised.flags;
-    let before = told.flags;
-    if station.subscribed {
-        return motor::differ(present, before);
-    }
-    false
 }

@@ -1,6 +1,6 @@
 -- `link::say` meets its promise: each way out, by the tests that lead to it. Assumes nothing.
 use Rattle.octets.proofs.Rules.{tests}
-use Rattle.turn.specs.Turns.{saying}
+use Rattle.station.specs.Turns.{saying}
 use Rattle.link.proofs.say.Statement.{statement}
 use Rattle.link.proofs.say.Tie as tie
 

@@ -1,0 +1,2 @@
+-- What an I-frame does in a session.
+pub mod Inform

@@ -1,0 +1,2 @@
+-- What is proved of RR in a session beside its promise.
+pub mod Only

@@ -1,0 +1,10 @@
+-- The promise of this crate is one equation, so it allows one result. Assumes nothing.
+use mathlib.Core.Path.{_≡_}
+use Rattle.octets.proofs.Only.{only}
+use Rattle.record.specs.declared.Session.{Session}
+use Rattle.record.specs.declared.Device.{Device}
+use Rattle.station.specs.declared.Turn.{Turn}
+use Rattle.poll.specs.Poll.{pollOf}
+
+pub poll-only : (d : Device) (s : Session) {t u : Turn} → t ≡ pollOf d s → u ≡ pollOf d s → t ≡ u
+poll-only d s = only

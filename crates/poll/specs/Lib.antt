@@ -1,0 +1,2 @@
+-- What RR gets in a session.
+pub mod Poll

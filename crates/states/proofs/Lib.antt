@@ -1,0 +1,2 @@
+-- What is proved of the link states beside the promise.
+pub mod Only

@@ -1,0 +1,16 @@
+-- `states::release` meets its promise: each way out, by the tests that lead to it. Assumes nothing.
+use Rattle.states.specs.States.{released}
+use Rattle.octets.proofs.Rules.{tests}
+use borrow.Author.Needs.{needs}
+use Rattle.states.proofs.release.Statement.{statement}
+use Rattle.states.proofs.release.Tie as tie
+
+ended-requires : tie.Need-ended-requires
+ended-requires c κs = search needs
+
+returns : tie.Need-returns
+unfolding released
+returns c = search tests
+
+pub release-spec : {M : Type 1} → statement M
+release-spec = tie.close (tie.spec ended-requires returns)

@@ -1,0 +1,2 @@
+-- What a frame does in each link state.
+pub mod States

@@ -1,3 +1,0 @@
--- What the link cites of a session's turns.
-pub mod Turns
-pub mod Sessions
