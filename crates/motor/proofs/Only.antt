@@ -1,5 +1,4 @@
--- Each promise of this crate allows one result. `differ` is an equation and does so by `only`; an event by
--- `changes-only`. Assumes nothing.
+-- Each promise of this crate allows one result. Assumes nothing.
 use mathlib.Core.Path.{_≡_}
 use mathlib.Core.Bool.{Bool}
 use Prim.Native.Nat.{ℕ}

@@ -1,11 +1,10 @@
-// What happens to a drive: its motor stops, an alarm rises or falls; and whether two rows of alarm flags differ. The
-// definitions and the laws are those of `antenna`. Assumes nothing of its caller.
+// What happens to a drive: its motor stops, an alarm rises or falls. The definitions and the laws are those of
+// `antenna`. Assumes nothing of its caller.
 // Headline: a stop makes a result that waits exactly where one was owed, and a success exactly if it is at the tilt asked
 // (antenna's proofs/Movements.antt).
 ghost use mathlib.Core.Path.{_≡_};
 ghost use Rattle.refusal.specs.Answer.{Changes};
 ghost use Rattle.antenna.specs.Angles.{atMost, sameAs};
-ghost use Rattle.antenna.specs.Alarms.{differs, anyDiffer};
 ghost use Rattle.antenna.specs.Motions.{runs};
 ghost use Rattle.antenna.specs.Events.{restedOf, stoppedAt, alarmedOf};
 use antenna::Angle;
@@ -14,26 +13,6 @@ use antenna::Changed;
 use antenna::Motion;
 use refusal::Outcome;
 use refusal::Refusal;
-
-fn differs(a: bool, b: bool) -> bool
-    ensures { λ r. ⌜ r ≡ differs a b ⌝ }
-{
-    if a { !b } else { b }
-}
-
-// Whether two rows of alarm flags differ somewhere.
-pub fn differ(a: [bool; 6], b: [bool; 6]) -> bool
-    ensures { λ r. ⌜ r ≡ anyDiffer a b ⌝ }
-{
-    let mut i = 0;
-    while i < 6 {
-        if differs(a[i], b[i]) {
-            return true;
-        }
-        i += 1;
-    }
-    false
-}
 
 fn at_most(a: Angle, b: Angle) -> bool
     ensures { λ r. ⌜ r ≡ atMost a b ⌝ }
