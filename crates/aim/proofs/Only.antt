@@ -1,10 +1,14 @@
--- Each promise of this crate allows one result: those that are equations do so by `only`. Assumes nothing.
+-- Each promise of this crate allows one result. Assumes nothing.
 use mathlib.Core.Path.{_≡_}
+use mathlib.Core.Bool.{Bool}
 use Rattle.octets.proofs.Only.{only}
 use Rattle.antenna.specs.declared.Angle.{Angle}
 use Rattle.antenna.specs.declared.Antenna.{Antenna}
 use Rattle.antenna.specs.declared.Aim.{Aim}
-use Rattle.antenna.specs.Motions.{aimOf, started}
+use Rattle.antenna.specs.Motions.{inRange, aimOf, started}
+
+pub in-range-only : (n : Antenna) (t : Angle) {r q : Bool} → r ≡ inRange n t → q ≡ inRange n t → r ≡ q
+in-range-only n t = only
 
 pub aim-at-only : (n : Antenna) (t : Angle) {a b : Aim} {p q : Antenna}
     → (a ≡ aimOf n t) × (p ≡ started n t (aimOf n t)) → (b ≡ aimOf n t) × (q ≡ started n t (aimOf n t))

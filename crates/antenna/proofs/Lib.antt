@@ -2,3 +2,4 @@
 pub mod Flags
 pub mod Happenings
 pub mod Movements
+pub mod Only

@@ -1,8 +1,7 @@
 // One drive: its range, its tilt, its movement and its alarms. What is asked of it is in `aim`, what happens to it in
-// `motor`; the definitions of both and the laws about them are here. Assumes nothing of its caller.
+// `motor` and `alarms`; the definitions of all three and the laws about them are here. Assumes nothing of its caller.
 // Headline: a movement starts only where nothing moves or waits and the tilt asked is in range (proofs/Movements.antt).
 ghost use mathlib.Core.Path.{_≡_};
-ghost use Rattle.antenna.specs.Alarms.{differs, anyDiffer};
 ghost use Rattle.antenna.specs.Motions.{busyOf, owesOf, waitingOf, moves, unowedOf};
 use refusal::Outcome;
 
@@ -121,24 +120,4 @@ pub fn in_motion(antenna: Antenna, motion: Motion) -> Antenna
         motion,
         raised,
     }
-}
-
-fn differs(a: bool, b: bool) -> bool
-    ensures { λ r. ⌜ r ≡ differs a b ⌝ }
-{
-    if a { !b } else { b }
-}
-
-// Whether two rows of alarm flags differ somewhere.
-pub fn differ(a: [bool; 6], b: [bool; 6]) -> bool
-    ensures { λ r. ⌜ r ≡ anyDiffer a b ⌝ }
-{
-    let mut i = 0;
-    while i < 6 {
-        if differs(a[i], b[i]) {
-            return true;
-        }
-        i += 1;
-    }
-    false
 }

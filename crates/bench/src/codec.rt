@@ -10,28 +10,20 @@ const FRAME: Name = *b"frame.......";
 
 const LINE: Name = *b"line........";
 
-fn decode(src: &[u8], room: usize) {
-    let mut lent = [FILL; ROOM];
-    let handed = frame::decode(src, rows::front(&mut lent, room));
-    answers::say_handed(FRAME, handed);
-    answers::say_buffer(lent, room);
-}
-
-fn write(address: u8, control: u8, payload: &[u8], room: usize) {
-    let mut lent = [FILL; ROOM];
-    let handed = writer::write(address, control, payload, rows::front(&mut lent, room));
-    answers::say_handed(LINE, handed);
-    answers::say_buffer(lent, room);
-}
-
 // `decode`, else `write`.
 pub fn obey(command: usize, asked: Asked) {
     let octets = asked.octets;
     let src = rows::part(&octets, 0, asked.len as usize);
+    let mut lent = [FILL; ROOM];
     if command == 11 {
-        return decode(src, asked.values[2]);
+        let room = asked.values[2];
+        answers::say_handed(FRAME, frame::decode(src, rows::front(&mut lent, room)));
+        return answers::say_buffer(lent, room);
     }
     let address = (asked.values[1] % 256) as u8;
     let control = (asked.values[2] % 256) as u8;
-    write(address, control, src, asked.values[4]);
+    let room = asked.values[4];
+    let handed = writer::write(address, control, src, rows::front(&mut lent, room));
+    answers::say_handed(LINE, handed);
+    answers::say_buffer(lent, room);
 }

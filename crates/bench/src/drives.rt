@@ -20,17 +20,6 @@ pub fn angle(pattern: usize) -> Angle {
     tilt::angle((pattern % 256) as u8, (pattern / 256 % 256) as u8)
 }
 
-fn span_of(values: [usize; 8]) -> Span {
-    let lowest = angle(values[5]);
-    let highest = angle(values[6]);
-    let present = angle(values[7]);
-    Span {
-        lowest,
-        highest,
-        present,
-    }
-}
-
 // The four texts lie one behind the other, and each word's value is where its text ends.
 pub fn fresh(asked: Asked) -> Changed {
     let octets = asked.octets;
@@ -41,7 +30,11 @@ pub fn fresh(asked: Asked) -> Changed {
         rows::part(s, values[1], values[2]),
         rows::part(s, values[2], values[3]),
         rows::part(s, values[3], values[4]),
-        span_of(values),
+        Span {
+            lowest: angle(values[5]),
+            highest: angle(values[6]),
+            present: angle(values[7]),
+        },
     )
 }
 

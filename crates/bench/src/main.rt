@@ -13,8 +13,6 @@ mod shown;
 use answers::Name;
 use mast::MOST;
 use mast::Row;
-use record::Device;
-use record::Span;
 use refusal::Outcome;
 use scan::Scan;
 use script::Asked;
@@ -44,14 +42,8 @@ struct Bench {
 }
 
 // No device, so the blank record of a refusal everywhere; a scan that can ask nothing.
-fn empty(text: &[u8]) -> Bench {
-    let level = drives::angle(0);
-    let span = Span {
-        lowest: level,
-        highest: level,
-        present: level,
-    };
-    let refused = fresh::fresh(text, text, text, text, span);
+fn empty(line: &[u8]) -> Bench {
+    let refused = drives::fresh(script::read_line(line, 0));
     let device = refused.device;
     Bench {
         row: Row {
@@ -72,15 +64,6 @@ fn name_of(fault: Fault) -> Name {
         Fault::Room => ROOM,
         Fault::Device => DEVICE,
     }
-}
-
-// A command to a device; a number that is read is one of the row's, counted from 1.
-fn tell_device(devices: [Device; MOST], command: usize, asked: Asked) -> [Device; MOST] {
-    let mut next = devices;
-    let place = (asked.values[1] % MOST + (MOST - 1)) % MOST;
-    let device = drives::obey(devices[place], command, asked);
-    next[place] = device;
-    next
 }
 
 // A 33rd device is a fault of the line, found once the line itself has none; a refused one takes no number.
@@ -115,7 +98,8 @@ fn sweep(row: Row, limit: usize) -> Row {
     row
 }
 
-// The commands to the row: the first six to one device, then `device`, then `scan`.
+// The commands to the row: the first six to one device, by its number of the row's, counted from 1; then `device`, then
+// `scan`.
 fn obey_row(row: Row, command: usize, asked: Asked) -> Row {
     if command == 6 {
         return make(row, asked);
@@ -123,8 +107,10 @@ fn obey_row(row: Row, command: usize, asked: Asked) -> Row {
     if command == 7 {
         return sweep(row, asked.values[1]);
     }
-    let before = row.devices;
-    let devices = tell_device(before, command, asked);
+    let mut devices = row.devices;
+    let place = (asked.values[1] % MOST + (MOST - 1)) % MOST;
+    let device = drives::obey(devices[place], command, asked);
+    devices[place] = device;
     Row {
         devices,
         count: row.count,

@@ -4,7 +4,6 @@ use crate::answers::FILL;
 use crate::answers::Name;
 use crate::answers::ROOM;
 use crate::rows;
-use refusal::Outcome;
 use scan::Scan;
 use scan::State;
 
@@ -63,13 +62,6 @@ pub fn say_scan(scan: Scan) {
         State::Doubtful => say_found(DOUBTFUL, scan),
         State::Limit => say_stopped(LIMIT, scan),
         State::Full => say_stopped(FULL, scan),
-    }
-}
-
-pub fn say_reported(outcome: Outcome, scan: Scan) {
-    match outcome {
-        Outcome::Done => say_scan(scan),
-        Outcome::Refused(refusal) => answers::say_refused(refusal),
     }
 }
 

@@ -2,6 +2,7 @@
 use crate::answers;
 use crate::answers::Name;
 use crate::scanned;
+use refusal::Outcome;
 use scan::Scan;
 use script::Asked;
 
@@ -11,7 +12,10 @@ fn report(scan: Scan, heard: bool) -> Scan {
     let reported = scan::report(scan, heard);
     let outcome = reported.outcome;
     let scan = reported.scan;
-    scanned::say_reported(outcome, scan);
+    match outcome {
+        Outcome::Done => scanned::say_scan(scan),
+        Outcome::Refused(refusal) => answers::say_refused(refusal),
+    }
     scan
 }
 

@@ -3,7 +3,6 @@ use crate::answers;
 use crate::answers::Name;
 use crate::rows;
 use antenna::Alarms;
-use antenna::Antenna;
 use antenna::Motion;
 use record::Device;
 use record::Link;
@@ -43,14 +42,10 @@ fn say_link(link: Link) {
     }
 }
 
-fn say_payload(mark: u8, payload: Payload) {
+// The octets of a payload, from a place on.
+fn say_payload(mark: u8, payload: Payload, from: usize) {
     let octets = payload.octets;
-    answers::say_hex(mark, rows::part(&octets, 0, payload.len));
-}
-
-fn say_indication(said: Alarms, told: Alarms) {
-    answers::say(INDICATION);
-    say_payload(b':', report::indication(said, told));
+    answers::say_hex(mark, rows::part(&octets, from, payload.len));
 }
 
 fn pending_of(link: Link) -> Pending {
@@ -67,8 +62,11 @@ fn say_pending(pending: Pending, station: Station) {
     let told = station.told;
     match pending {
         Pending::Nothing => answers::say(NOTHING),
-        Pending::Answer => say_payload(b' ', reply),
-        Pending::Indication => say_indication(said, told),
+        Pending::Answer => say_payload(b' ', reply, 0),
+        Pending::Indication => {
+            answers::say(INDICATION);
+            say_payload(b':', report::indication(said, told), 0);
+        }
     }
 }
 
@@ -90,34 +88,24 @@ fn say_drive(motion: Motion) {
 
 // The codes stand in the answer to alarm status behind its code, its length and its return code.
 fn say_alarms(alarms: Alarms) {
-    let told = report::alarms(alarms);
-    let octets = told.octets;
-    answers::say_hex(b' ', rows::part(&octets, 4, told.len));
-}
-
-fn say_station(station: Station) {
-    let link = station.link;
-    answers::say(STATE);
-    say_link(link);
-    answers::say_number(b' ', station.address as usize);
-    say_pending(pending_of(link), station);
-}
-
-fn say_antenna(antenna: Antenna) {
-    let motion = antenna.motion;
-    let tilt = antenna.tilt;
-    let raised = antenna.raised;
-    say_drive(motion);
-    answers::say_tilt(b' ', tilt);
-    say_alarms(raised);
+    say_payload(b' ', report::alarms(alarms), 4);
 }
 
 pub fn show(device: Device) {
     let station = device.station;
     let antenna = device.antenna;
+    let link = station.link;
     let told = station.told;
-    say_station(station);
-    say_antenna(antenna);
+    let motion = antenna.motion;
+    let tilt = antenna.tilt;
+    let raised = antenna.raised;
+    answers::say(STATE);
+    say_link(link);
+    answers::say_number(b' ', station.address as usize);
+    say_pending(pending_of(link), station);
+    say_drive(motion);
+    answers::say_tilt(b' ', tilt);
+    say_alarms(raised);
     say_alarms(told);
     answers::say_number(b' ', station.subscribed as usize);
 }

@@ -16,8 +16,8 @@ fn antenna_after(antenna: Antenna, event: Event) -> antenna::Changed
 {
     match event {
         Event::Stopped(t) => motor::stopped(antenna, t),
-        Event::Raised(alarm) => motor::alarmed(antenna, alarm, true),
-        Event::Cleared(alarm) => motor::alarmed(antenna, alarm, false),
+        Event::Raised(alarm) => alarms::alarmed(antenna, alarm, true),
+        Event::Cleared(alarm) => alarms::alarmed(antenna, alarm, false),
     }
 }
 

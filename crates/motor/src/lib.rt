@@ -1,12 +1,11 @@
-// What happens to a drive: its motor stops, an alarm rises or falls. The definitions and the laws are those of
-// `antenna`. Assumes nothing of its caller.
+// A drive's motor stops. The definitions and the laws are those of `antenna`. Assumes nothing of its caller.
 // Headline: a stop makes a result that waits exactly where one was owed, and a success exactly if it is at the tilt asked
 // (antenna's proofs/Movements.antt).
 ghost use mathlib.Core.Path.{_≡_};
 ghost use Rattle.refusal.specs.Answer.{Changes};
 ghost use Rattle.antenna.specs.Angles.{atMost, sameAs};
 ghost use Rattle.antenna.specs.Motions.{runs};
-ghost use Rattle.antenna.specs.Events.{restedOf, stoppedAt, alarmedOf};
+ghost use Rattle.antenna.specs.Events.{restedOf, stoppedAt};
 use antenna::Angle;
 use antenna::Antenna;
 use antenna::Changed;
@@ -75,37 +74,6 @@ pub fn stopped(antenna: Antenna, t: Angle) -> Changed
                 antenna,
             };
         }
-    }
-    Changed {
-        outcome: Outcome::Refused(Refusal::CannotBe),
-        antenna,
-    }
-}
-
-// An alarm rises (`on`) or falls.
-pub fn alarmed(antenna: Antenna, code: u8, on: bool) -> Changed
-    ensures { λ r. ⌜ Changes (alarmedOf antenna code on) antenna (r .outcome) (r .antenna) ⌝ }
-{
-    let codes = antenna::CODES;
-    let place = octets::find(code, &codes);
-    if place < 6 {
-        let lowest = antenna.lowest;
-        let highest = antenna.highest;
-        let tilt = antenna.tilt;
-        let motion = antenna.motion;
-        let mut raised = antenna.raised;
-        raised.flags[place] = on;
-        let next = Antenna {
-            lowest,
-            highest,
-            tilt,
-            motion,
-            raised,
-        };
-        return Changed {
-            outcome: Outcome::Done,
-            antenna: next,
-        };
     }
     Changed {
         outcome: Outcome::Refused(Refusal::CannotBe),

@@ -23,7 +23,7 @@ fn is_to_tell(station: Station, antenna: Antenna) -> bool
     let present = raised.flags;
     let before = told.flags;
     if station.subscribed {
-        return antenna::differ(present, before);
+        return alarms::differ(present, before);
     }
     false
 }

@@ -155,7 +155,7 @@ fn pending_allowed(station: Station, pending: Pending) -> bool
             let told = station.told;
             let now = said.flags;
             let then = told.flags;
-            antenna::differ(now, then)
+            alarms::differ(now, then)
         }
     }
 }

@@ -3,4 +3,5 @@ mod WordLaws
 mod ValueLaws
 mod LineLaws
 pub mod Only
+pub mod Room
 pub mod Examples

@@ -2,3 +2,4 @@
 pub mod Words
 pub mod Values
 pub mod Script
+pub mod Room

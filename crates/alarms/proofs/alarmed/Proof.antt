@@ -1,10 +1,10 @@
--- `motor::alarmed` meets its promise: each way out, by the tests that lead to it. Assumes nothing.
+-- `alarms::alarmed` meets its promise: each way out, by the tests that lead to it. Assumes nothing.
 use borrow.Author.Needs.{needs}
 use Rattle.refusal.specs.declared.Refusal.the-variants.{CannotBe}
 use Rattle.refusal.proofs.Answers.{unchanged, changed}
 use Rattle.antenna.proofs.Happenings.{known, unknown}
-use Rattle.motor.proofs.alarmed.Statement.{statement}
-use Rattle.motor.proofs.alarmed.Tie as tie
+use Rattle.alarms.proofs.alarmed.Statement.{statement}
+use Rattle.alarms.proofs.alarmed.Tie as tie
 
 slice-aggregate-find : tie.Need-slice-aggregate-find
 slice-aggregate-find c = search needs
