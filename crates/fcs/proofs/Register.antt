@@ -2,11 +2,12 @@
 -- Assumes nothing.
 use mathlib.Core.Path.{_≡_, refl, sym, ap, _∙_}
 use mathlib.Core.List.{List, [], _∷_, _++_}
-use Prim.Native.Nat.{ℕ, zero, suc, _+_, _*_, _/_, _%_, _^_, _<_, _≤_}
+use Prim.Native.Nat.{ℕ, zero, suc, _+_, _-_, _*_, _/_, _%_, _^_, _<_, _≤_}
 use native.Mathlib.Omega.{arith}
 use lib.Bits.{bitXor, xor-lt, xor-comm, xor-shifted}
 use lib.Dec.{lit<}
-use lib.ListN.{length, getD, drop, drop-of-length-le}
+use lib.ListN.{length, getD, take, drop, length-drop, drop-of-length-le}
+use lib.Seq.{take-all}
 use Rattle.octets.specs.Octets.{Octets, lowOf, highOf, pairOf}
 use Rattle.octets.proofs.Rest.{rest}
 use Rattle.fcs.specs.Check.{polynomial, bitStep, bitSteps, octetStep, registerAfter, checkOf, Remainders}
@@ -24,17 +25,23 @@ two-on r a b h =
     ∙ xor-assoc (b * 2 ^ 8) r a in
     ap (bitSteps 8) above ∙ comes-down 8 b (bitXor r a) ∙ xor-comm b (bitSteps 8 (bitXor r a))
 
+pub register-both : (r a b : ℕ) {p q t : ℕ} → a < 256 → p ≡ pairOf a b → q ≡ bitSteps 8 (bitXor r p) → t ≡ bitSteps 8 q
+    → t ≡ registerAfter r (a ∷ b ∷ [])
+unfolding registerAfter octetStep
+register-both r a b h e f g = g ∙ ap (bitSteps 8) (f ∙ rw e (two-on r a b h))
+
 -- a loop that goes through s by i: two octets more, the last one, and the end
 module _ (s : List ℕ) (i r : ℕ) {w : ℕ} (v : registerAfter r (drop i s) ≡ w) where
-  pub register-two : {p q t : ℕ} → i + 1 < length s → getD s i 0 < 256 → p ≡ pairOf (getD s i 0) (getD s (i + 1) 0)
-      → q ≡ bitSteps 8 (bitXor r p) → t ≡ bitSteps 8 q → registerAfter t (drop (i + 2) s) ≡ w
-  unfolding registerAfter octetStep
-  register-two h b e f g =
+  pub register-two : (j k : ℕ) {t : ℕ} → j ≡ i + 1 → k ≡ i + 2 → j < length s
+      → t ≡ registerAfter r (getD s i 0 ∷ getD s j 0 ∷ []) → registerAfter t (drop k s) ≡ w
+  unfolding registerAfter
+  register-two j k d e h f =
       let n : i + 1 + 1 ≡ i + 2 = omega arith in
-      let second : drop (i + 1) s ≡ getD s (i + 1) 0 ∷ drop (i + 2) s = rw n at (rest s (i + 1) h) in
+      let g : i + 1 < length s = omega arith in
+      let second : drop (i + 1) s ≡ getD s (i + 1) 0 ∷ drop (i + 2) s = rw n at (rest s (i + 1) g) in
       let both : drop i s ≡ getD s i 0 ∷ getD s (i + 1) 0 ∷ drop (i + 2) s =
       rest s i (omega arith) ∙ ap (λ (l : List ℕ). getD s i 0 ∷ l) second in
-      rw (g, f, e, two-on r (getD s i 0) (getD s (i + 1) 0) b) (sym (ap (registerAfter r) both) ∙ v)
+      rw (f, d, e) (sym (ap (registerAfter r) both) ∙ v)
 
   pub register-last : {t : ℕ} → i < length s → length s ≤ i + 1 → t ≡ bitSteps 8 (bitXor r (getD s i 0)) → t ≡ w
   unfolding registerAfter octetStep
@@ -45,6 +52,23 @@ module _ (s : List ℕ) (i r : ℕ) {w : ℕ} (v : registerAfter r (drop i s) �
   pub register-done : length s ≤ i → r ≡ w
   unfolding registerAfter
   register-done h = sym (ap (registerAfter r) (drop-of-length-le s h)) ∙ v
+
+  -- what is left goes on from the register as it is
+  pub register-rest : {t : ℕ} → t ≡ registerAfter r (take (length s - i) (drop i s)) → t ≡ w
+  register-rest e =
+      e ∙ ap (registerAfter r) (take-all (length s - i) (drop i s) (omega (arith, length-drop i s))) ∙ v
+
+-- eight octets more
+pub register-eight : (s : List ℕ) (i r : ℕ) {w a b c d : ℕ} → registerAfter r (drop i s) ≡ w → i + 7 < length s
+    → a ≡ registerAfter r (getD s i 0 ∷ getD s (i + 1) 0 ∷ [])
+    → b ≡ registerAfter a (getD s (i + 2) 0 ∷ getD s (i + 3) 0 ∷ [])
+    → c ≡ registerAfter b (getD s (i + 4) 0 ∷ getD s (i + 5) 0 ∷ [])
+    → d ≡ registerAfter c (getD s (i + 6) 0 ∷ getD s (i + 7) 0 ∷ []) → registerAfter d (drop (i + 8) s) ≡ w
+register-eight s i r {a = a} {b = b} {c = c} v h e f g k =
+    let two = register-two s i r v (i + 1) (i + 2) refl refl (omega arith) e in
+    let four = register-two s (i + 2) a two (i + 3) (i + 4) (omega arith) (omega arith) (omega arith) f in
+    let six = register-two s (i + 4) b four (i + 5) (i + 6) (omega arith) (omega arith) (omega arith) g in
+    register-two s (i + 6) c six (i + 7) (i + 8) (omega arith) (omega arith) (omega arith) k
 
 -- octets in two runs: the second goes on from the register of the first
 pub register-append : (s t : List ℕ) (r : ℕ) → registerAfter r (s ++ t) ≡ registerAfter (registerAfter r s) t

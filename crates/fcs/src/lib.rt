@@ -4,6 +4,7 @@
 mod table;
 
 ghost use mathlib.Core.Path.{_≡_};
+ghost use mathlib.Core.List.{[], _∷_};
 ghost use Rattle.fcs.specs.Check.{bitSteps, registerAfter, checkOf, Remainders};
 
 // The register before the first octet.
@@ -17,8 +18,16 @@ fn eight_on(table: &[u16; 256], x: u16) -> u16
     (x / 256) ^ table[(x % 256) as usize]
 }
 
+// The register `r` two octets on: they are one number, of which the second comes down with the register.
+fn two_on(table: &[u16; 256], r: u16, a: u8, b: u8) -> u16
+    requires { ⌜ Remainders 8 (now table) ⌝ }
+    ensures { λ x. ⌜ x ≡ registerAfter r (a ∷ b ∷ []) ⌝ }
+{
+    eight_on(table, eight_on(table, r ^ octets::pair(a, b)))
+}
+
 // The register after the octets of `s`, from `register` on: two octets a turn, and the last one of an odd number.
-fn run(table: &[u16; 256], register: u16, s: &[u8]) -> u16
+fn run_by_two(table: &[u16; 256], register: u16, s: &[u8]) -> u16
     requires { ⌜ Remainders 8 (now table) ⌝ }
     ensures { λ r. ⌜ r ≡ registerAfter register (now (s .entry)) ⌝ }
 {
@@ -26,14 +35,31 @@ fn run(table: &[u16; 256], register: u16, s: &[u8]) -> u16
     let mut i = 0;
     let pairs = s.len() / 2 * 2;
     while i < pairs {
-        let x = r ^ octets::pair(s[i], s[i + 1]);
-        r = eight_on(table, eight_on(table, x));
+        r = two_on(table, r, s[i], s[i + 1]);
         i += 2;
     }
     if i < s.len() {
         return eight_on(table, r ^ (s[i] as u16));
     }
     r
+}
+
+// The same, eight octets a turn, and what is left by two.
+fn run(table: &[u16; 256], register: u16, s: &[u8]) -> u16
+    requires { ⌜ Remainders 8 (now table) ⌝ }
+    ensures { λ r. ⌜ r ≡ registerAfter register (now (s .entry)) ⌝ }
+{
+    let mut r = register;
+    let mut i = 0;
+    let whole = s.len() / 8 * 8;
+    while i < whole {
+        let two = two_on(table, r, s[i], s[i + 1]);
+        let four = two_on(table, two, s[i + 2], s[i + 3]);
+        let six = two_on(table, four, s[i + 4], s[i + 5]);
+        r = two_on(table, six, s[i + 6], s[i + 7]);
+        i += 8;
+    }
+    run_by_two(table, r, &s[i..])
 }
 
 // The register after the octets of `s`, from `register` on.
