@@ -1,4 +1,4 @@
--- RR in a session. 01, "The link": "RR gets the pending answer, else a waiting tilt result, else, if subscribed and
+-- RR in a session. 01, "The link": "RR gets the pending answer; else a waiting tilt result; else, if subscribed and
 -- there is something to tell, an alarm indication; else RR."
 --   indicates t s a == the station t with an indication of the alarms a pending in its session s
 --   indicating d s  == the device d, with an indication of its alarms pending, which it says
