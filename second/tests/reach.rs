@@ -2,6 +2,7 @@
 //! counted and must come often enough. `--nocapture` shows the counts.
 
 use std::collections::{BTreeMap, BTreeSet};
+use std::thread;
 
 use second::bench::Bench;
 use second::generator::generate;
@@ -23,6 +24,15 @@ struct Tally {
 impl Tally {
     fn count(&mut self, kind: impl Into<String>) {
         *self.counts.entry(kind.into()).or_default() += 1;
+    }
+
+    fn add(&mut self, other: Tally) {
+        for (kind, count) in other.counts {
+            *self.counts.entry(kind).or_default() += count;
+        }
+        self.codes.extend(other.codes);
+        self.controls.extend(other.controls);
+        self.numbers.extend(other.numbers);
     }
 
     fn script(&mut self, seed: u64, lines: usize) {
@@ -500,12 +510,29 @@ const OUTCOMES: [&str; 17] = [
     "other failure 25",
 ];
 
+/// The scripts of all seeds, on as many cores as there are.
+fn all_scripts() -> Tally {
+    let workers = thread::available_parallelism().map_or(1, |n| n.get() as u64);
+    let part = |first: u64| {
+        let mut tally = Tally::default();
+        for seed in (first..SEEDS).step_by(workers as usize) {
+            tally.script(seed, LINES);
+        }
+        tally
+    };
+    let mut all = Tally::default();
+    thread::scope(|scope| {
+        let parts: Vec<_> = (0..workers).map(|first| scope.spawn(move || part(first))).collect();
+        for part in parts {
+            all.add(part.join().unwrap());
+        }
+    });
+    all
+}
+
 #[test]
 fn everything_is_reached() {
-    let mut tally = Tally::default();
-    for seed in 0..SEEDS {
-        tally.script(seed, LINES);
-    }
+    let tally = all_scripts();
     for (kind, count) in &tally.counts {
         println!("{count:8} {kind}");
     }

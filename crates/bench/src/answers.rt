@@ -40,15 +40,13 @@ pub fn say(name: Name) {
 }
 
 pub fn end_line() {
-    let end = [b'\n'; 1];
-    say_octets(&end);
+    say_octets(b"\n");
 }
 
 pub fn say_number(mark: u8, number: usize) {
-    let marks = [mark; 1];
     let mut digits = [0u8; 20];
     let n = io::decimal(number as u64, &mut digits);
-    say_octets(&marks);
+    say_octets(&[mark]);
     say_octets(&digits[..n]);
 }
 
@@ -65,8 +63,7 @@ pub fn say_tilt(mark: u8, tilt: Angle) {
     if pattern < 32768 {
         return say_number(mark, pattern);
     }
-    let marks = [mark; 1];
-    say_octets(&marks);
+    say_octets(&[mark]);
     say_number(b'-', 65536 - pattern);
 }
 
@@ -115,15 +112,17 @@ pub fn say_refused(refusal: Refusal) {
 }
 
 // The whole of a lent output.
-pub fn say_buffer(lent: [u8; ROOM], room: usize) {
+fn say_buffer(lent: [u8; ROOM], room: usize) {
     say_hex(b' ', rows::part(&lent, 0, room));
 }
 
-pub fn say_handed(name: Name, handed: Handed) {
+// What is handed out, by its name.
+pub fn say_handed(name: Name, handed: Handed, lent: [u8; ROOM], room: usize) {
     match handed {
         Handed::Octets(n) => say_count(name, n),
         Handed::Refused(refusal) => say_refused(refusal),
     }
+    say_buffer(lent, room);
 }
 
 // A device's answer.

@@ -10,20 +10,30 @@ const FRAME: Name = *b"frame.......";
 
 const LINE: Name = *b"line........";
 
-// `decode`, else `write`.
-pub fn obey(command: usize, asked: Asked) {
-    let octets = asked.octets;
-    let src = rows::part(&octets, 0, asked.len as usize);
+fn decode(asked: Asked) {
+    let room = rows::value(asked, 2);
     let mut lent = [FILL; ROOM];
+    let src = rows::part(&asked.octets, 0, asked.len as usize);
+    let handed = frame::decode(src, rows::front(&mut lent, room));
+    answers::say_handed(FRAME, handed, lent, room);
+}
+
+fn write(asked: Asked) {
+    let address = (rows::value(asked, 1) % 256) as u8;
+    let control = (rows::value(asked, 2) % 256) as u8;
+    let room = rows::value(asked, 4);
+    let mut lent = [FILL; ROOM];
+    let payload = rows::part(&asked.octets, 0, asked.len as usize);
+    let handed = writer::write(address, control, payload, rows::front(&mut lent, room));
+    answers::say_handed(LINE, handed, lent, room);
+}
+
+// The commands at the places 11 and 12.
+pub fn obey(command: usize, asked: Asked) {
     if command == 11 {
-        let room = asked.values[2];
-        answers::say_handed(FRAME, frame::decode(src, rows::front(&mut lent, room)));
-        return answers::say_buffer(lent, room);
+        return decode(asked);
     }
-    let address = (asked.values[1] % 256) as u8;
-    let control = (asked.values[2] % 256) as u8;
-    let room = asked.values[4];
-    let handed = writer::write(address, control, src, rows::front(&mut lent, room));
-    answers::say_handed(LINE, handed);
-    answers::say_buffer(lent, room);
+    if command == 12 {
+        write(asked);
+    }
 }

@@ -95,7 +95,6 @@ fn without_return(line: &[u8], whole: bool) -> &[u8] {
 
 // What the line asks of a bench with so many devices.
 pub fn asked_of(input: Input, devices: usize) -> Asked {
-    let octets = input.line;
-    let line = rows::part(&octets, 0, input.len);
+    let line = rows::part(&input.line, 0, input.len);
     script::read_line(without_return(line, input.whole), (devices % 256) as u8)
 }

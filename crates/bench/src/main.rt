@@ -3,7 +3,6 @@
 // commands do is the libraries'; here are the row of devices and the scan by hand that the bench holds.
 mod answers;
 mod codec;
-mod drives;
 mod input;
 mod rows;
 mod scanned;
@@ -11,15 +10,18 @@ mod scans;
 mod shown;
 
 use answers::Name;
+use antenna::Angle;
+use drives::Answer;
 use mast::MOST;
 use mast::Row;
-use refusal::Outcome;
-use scan::Scan;
+use record::Span;
 use script::Asked;
 use script::Fault;
 use script::Line;
 
 const DEVICE: Name = *b"device......";
+
+const STATE: Name = *b"state.......";
 
 // The words for a line's faults.
 const LONG: Name = *b"long........";
@@ -36,21 +38,29 @@ const ROOM: Name = *b"room........";
 
 const FULL: Name = *b"full........";
 
-struct Bench {
-    row: Row,
-    scan: Scan,
-}
+// Behind the places of the 13 commands: a line with a fault, and one that gets no answer.
+const NONE: usize = 13;
 
-// No device, so the blank record of a refusal everywhere; a scan that can ask nothing.
-fn empty(line: &[u8]) -> Bench {
-    let refused = drives::fresh(script::read_line(line, 0));
-    let device = refused.device;
-    Bench {
-        row: Row {
-            devices: [device; MOST],
-            count: 0,
+const NOTHING: usize = 14;
+
+// No device, so the blank record of a refusal everywhere.
+fn no_devices(nothing: &[u8]) -> Row {
+    let level = Angle { tenths: 0 };
+    let refused = fresh::fresh(
+        nothing,
+        nothing,
+        nothing,
+        nothing,
+        Span {
+            lowest: level,
+            highest: level,
+            present: level,
         },
-        scan: scan::new(0),
+    );
+    let device = refused.device;
+    Row {
+        devices: [device; MOST],
+        count: 0,
     }
 }
 
@@ -66,102 +76,93 @@ fn name_of(fault: Fault) -> Name {
     }
 }
 
-// A 33rd device is a fault of the line, found once the line itself has none; a refused one takes no number.
-fn make(row: Row, asked: Asked) -> Row {
-    let mut devices = row.devices;
-    let count = row.count;
-    if MOST <= count {
-        answers::say_error(FULL);
-        return row;
+// The command that a line asks for, by its place among the names. One with a fault, which is said, asks for none of the
+// 13, and one that gets no answer for nothing.
+fn command_of(line: Line) -> usize {
+    match line {
+        Line::Silent => NOTHING,
+        Line::Faulty(fault) => {
+            answers::say_error(name_of(fault));
+            NONE
+        }
+        Line::Asks(command) => command,
     }
-    let changed = drives::fresh(asked);
-    let device = changed.device;
-    let outcome = changed.outcome;
-    if let Outcome::Refused(refusal) = outcome {
-        answers::say_refused(refusal);
-        return row;
+}
+
+fn say_answer(answer: Answer, lent: [u8; answers::ROOM], room: usize) {
+    match answer {
+        Answer::NoCommand => answers::say_error(COMMAND),
+        Answer::NoDevice => answers::say_error(DEVICE),
+        Answer::Full => answers::say_error(FULL),
+        Answer::Device(k) => answers::say_count(DEVICE, k),
+        Answer::Outcome(outcome) => answers::say_outcome(outcome),
+        Answer::Said(said) => answers::say_said(said, lent, room),
+        Answer::State(_) => answers::say(STATE),
     }
-    answers::say_count(DEVICE, count + 1);
-    devices[count] = device;
-    Row {
-        devices,
-        count: count + 1,
+}
+
+// What stands behind `state`.
+fn show_state(answer: Answer, row: Row) {
+    if let Answer::State(place) = answer {
+        let devices = row.devices;
+        shown::show(devices[place % MOST]);
     }
+}
+
+// The commands at the places 0 to 6.
+fn drive(row: Row, command: usize, asked: Asked) -> Row {
+    let values = asked.values;
+    let room = rows::value(asked, 3);
+    let mut lent = [answers::FILL; answers::ROOM];
+    let hex = rows::part(&asked.octets, 0, asked.len as usize);
+    let obeyed = drives::obey(row, command, values, hex, rows::front(&mut lent, room));
+    let answer = obeyed.answer;
+    say_answer(answer, lent, room);
+    show_state(answer, obeyed.row);
+    obeyed.row
 }
 
 // A scan of the row; the scan by hand stands aside.
 fn sweep(row: Row, limit: usize) -> Row {
     let swept = mast::sweep(row, (limit % 65536) as u16);
-    let scan = swept.scan;
-    let row = swept.row;
-    scanned::say_scan(scan);
+    scanned::say_scan(swept.scan);
+    swept.row
+}
+
+// The commands to the row; any other leaves it alone.
+fn obey(row: Row, command: usize, asked: Asked) -> Row {
+    if command < 7 {
+        return drive(row, command, asked);
+    }
+    if command == 7 {
+        return sweep(row, rows::value(asked, 1));
+    }
     row
 }
 
-// The commands to the row: the first six to one device, by its number of the row's, counted from 1; then `device`, then
-// `scan`.
-fn obey_row(row: Row, command: usize, asked: Asked) -> Row {
-    if command == 6 {
-        return make(row, asked);
-    }
-    if command == 7 {
-        return sweep(row, asked.values[1]);
-    }
-    let mut devices = row.devices;
-    let place = (asked.values[1] % MOST + (MOST - 1)) % MOST;
-    let device = drives::obey(devices[place], command, asked);
-    devices[place] = device;
-    Row {
-        devices,
-        count: row.count,
-    }
-}
-
-// A command by its place among the names, as `script` has them.
-fn obey(bench: Bench, command: usize, asked: Asked) -> Bench {
-    let row = bench.row;
-    let scan = bench.scan;
-    if command < 8 {
-        let row = obey_row(row, command, asked);
-        return Bench { row, scan };
-    }
-    if command < 11 {
-        let scan = scans::by_hand(scan, command, asked);
-        return Bench { row, scan };
-    }
-    codec::obey(command, asked);
-    bench
-}
-
-// A line and the answer to it.
-fn heed(bench: Bench, asked: Asked) -> Bench {
-    let line = asked.line;
-    match line {
-        Line::Silent => bench,
-        Line::Faulty(fault) => {
-            answers::say_error(name_of(fault));
-            answers::end_line();
-            bench
-        }
-        Line::Asks(command) => {
-            let next = obey(bench, command, asked);
-            answers::end_line();
-            next
-        }
+fn end_answer(command: usize) {
+    if command < NOTHING {
+        answers::end_line();
     }
 }
 
 // A proved loop has to end, and nothing says that a script does: the turns are counted down from a number that no script
 // uses up.
-fn play(bench: Bench) {
-    let mut bench = bench;
+fn play(row: Row) {
+    let mut row = row;
+    let mut scan = scan::new(0);
     let mut input = input::unread();
     let mut turns = u64::MAX;
     while 0 < turns {
         turns -= 1;
-        let row = bench.row;
         input = input::next_line(input);
-        bench = heed(bench, input::asked_of(input, row.count));
+        let asked = input::asked_of(input, row.count);
+        let line = asked.line;
+        let command = command_of(line);
+        row = obey(row, command, asked);
+        scan = scans::by_hand(scan, command, asked);
+        codec::obey(command, asked);
+        end_answer(command);
         if !input.whole {
             return;
         }
@@ -169,5 +170,5 @@ fn play(bench: Bench) {
 }
 
 fn main() {
-    play(empty(b""));
+    play(no_devices(b""));
 }

@@ -1,4 +1,11 @@
-// Parts of rows of octets. Total, so nothing is assumed of the caller.
+// Parts of rows of octets, and the values of a line's words. Total, so nothing is assumed of the caller.
+use script::Asked;
+
+// The value of a word by its place.
+pub fn value(asked: Asked, place: usize) -> usize {
+    let values = asked.values;
+    values[place % 8]
+}
 
 // Part of a row; nothing where the row has no such part.
 pub fn part(s: &[u8], from: usize, end: usize) -> &[u8] {

@@ -69,6 +69,5 @@ pub fn say_scan(scan: Scan) {
 pub fn probe(scan: Scan, room: usize) {
     let mut lent = [FILL; ROOM];
     let handed = scan::probe(scan, rows::front(&mut lent, room));
-    answers::say_handed(PROBE, handed);
-    answers::say_buffer(lent, room);
+    answers::say_handed(PROBE, handed, lent, room);
 }

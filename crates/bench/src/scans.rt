@@ -1,6 +1,7 @@
 // `begin`, `probe` and `report`: a scan by hand. Assumes nothing of the caller.
 use crate::answers;
 use crate::answers::Name;
+use crate::rows;
 use crate::scanned;
 use refusal::Outcome;
 use scan::Scan;
@@ -19,16 +20,18 @@ fn report(scan: Scan, heard: bool) -> Scan {
     scan
 }
 
-// `begin`, `probe`, else `report`.
+// The commands at the places 8 to 10; any other leaves the scan alone.
 pub fn by_hand(scan: Scan, command: usize, asked: Asked) -> Scan {
-    let value = asked.values[1];
+    let value = rows::value(asked, 1);
     if command == 8 {
         answers::say(BEGUN);
         return scan::new((value % 65536) as u16);
     }
     if command == 9 {
         scanned::probe(scan, value);
-        return scan;
     }
-    report(scan, value == 1)
+    if command == 10 {
+        return report(scan, value == 1);
+    }
+    scan
 }

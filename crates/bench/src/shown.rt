@@ -10,8 +10,6 @@ use record::Payload;
 use record::Pending;
 use record::Station;
 
-const STATE: Name = *b"state.......";
-
 const NONE: Name = *b" none.......";
 
 const ASSIGNED: Name = *b" assigned...";
@@ -44,8 +42,7 @@ fn say_link(link: Link) {
 
 // The octets of a payload, from a place on.
 fn say_payload(mark: u8, payload: Payload, from: usize) {
-    let octets = payload.octets;
-    answers::say_hex(mark, rows::part(&octets, from, payload.len));
+    answers::say_hex(mark, rows::part(&payload.octets, from, payload.len));
 }
 
 fn pending_of(link: Link) -> Pending {
@@ -57,15 +54,12 @@ fn pending_of(link: Link) -> Pending {
 }
 
 fn say_pending(pending: Pending, station: Station) {
-    let reply = station.reply;
-    let said = station.said;
-    let told = station.told;
     match pending {
         Pending::Nothing => answers::say(NOTHING),
-        Pending::Answer => say_payload(b' ', reply, 0),
+        Pending::Answer => say_payload(b' ', station.reply, 0),
         Pending::Indication => {
             answers::say(INDICATION);
-            say_payload(b':', report::indication(said, told), 0);
+            say_payload(b':', report::indication(station.said, station.told), 0);
         }
     }
 }
@@ -95,17 +89,13 @@ pub fn show(device: Device) {
     let station = device.station;
     let antenna = device.antenna;
     let link = station.link;
-    let told = station.told;
     let motion = antenna.motion;
-    let tilt = antenna.tilt;
-    let raised = antenna.raised;
-    answers::say(STATE);
     say_link(link);
     answers::say_number(b' ', station.address as usize);
     say_pending(pending_of(link), station);
     say_drive(motion);
-    answers::say_tilt(b' ', tilt);
-    say_alarms(raised);
-    say_alarms(told);
+    answers::say_tilt(b' ', antenna.tilt);
+    say_alarms(antenna.raised);
+    say_alarms(station.told);
     answers::say_number(b' ', station.subscribed as usize);
 }

@@ -10,6 +10,7 @@ use lib.Bits.{bitAnd}
 use lib.Dec.{eqb, leb}
 use lib.ListN.{length, getD, take, drop, set, replicate, drop-of-length-le, length-take, length-drop, length-replicate}
 use lib.Seq.{sets, sets-eq, take-all, length-take-le}
+use Rattle.octets.proofs.Takes.{take-rest}
 use Rattle.octets.proofs.Rest.{rest}
 use Rattle.identity.specs.Bits.{masked}
 use Rattle.identity.specs.Identity.{padded, same}
@@ -94,8 +95,7 @@ unfolding endsWith
 ends-right s t h =
     rw (
       le-leb (length t) (length s) h,
-      take-all (length s - (length s - length t)) (drop (length s - length t) s)
-          (omega (arith, length-drop (length s - length t) s)),
+      take-rest (length s - length t) s,
     )
 
 -- ---- padded with 0x20 to 19, for a loop that goes on from its length

@@ -6,8 +6,8 @@ use Prim.Native.Nat.{ℕ, zero, suc, _+_, _-_, _*_, _/_, _%_, _^_, _<_, _≤_}
 use native.Mathlib.Omega.{arith}
 use lib.Bits.{bitXor, xor-lt, xor-comm, xor-shifted}
 use lib.Dec.{lit<}
-use lib.ListN.{length, getD, take, drop, length-drop, drop-of-length-le}
-use lib.Seq.{take-all}
+use lib.ListN.{length, getD, take, drop, drop-of-length-le}
+use Rattle.octets.proofs.Takes.{take-rest}
 use Rattle.octets.specs.Octets.{Octets, lowOf, highOf, pairOf}
 use Rattle.octets.proofs.Rest.{rest}
 use Rattle.fcs.specs.Check.{polynomial, bitStep, bitSteps, octetStep, registerAfter, checkOf, Remainders}
@@ -56,7 +56,7 @@ module _ (s : List ℕ) (i r : ℕ) {w : ℕ} (v : registerAfter r (drop i s) �
   -- what is left goes on from the register as it is
   pub register-rest : {t : ℕ} → t ≡ registerAfter r (take (length s - i) (drop i s)) → t ≡ w
   register-rest e =
-      e ∙ ap (registerAfter r) (take-all (length s - i) (drop i s) (omega (arith, length-drop i s))) ∙ v
+      e ∙ ap (registerAfter r) (take-rest i s) ∙ v
 
 -- eight octets more
 pub register-eight : (s : List ℕ) (i r : ℕ) {w a b c d : ℕ} → registerAfter r (drop i s) ≡ w → i + 7 < length s

@@ -2,10 +2,9 @@
 use mathlib.Core.Path.{_≡_, sym, ap, _∙_}
 use mathlib.Core.List.{List}
 use Prim.Native.Nat.{ℕ, _-_, _≤_}
-use native.Mathlib.Omega.{arith}
 use borrow.Author.Tests.{le-ltb}
-use lib.ListN.{length, getD, take, drop, length-drop}
-use lib.Seq.{take-all}
+use lib.ListN.{length, getD, take, drop}
+use Rattle.octets.proofs.Takes.{take-rest}
 use Rattle.record.specs.declared.Device.{Device}
 use Rattle.station.specs.declared.Turn.{Turn}
 use Rattle.link.specs.Link.{controlledBy, judgedFrame, frameMost}
@@ -20,5 +19,5 @@ module _ (d : Device) (f : List ℕ) (two : 2 ≤ length f) (most : length f ≤
   judged-by t e =
       e
       ∙ ap (controlledBy d (getD f 0 0) (getD f 1 0))
-      (take-all (length f - 2) (drop 2 f) (omega (arith, length-drop 2 f)))
+      (take-rest 2 f)
       ∙ sym judged-is

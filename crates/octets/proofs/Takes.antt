@@ -1,9 +1,9 @@
 -- The first of a list, as many as there are. Assumes nothing.
 use mathlib.Core.Path.{_≡_, sym, ap, _∙_}
 use mathlib.Core.List.{List, [], _∷_}
-use Prim.Native.Nat.{ℕ, zero, suc, _≤_, min}
+use Prim.Native.Nat.{ℕ, zero, suc, _-_, _≤_, min}
 use native.Mathlib.Omega.{arith}
-use lib.ListN.{length, take, length-take}
+use lib.ListN.{length, take, drop, length-take, length-drop}
 use lib.Seq.{take-all, take-nil}
 
 module _ {A : Type 0} where
@@ -19,6 +19,10 @@ module _ {A : Type 0} where
   -- no more than there are
   pub take-within : (a b : ℕ) (s : List A) → length s ≤ b → take (min a b) s ≡ take a s
   take-within a b s h = take-min a b s ∙ take-all b (take a s) (omega (arith, length-take a s))
+
+  -- from a place to the end
+  pub take-rest : (i : ℕ) (s : List A) → take (length s - i) (drop i s) ≡ drop i s
+  take-rest i s = take-all (length s - i) (drop i s) (omega (arith, length-drop i s))
 
   pub take-room : (s : List A) (k : ℕ) → take (min (length s) k) s ≡ take k s
   take-room s k = take-min (length s) k s ∙ ap (take k) (take-all (length s) s (omega arith))

@@ -11,6 +11,7 @@ use borrow.Author.Tests.{le-leb, eq-eqb}
 use lib.Dec.{eqb}
 use lib.ListN.{length, getD, take, drop, drop-of-length-le, length-drop}
 use lib.Seq.{take-all, take-nil, drop-drop, length-take-le}
+use Rattle.octets.proofs.Takes.{take-rest}
 use Rattle.octets.proofs.Rest.{rest}
 use Rattle.reader.specs.declared.Stands.the-variants.{End, Broken, Triple}
 use Rattle.reader.proofs.Steps.{Means}
@@ -30,7 +31,7 @@ module _ (s : List ℕ) (from len : ℕ) where
 
   pub part-rest : length s - from < len → take (length s - from) (drop from s) ≡ take len (drop from s)
   part-rest h =
-      take-all (length s - from) (drop from s) (omega (arith, length-drop from s))
+      take-rest from s
       ∙ sym (take-all len (drop from s) (omega (arith, length-drop from s)))
 
   pub part-whole : take (from + len - from) (drop from s) ≡ take len (drop from s)

@@ -62,7 +62,7 @@ pub hand-out-only : (b o : List ℕ) (room : ℕ) {p q : List ℕ} {r s : Handed
     → Hands (handedOut b room) o r p → Hands (handedOut b room) o s q → (r ≡ s) × (p ≡ q)
 hand-out-only b o room = hands-only
 
-outcome-apart : (r q : Outcome) → outcomeOf r ≡ outcomeOf q → r ≡ q
+pub outcome-apart : (r q : Outcome) → outcomeOf r ≡ outcomeOf q → r ≡ q
 unfolding outcomeOf
 outcome-apart Done Done e = refl
 outcome-apart Done (Outcome.Refused k) e = absurd (gives-not-refuses e)

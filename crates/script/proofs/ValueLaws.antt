@@ -7,8 +7,8 @@ use Prim.Native.Nat.{ℕ, _+_, _-_, _*_, _<_, _≤_, min}
 use native.Mathlib.Omega.{arith}
 use borrow.Author.Tests.{le-leb, lt-leb, eq-eqb, ne-eqb, ltb-true, leb-true, leb-false}
 use lib.Dec.{ltb, leb}
-use lib.ListN.{length, getD, take, drop, length-drop, drop-of-length-le}
-use lib.Seq.{take-all}
+use lib.ListN.{length, getD, take, drop, drop-of-length-le}
+use Rattle.octets.proofs.Takes.{take-rest}
 use Rattle.octets.proofs.Rest.{rest}
 use Rattle.script.specs.Values.{hexDigit, octetBy, allDigits, numeral, decimal, isNegative, digitsOf, sizeOf}
 use Rattle.script.specs.Values.{ranged, numberBy}
@@ -66,7 +66,7 @@ digits-none w e = rw (← negative-none w e)
 pub digits-signed : (w : List ℕ) → getD w 0 0 ≡ 45 → take (length w - 1) (drop 1 w) ≡ digitsOf w
 unfolding digitsOf isNegative
 digits-signed w e =
-    rw (eq-eqb (getD w 0 0) 45 e, take-all (length w - 1) (drop 1 w) (omega (arith, length-drop 1 w)))
+    rw (eq-eqb (getD w 0 0) 45 e, take-rest 1 w)
 
 pub digits-plain : (w : List ℕ) → (getD w 0 0 ≡ 45 → ⊥) → w ≡ digitsOf w
 unfolding digitsOf isNegative

@@ -9,10 +9,10 @@ use native.Mathlib.Numerals.{add-one}
 use native.Mathlib.Omega.{arith}
 use borrow.Author.Tests.{eq-eqb, ne-eqb}
 use lib.Dec.{eqb}
-use lib.ListN.{length, getD, take, drop, length-drop, drop-of-length-le}
-use lib.Seq.{take-all}
+use lib.ListN.{length, getD, take, drop, drop-of-length-le}
 use Rattle.octets.specs.Octets.{placeOf}
 use Rattle.octets.proofs.Rest.{rest}
+use Rattle.octets.proofs.Takes.{take-rest}
 use Rattle.identity.specs.Identity.{same}
 use Rattle.script.specs.Words.{firstOf, behindFirst, wordAt, spacesIn, placeFrom}
 
@@ -35,12 +35,12 @@ module _ (s : List ℕ) (n : ℕ) (e : n ≡ placeOf 0x20 s) where
   pub behind-right : take (length s - (n + 1)) (drop (n + 1) s) ≡ behindFirst s
   unfolding behindFirst
   behind-right =
-      take-all (length s - (n + 1)) (drop (n + 1) s) (omega (arith, length-drop (n + 1) s)) ∙ rw (add-one, e)
+      take-rest (n + 1) s ∙ rw (add-one, e)
 
   pub behind-none : length s ≤ n → take (length s - n) (drop n s) ≡ behindFirst s
   unfolding behindFirst
   behind-none h =
-      take-all (length s - n) (drop n s) (omega (arith, length-drop n s))
+      take-rest n s
       ∙ drop-of-length-le s h
       ∙ sym (drop-of-length-le s {i = suc (placeOf 0x20 s)} (omega arith))
 

@@ -4,10 +4,13 @@ use Rattle.bench.proofs.play.Statement.{statement}
 use Rattle.bench.proofs.play.Tie as tie
 
 abbrev Inv-loop : tie.InvT-loop
-Inv-loop bench₀ input₀ turns₀ bench input turns = Unit {0}
+Inv-loop row₀ scan₀ input₀ turns₀ row scan input turns = Unit {0}
 
 abbrev μ-loop : tie.MeasureT-loop
-μ-loop bench₀ input₀ turns₀ bench input turns = turns
+μ-loop row₀ scan₀ input₀ turns₀ row scan input turns = turns
+
+new-requires : tie.Need-new-requires Inv-loop μ-loop
+new-requires c κs = search needs
 
 unread-requires : tie.Need-unread-requires Inv-loop μ-loop
 unread-requires c κs = search needs
@@ -24,8 +27,20 @@ next-line-requires c κs = search needs
 asked-of-requires : tie.Need-asked-of-requires Inv-loop μ-loop
 asked-of-requires c κs = search needs
 
-heed-requires : tie.Need-heed-requires Inv-loop μ-loop
-heed-requires c κs = search needs
+command-of-requires : tie.Need-command-of-requires Inv-loop μ-loop
+command-of-requires c κs = search needs
+
+obey-requires : tie.Need-obey-requires Inv-loop μ-loop
+obey-requires c κs = search needs
+
+by-hand-requires : tie.Need-by-hand-requires Inv-loop μ-loop
+by-hand-requires c κs = search needs
+
+obey-requires-2 : tie.Need-obey-requires-2 Inv-loop μ-loop
+obey-requires-2 c κs = search needs
+
+end-answer-requires : tie.Need-end-answer-requires Inv-loop μ-loop
+end-answer-requires c κs = search needs
 
 returns : tie.Need-returns Inv-loop μ-loop
 returns c = search needs
@@ -45,12 +60,17 @@ play-spec =
     (tie.spec
     Inv-loop
     μ-loop
+    new-requires
     unread-requires
     loop-holds
     sub-turns
     next-line-requires
     asked-of-requires
-    heed-requires
+    command-of-requires
+    obey-requires
+    by-hand-requires
+    obey-requires-2
+    end-answer-requires
     returns
     loop-less
     loop-again

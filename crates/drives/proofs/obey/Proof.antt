@@ -1,0 +1,59 @@
+-- `drives::obey` meets its promise: each way out, by the tests that lead to it. Assumes nothing.
+use mathlib.Core.Path.{refl}
+use native.Mathlib.Omega.{arith}
+use denote.Ref.{now}
+use Rattle.drives.specs.Drives.{replyOf}
+use Rattle.drives.proofs.Ways.{obeys-by, obeyed-device, obeyed-adds, obeyed-none}
+use borrow.Author.Needs.{needs}
+use Rattle.drives.proofs.obey.Statement.{statement}
+use Rattle.drives.proofs.obey.Tie as tie
+
+value-requires : tie.Need-value-requires
+value-requires c κs = search needs
+
+value-requires-2 : tie.Need-value-requires-2
+value-requires-2 c κs = search needs
+
+to-device-requires : tie.Need-to-device-requires
+to-device-requires c κs = search needs
+
+same-length : tie.Need-same-length
+same-length c = search needs
+
+returns : tie.Need-returns
+returns c =
+    let a = c .before .before .before .before .before .before .before .before .before .args in
+    obeys-by
+    (obeyed-device (a .command) (a .row) (now (a .octets)) (now (a .lent)) (a .values) (omega arith)
+    (c .before .before .before .before .before .value .ensures) (c .before .before .before .before .value2 .ensures))
+    (c .before .before .to-device .ensures)
+
+add-requires : tie.Need-add-requires
+add-requires c κs = search needs
+
+returns-2 : tie.Need-returns-2
+returns-2 c =
+    let a = c .before .before .before .before .before .args in
+    obeys-by (obeyed-adds (a .command) (a .row) (now (a .octets)) (now (a .lent)) (a .values) (omega arith))
+    (record { after = c .add .ensures; lent = refl })
+
+returns-3 : tie.Need-returns-3
+unfolding replyOf
+returns-3 c =
+    let a = c .before .before .before .before .args in
+    obeys-by
+    (obeyed-none (a .command) (a .row) (now (a .octets)) (now (a .lent)) (a .values) (omega arith) (c .if2 .left))
+    (record { after = refl; lent = refl })
+
+pub obey-spec : {M : Type 1} → statement M
+obey-spec =
+    tie.close
+    (tie.spec
+    value-requires
+    value-requires-2
+    to-device-requires
+    same-length
+    returns
+    add-requires
+    returns-2
+    returns-3)

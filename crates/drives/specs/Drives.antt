@@ -1,0 +1,164 @@
+-- The bench's row of drives. bench-script.md: its table, from `device` to `show`.
+--   Reply             == an answer, in the script's words
+--   After             == the row after a command, and the answer to it; Came == that, and the lent output, BUFFER
+--   value v n         == what the word n stands for; textIn os from end == the octets of one HEX word of several
+--   adds row v os     == `device`: one more, if there is room and its data is allowed
+--   isDevice n k      == K is a device of a row with n of them; deviceAt row place == the one at a place
+--   toDevice c row k v os o == the command c to the device K, with the value v of an event, or with octets
+--   obeyed c row v os o     == the command c with the values v and the octets os, and the lent output o
+--   replyOf x         == the answer that the code's answer x is
+--   Obeys right r o'  == the code's result r, and the lent output o' after it, are what is right
+-- Assumes nothing.
+use mathlib.Core.Path.{_≡_}
+use mathlib.Core.Bool.{Bool, cond, not, _&&_}
+use mathlib.Core.List.{List}
+use mathlib.Core.Option.{Option}
+use Prim.Native.Nat.{ℕ, _+_, _-_, _%_}
+use lib.Dec.{ltb, leb, eqb}
+use lib.ListN.{length, getD, set, take, drop}
+use Rattle.octets.specs.Octets.{lowOf, highOf}
+use Rattle.refusal.specs.Answer.{Answer, gives, refuses, outcomeOf, settled, stateAfter}
+use Rattle.antenna.specs.declared.Angle.{Angle}
+use Rattle.tilt.specs.Tilts.{angleOf}
+use Rattle.record.specs.declared.Device.{Device}
+use Rattle.record.specs.declared.Event.{Event}
+use Rattle.record.specs.declared.Event.the-variants.{Stopped, Raised, Cleared}
+use Rattle.record.specs.Fresh.{freshOf, blankDevice}
+use Rattle.record.specs.Changes.{happened}
+use Rattle.device.specs.Judge.{Reaction, judged, heard, saidOf, toldOf, deviceAfter, bufferAfter}
+use Rattle.mast.specs.declared.Row.{Row}
+use Rattle.drives.specs.declared.Answer as the-answer
+use Rattle.drives.specs.declared.Answer.the-variants as code
+use Rattle.drives.specs.declared.Obeyed.{Obeyed}
+
+infix 40 _saying_ _leaving_
+-- ---- answers
+
+pub data Reply : Type 0 where
+  -- "`error` and one word: `command` .. `device`"; "a 33rd gets `error full`"
+  noCommand noDevice full : Reply
+  -- "`device K`, K counts from 1"
+  device : ℕ → Reply
+  -- "`done` or `refused N`"; for a device that is not made "`refused 6`"
+  outcome : Answer (Unit {0}) → Reply
+  -- "`answer LEN BUFFER`, `silence BUFFER` or `refused N BUFFER`"
+  answer : Answer (Option ℕ) → Reply
+  -- "`state LINK ADDRESS PENDING DRIVE TILT RAISED TOLD SUBSCRIBED`", of the device at this place
+  state : ℕ → Reply
+
+pub record After : Type 0 where
+  pub row : Row
+  pub reply : Reply
+
+pub record Came : Type 0 where
+  pub after : After
+  pub lent : List ℕ
+
+abbrev pub _saying_ : Row → Reply → After
+row saying x = record { row = row; reply = x }
+
+abbrev pub _leaving_ : After → List ℕ → Came
+x leaving o = record { after = x; lent = o }
+
+-- ---- words
+
+abbrev pub value : List ℕ → ℕ → ℕ
+value v n = getD v n 0
+
+-- from where the one before it ends to where it does
+abbrev pub textIn : List ℕ → ℕ → ℕ → List ℕ
+textIn os from end = drop from (take end os)
+
+-- a tilt's value is its pattern of 16 bits
+unfoldable pub tiltOf : ℕ → Angle
+tiltOf v = angleOf (lowOf v) (highOf v)
+
+-- ---- `device IDENTITY PRODUCT HARDWARE SOFTWARE LOWEST HIGHEST PRESENT`
+
+-- "up to 32 tilt drives"
+abbrev pub most : ℕ
+most = 32
+
+unfoldable pub freshBy : List ℕ → List ℕ → Answer Device
+freshBy v os =
+    freshOf
+    (textIn os 0 (value v 1))
+    (textIn os (value v 1) (value v 2))
+    (textIn os (value v 2) (value v 3))
+    (textIn os (value v 3) (value v 4))
+    (record { lowest = tiltOf (value v 5); highest = tiltOf (value v 6); present = tiltOf (value v 7) })
+
+-- "A refused device takes no number."
+unfoldable pub added : Row → Answer Device → After
+added row (refuses k) = row saying outcome (refuses k)
+added row (gives d) =
+    record { devices = set (row .devices) (row .count) d; count = row .count + 1 } saying device (row .count + 1)
+
+-- "then `error full` for a 33rd, then `refused 6`"
+unfoldable pub adds : Row → List ℕ → List ℕ → After
+adds row v os = cond (leb most (row .count)) (row saying full) (added row (freshBy v os))
+
+-- ---- a command to the device K
+
+-- "K counts from 1"
+unfoldable pub isDevice : ℕ → ℕ → Bool
+isDevice count k = not (eqb k 0) && (leb k most && leb k count)
+
+abbrev pub deviceAt : Row → ℕ → Device
+deviceAt row place = getD (row .devices) place blankDevice
+
+unfoldable pub withDevice : Row → ℕ → Device → Row
+withDevice row place d = record { devices = set (row .devices) place d; count = row .count }
+
+-- "`frame K HEX ROOM` decoded octets, given to device K"; "`hear K HEX ROOM` the octets between two flags, as they come
+-- from the line: decoded, then judged by device K"
+unfoldable pub listens : ℕ → Device → List ℕ → ℕ → Answer Reaction
+listens c d os room = cond (eqb c 0) (judged d os room) (heard d os room)
+
+unfoldable pub tells : Row → ℕ → Answer Reaction → List ℕ → Came
+tells row place x o =
+    (withDevice row place (deviceAfter x (deviceAt row place)) saying answer (toldOf x)) leaving bufferAfter x o
+
+-- "the motor stopped at T; alarm A (decimal) rises, falls"
+unfoldable pub eventOf : ℕ → ℕ → Event
+eventOf c v = cond (eqb c 4) (Raised (v % 256)) (cond (eqb c 5) (Cleared (v % 256)) (Stopped (tiltOf v)))
+
+unfoldable pub befalls : Row → ℕ → Answer Device → After
+befalls row place x = withDevice row place (stateAfter x (deviceAt row place)) saying outcome (settled x)
+
+-- the commands by their places among the names of the script: 0 frame, 1 hear, 2 show, 3 stopped, 4 raise, 5 clear
+unfoldable pub drives : ℕ → Row → ℕ → ℕ → List ℕ → List ℕ → Came
+drives c row place v os o =
+    cond (ltb c 2) (tells row place (listens c (deviceAt row place) os (length o)) o)
+    (cond (eqb c 2) ((row saying state place) leaving o)
+    (befalls row place (happened (deviceAt row place) (eventOf c v)) leaving o))
+
+-- "A K that is a number but no device of the bench .. is `error device`"
+unfoldable pub toDevice : ℕ → Row → ℕ → ℕ → List ℕ → List ℕ → Came
+toDevice c row k v os o =
+    cond (isDevice (row .count) k) (drives c row (k - 1) v os o) ((row saying noDevice) leaving o)
+
+-- ---- a command; 6 is `device`
+
+unfoldable pub obeyed : ℕ → Row → List ℕ → List ℕ → List ℕ → Came
+obeyed c row v os o =
+    cond (ltb c 6) (toDevice c row (value v 1) (value v 2) os o)
+    (cond (eqb c 6) (adds row v os leaving o) ((row saying noCommand) leaving o))
+
+-- ---- the code's answers
+
+unfoldable pub replyOf : the-answer.Answer → Reply
+replyOf code.NoCommand = noCommand
+replyOf code.NoDevice = noDevice
+replyOf code.Full = full
+replyOf (code.Device k) = device k
+replyOf (code.Outcome x) = outcome (outcomeOf x)
+replyOf (code.Said x) = answer (saidOf x)
+replyOf (code.State place) = state place
+
+abbrev pub afterOf : Obeyed → After
+afterOf r = r .row saying replyOf (r .answer)
+
+pub record Obeys (right : Came) (r : Obeyed) (o' : List ℕ) : Type 0 where
+  pub after : afterOf r ≡ right .after
+  pub lent : o' ≡ right .lent
