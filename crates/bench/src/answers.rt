@@ -44,10 +44,8 @@ pub fn end_line() {
 }
 
 pub fn say_number(mark: u8, number: usize) {
-    let mut digits = [0u8; 20];
-    let n = io::decimal(number as u64, &mut digits);
     say_octets(&[mark]);
-    say_octets(&digits[..n]);
+    io::print_decimal(STDOUT_FILENO, number as u64);
 }
 
 // A number behind its name.
@@ -76,11 +74,9 @@ fn digit(value: u8) -> u8 {
 fn in_hex(mark: u8, s: &[u8]) -> [u8; LONGEST] {
     let mut row = [mark; LONGEST];
     row[1] = b'-';
+    let n = octets::fewer(s.len(), ROOM);
     let mut i = 0;
-    while i < ROOM {
-        if s.len() <= i {
-            return row;
-        }
+    while i < n {
         let octet = s[i];
         row[2 * i + 1] = digit(octet / 16);
         row[2 * i + 2] = digit(octet);

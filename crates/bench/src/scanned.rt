@@ -26,12 +26,10 @@ fn say_list(list: [u8; scan::LIST], listed: usize) {
     if listed == 0 {
         return answers::say(NOBODY);
     }
+    let end = octets::fewer(listed, scan::ROOM);
     let mut mark = b' ';
     let mut i = 0;
-    while i < scan::ROOM {
-        if listed <= i {
-            return;
-        }
+    while i < end {
         let from = identity::OCTETS * i;
         answers::say_hex(mark, rows::part(&list, from, from + identity::OCTETS));
         mark = b',';
@@ -39,29 +37,45 @@ fn say_list(list: [u8; scan::LIST], listed: usize) {
     }
 }
 
-fn say_found(name: Name, scan: Scan) {
-    let list = scan.list;
-    answers::say_count(name, scan.count as usize);
-    say_list(list, scan.listed);
+// The beginning that a scan names.
+fn say_beginning(beginning: [bool; identity::BITS], bits: usize) {
+    answers::say_number(b' ', bits);
+    answers::say_hex(b':', &identity::octets_of(beginning, bits));
 }
 
-// The beginning that a scan names stands behind what it found.
-fn say_stopped(name: Name, scan: Scan) {
-    let beginning = scan.beginning;
-    let octets = identity::octets_of(beginning, scan.bits);
-    say_found(name, scan);
-    answers::say_number(b' ', scan.bits);
-    answers::say_hex(b':', &octets);
+fn name_of(state: State) -> Name {
+    match state {
+        State::Asking { quiet: _, doubt: _ } => GOING,
+        State::Complete => COMPLETE,
+        State::Doubtful => DOUBTFUL,
+        State::Limit => LIMIT,
+        State::Full => FULL,
+    }
+}
+
+// How many words stand behind the count: none, the list, or the list and the beginning.
+fn words_behind(state: State) -> usize {
+    match state {
+        State::Asking { quiet: _, doubt: _ } => 0,
+        State::Complete => 1,
+        State::Doubtful => 1,
+        State::Limit => 2,
+        State::Full => 2,
+    }
 }
 
 pub fn say_scan(scan: Scan) {
     let state = scan.state;
-    match state {
-        State::Asking { quiet: _, doubt: _ } => answers::say_count(GOING, scan.count as usize),
-        State::Complete => say_found(COMPLETE, scan),
-        State::Doubtful => say_found(DOUBTFUL, scan),
-        State::Limit => say_stopped(LIMIT, scan),
-        State::Full => say_stopped(FULL, scan),
+    let list = scan.list;
+    let beginning = scan.beginning;
+    let words = words_behind(state);
+    answers::say_count(name_of(state), scan.count as usize);
+    if words == 0 {
+        return;
+    }
+    say_list(list, scan.listed);
+    if words == 2 {
+        say_beginning(beginning, scan.bits);
     }
 }
 

@@ -21,6 +21,16 @@ abbrev asks : ℕ → List ℕ → List ℕ → Asked
 asks c vs os =
     record { line = Asks c; values = sets (replicate 8 0) 1 vs; octets = sets (replicate 1000 0) 0 os; len = length os }
 
+-- each command by its place among the names, by which `drives` and the bench know it
+places : (commandOf (spelled "frame") ∷ commandOf (spelled "hear") ∷ commandOf (spelled "show")
+    ∷ commandOf (spelled "stopped") ∷ commandOf (spelled "raise") ∷ commandOf (spelled "clear")
+    ∷ commandOf (spelled "device") ∷ commandOf (spelled "scan") ∷ commandOf (spelled "begin")
+    ∷ commandOf (spelled "probe") ∷ commandOf (spelled "report") ∷ commandOf (spelled "decode")
+    ∷ commandOf (spelled "write") ∷ [])
+    ≡ 0 ∷ 1 ∷ 2 ∷ 3 ∷ 4 ∷ 5 ∷ 6 ∷ 7 ∷ 8 ∷ 9 ∷ 10 ∷ 11 ∷ 12 ∷ []
+unfolding spelled firstOf behindFirst wordAt placeFrom placeOf same commandOf
+places = refl
+
 -- leading zeros are read; a tilt below zero is its 16 bits, and -32,768 the last; HEX is read in capitals too; the
 -- value of HEX is where its octets end
 read : (readLine (spelled "raise 1 20") 1 ≡ asks 4 (1 ∷ 20 ∷ []) [])

@@ -1,23 +1,23 @@
--- `in_hex` is safe and ends: the octets passed rise, up to 600. Assumes nothing.
+-- `in_hex` is safe and ends: the octets passed rise, up to their number or 600. Assumes nothing.
 use borrow.Author.Needs.{needs}
 use Prim.Native.Nat.{_-_}
 use Rattle.bench.proofs.answers.in_hex.Statement.{statement}
 use Rattle.bench.proofs.answers.in_hex.Tie as tie
 
 abbrev Inv-loop : tie.InvT-loop
-Inv-loop mark s row₀ i₀ row i = Unit {0}
+Inv-loop mark s row₀ n i₀ row i = Unit {0}
 
 abbrev μ-loop : tie.MeasureT-loop
-μ-loop mark s row₀ i₀ row i = 600 - i
+μ-loop mark s row₀ n i₀ row i = n - i
 
 array-write-row : tie.Need-array-write-row Inv-loop μ-loop
 array-write-row c = search needs
 
+fewer-requires : tie.Need-fewer-requires Inv-loop μ-loop
+fewer-requires c κs = search needs
+
 loop-holds : tie.Need-loop-holds Inv-loop μ-loop
 loop-holds c = search needs
-
-returns : tie.Need-returns Inv-loop μ-loop
-returns c = search needs
 
 shared-slice-read-octet : tie.Need-shared-slice-read-octet Inv-loop μ-loop
 shared-slice-read-octet c = search needs
@@ -55,8 +55,8 @@ loop-less c = search needs
 loop-again : tie.Need-loop-again Inv-loop μ-loop
 loop-again c = search needs
 
-returns-2 : tie.Need-returns-2 Inv-loop μ-loop
-returns-2 c = search needs
+returns : tie.Need-returns Inv-loop μ-loop
+returns c = search needs
 
 pub in-hex-spec : {M : Type 1} → statement M
 in-hex-spec =
@@ -65,8 +65,8 @@ in-hex-spec =
     Inv-loop
     μ-loop
     array-write-row
+    fewer-requires
     loop-holds
-    returns
     shared-slice-read-octet
     digit-requires
     mul-row
@@ -79,4 +79,4 @@ in-hex-spec =
     add-i
     loop-less
     loop-again
-    returns-2)
+    returns)

@@ -1,14 +1,14 @@
--- `say_list` is safe and ends: the identities passed rise, up to 32. Assumes nothing.
+-- `say_list` is safe and ends: the identities passed rise, up to their number or 32. Assumes nothing.
 use borrow.Author.Needs.{needs}
 use Prim.Native.Nat.{_-_}
 use Rattle.bench.proofs.scanned.say_list.Statement.{statement}
 use Rattle.bench.proofs.scanned.say_list.Tie as tie
 
 abbrev Inv-loop : tie.InvT-loop
-Inv-loop listed list mark₀ i₀ mark i = Unit {0}
+Inv-loop listed list end mark₀ i₀ mark i = Unit {0}
 
 abbrev μ-loop : tie.MeasureT-loop
-μ-loop listed list mark₀ i₀ mark i = 32 - i
+μ-loop listed list end mark₀ i₀ mark i = end - i
 
 say-requires : tie.Need-say-requires Inv-loop μ-loop
 say-requires c κs = search needs
@@ -16,11 +16,11 @@ say-requires c κs = search needs
 returns : tie.Need-returns Inv-loop μ-loop
 returns c = search needs
 
+fewer-requires : tie.Need-fewer-requires Inv-loop μ-loop
+fewer-requires c κs = search needs
+
 loop-holds : tie.Need-loop-holds Inv-loop μ-loop
 loop-holds c = search needs
-
-returns-2 : tie.Need-returns-2 Inv-loop μ-loop
-returns-2 c = search needs
 
 mul-from : tie.Need-mul-from Inv-loop μ-loop
 mul-from c = search needs
@@ -46,8 +46,8 @@ loop-less c = search needs
 loop-again : tie.Need-loop-again Inv-loop μ-loop
 loop-again c = search needs
 
-returns-3 : tie.Need-returns-3 Inv-loop μ-loop
-returns-3 c = search needs
+returns-2 : tie.Need-returns-2 Inv-loop μ-loop
+returns-2 c = search needs
 
 pub say-list-spec : {M : Type 1} → statement M
 say-list-spec =
@@ -57,8 +57,8 @@ say-list-spec =
     μ-loop
     say-requires
     returns
+    fewer-requires
     loop-holds
-    returns-2
     mul-from
     slice-aggregate-part
     add-part
@@ -67,4 +67,4 @@ say-list-spec =
     add-i
     loop-less
     loop-again
-    returns-3)
+    returns-2)
