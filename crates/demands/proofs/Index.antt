@@ -1,5 +1,5 @@
--- The headline theorems of all crates under one roof: where each stands, in the order of the crates. docs/THEOREMS.md
--- says each in a sentence. Assumes nothing.
+-- The headline theorems of the crates under one roof: where each stands, in the order of the crates. docs/THEOREMS.md
+-- says each in a sentence, and those of the bench script, which stand in script/proofs and drives/proofs. Assumes nothing.
 
 -- ---- numbers for "no": the first row that holds, both ways; one result for each promise
 pub use Rattle.refusal.proofs.Exactly.{exactly, exactly-given, answered-all}
