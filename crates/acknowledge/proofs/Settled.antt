@@ -1,11 +1,10 @@
 -- What an acknowledgement leaves: nothing pending, S moved on by one, told as the indication said. Assumes nothing.
-use mathlib.Core.Path.{_≡_, refl, ap, _∙_}
-use mathlib.Core.Bool.{Bool, true, false}
+use mathlib.Core.Path.{_≡_, refl}
+use mathlib.Core.Bool.{true, false}
 use Prim.Native.Nat.{ℕ}
 use Rattle.control.specs.Control.{nextOf}
 use Rattle.record.specs.declared.Pending.the-variants.{Nothing, Answer, Indication}
 use Rattle.record.specs.declared.Session.{Session}
-use Rattle.record.specs.declared.Link.the-variants.{Connected}
 use Rattle.record.specs.declared.Station.{Station}
 use Rattle.record.specs.Changes.{unsaidAt}
 use Rattle.session.specs.Session.{acknowledges}

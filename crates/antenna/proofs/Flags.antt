@@ -1,14 +1,12 @@
 -- Two rows of alarm flags: for a loop that goes through them by i, and what there is to tell. Assumes nothing.
-use mathlib.Core.Path.{_≡_, refl, sym, ap, _∙_}
-use mathlib.Core.Bool.{Bool, true, false, cond, not}
-use mathlib.Core.List.{List, [], _∷_}
-use Prim.Native.Nat.{ℕ, suc, _+_, _*_, _<_, _≤_}
+use mathlib.Core.Path.{_≡_}
+use mathlib.Core.Bool.{Bool, true, false}
+use mathlib.Core.List.{List, _∷_}
+use Prim.Native.Nat.{ℕ, _+_, _<_, _≤_}
 use native.Mathlib.Numerals.{add-one}
-use native.Mathlib.Omega.{arith}
 use lib.ListN.{length, getD, drop, drop-of-length-le}
 use lib.Seq.{drop-cons}
-use Rattle.antenna.specs.Alarms.{alarmCodes, codesAmong, codesOf, differs, anyDiffer, changesAmong, changesOf}
-use Rattle.antenna.specs.Alarms.{stateOf}
+use Rattle.antenna.specs.Alarms.{differs, anyDiffer}
 
 flag-rest : (f : List Bool) (i : ℕ) → i < length f → drop i f ≡ getD f i false ∷ drop (i + 1) f
 flag-rest f i h = rw (add-one, drop-cons f i false)

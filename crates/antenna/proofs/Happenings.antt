@@ -1,14 +1,13 @@
 -- Each way out of an event's test. Assumes nothing.
-use mathlib.Core.Path.{_≡_, refl, sym, ap, ap₂, _∙_}
+use mathlib.Core.Path.{_≡_, refl, ap, _∙_}
 use mathlib.Core.Bool.{Bool, true, false, not, _&&_}
-use mathlib.Core.List.{List}
 use Prim.Native.Nat.{ℕ, _<_, _≤_}
 use borrow.Author.Tests.{lt-ltb, le-ltb}
 use lib.ListN.{set}
 use Rattle.octets.specs.Octets.{holds, placeOf}
 use Rattle.octets.proofs.Words.{place-held}
-use Rattle.refusal.specs.Answer.{Answer, gives, refuses, answered}
-use Rattle.refusal.proofs.Answers.{answered-here, answered-later}
+use Rattle.refusal.specs.Answer.{gives, refuses, answered}
+use Rattle.refusal.proofs.Answers.{answered-here}
 use Rattle.antenna.specs.declared.Angle.{Angle}
 use Rattle.antenna.specs.declared.Antenna.{Antenna}
 use Rattle.antenna.specs.Alarms.{alarmCodes}

@@ -1,6 +1,6 @@
 -- What starts a movement and what makes a result that waits. Assumes nothing.
-use mathlib.Core.Path.{_≡_, refl, sym, ap, _∙_}
-use mathlib.Core.Bool.{Bool, true, false, cond, _&&_}
+use mathlib.Core.Path.{_≡_, refl, sym}
+use mathlib.Core.Bool.{Bool, true, false, cond}
 use mathlib.Core.Logic.{_↔_}
 use Prim.Native.Nat.{ℕ}
 use Rattle.octets.proofs.Words.{true-not-false}
@@ -9,7 +9,6 @@ use Rattle.antenna.specs.declared.Antenna.{Antenna}
 use Rattle.antenna.specs.declared.Motion.{Motion}
 use Rattle.antenna.specs.declared.Motion.the-variants.{Still, Moving, Owing, Stopped}
 use Rattle.antenna.specs.declared.Waits.the-variants.{Nothing, Result}
-use Rattle.antenna.specs.declared.Aim.{Aim}
 use Rattle.antenna.specs.declared.Aim.the-variants.{Busy, Outside, Started}
 use Rattle.antenna.specs.Angles.{sameAs}
 use Rattle.antenna.specs.Motions.{inRange, busyOf, owesOf, waitingOf, unowedOf, moves, aimOf, started, runs}

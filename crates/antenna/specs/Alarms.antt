@@ -6,7 +6,7 @@
 --   noAlarms        == no flag is set
 -- Assumes nothing.
 use mathlib.Core.Bool.{Bool, true, false, cond, not}
-use mathlib.Core.List.{List, [], _∷_, _++_}
+use mathlib.Core.List.{List, [], _∷_}
 use Prim.Native.Nat.{ℕ}
 
 -- "an alarm not among 0x02, 0x03, 0x0E, 0x0F, 0x11, 0x27"

@@ -5,8 +5,8 @@
 --   stoppedAt n t    == the event "stopped at t"
 --   alarmedOf n k on == the event "alarm k raised" (on) or "cleared"
 -- Assumes nothing.
-use mathlib.Core.Bool.{Bool, true, false, not, _&&_}
-use mathlib.Core.List.{List, [], _∷_}
+use mathlib.Core.Bool.{Bool, not, _&&_}
+use mathlib.Core.List.{[], _∷_}
 use Prim.Native.Nat.{ℕ}
 use lib.ListN.{set}
 use Rattle.octets.specs.Octets.{holds, placeOf}

@@ -1,14 +1,14 @@
 -- The number that crosses tells the answer: below 0x10000 the octets, at their place; from there on the refusal, and
 -- an output as it was. Assumes nothing.
 use mathlib.Core.Path.{_≡_}
-use mathlib.Core.List.{List, _∷_}
+use mathlib.Core.List.{List}
 use Prim.Native.Nat.{ℕ, _-_, _<_, _≤_}
 use native.Mathlib.Omega.{arith}
 use lib.ListN.{length, take, length-take}
 use Rattle.refusal.specs.Answer.{Answer, gives, refuses}
 use Rattle.frame.specs.Line.{plain}
 use Rattle.frame.specs.Decode.{body, decoded}
-use Rattle.frame.specs.Write.{lineOf, written}
+use Rattle.frame.specs.Write.{written}
 use Rattle.frame.proofs.Exact.{decode-frame, write-line}
 use Rattle.frame.proofs.Lengths.{line-158}
 use Rattle.capi.specs.Crossing.{refusals, Crosses}

@@ -1,7 +1,6 @@
 -- The promise of this crate allows one result, and one content of the lent output. Assumes nothing.
 use mathlib.Core.Path.{_≡_, refl, sym, ap, ap₂, _∙_}
 use mathlib.Core.List.{List}
-use mathlib.Core.Option.{Option}
 use Prim.Native.Nat.{ℕ}
 use Rattle.octets.proofs.Only.{only}
 use Rattle.refusal.specs.declared.Outcome.{Outcome}

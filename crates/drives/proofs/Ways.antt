@@ -4,7 +4,7 @@ use mathlib.Core.Bool.{Bool, true, false, not, _&&_}
 use mathlib.Core.List.{List, [], _∷_}
 use Prim.Native.Nat.{ℕ, zero, suc, _+_, _-_, _≤_, _<_, min}
 use native.Mathlib.Omega.{arith}
-use lib.Dec.{ltb, leb, eqb}
+use lib.Dec.{leb, eqb}
 use borrow.Author.Tests.{lt-ltb, le-ltb, lt-leb, eq-eqb, ne-eqb, leb-true, eqb-false, not-true}
 use lib.ListN.{length, take, drop, getD, set}
 use Rattle.octets.proofs.Takes.{take-room}
@@ -20,11 +20,11 @@ use Rattle.record.specs.Fresh.{freshOf, blankDevice}
 use Rattle.record.specs.Changes.{happened}
 use Rattle.device.specs.declared.Said.{Said}
 use Rattle.device.specs.declared.Judged.{Judged}
-use Rattle.device.specs.Judge.{Reaction, judged, heard, toldOf, deviceAfter, bufferAfter, Judges}
+use Rattle.device.specs.Judge.{Reaction, judged, heard, Judges}
 use Rattle.mast.specs.declared.Row.{Row}
 use Rattle.drives.specs.declared.Answer.the-variants as code
 use Rattle.drives.specs.declared.Obeyed.{Obeyed}
-use Rattle.drives.specs.Drives.{Reply, After, Came, Obeys, noDevice, noCommand, device, outcome, answer, state}
+use Rattle.drives.specs.Drives.{After, Came, Obeys, noDevice, noCommand, device, outcome, answer, state}
 use Rattle.drives.specs.Drives.{_saying_, _leaving_, replyOf, afterOf, isDevice, deviceAt, withDevice, eventOf}
 use Rattle.drives.specs.Drives.{textIn, tiltOf, listens, tells, befalls, freshBy, added, adds, drives, toDevice, obeyed}
 use Rattle.drives.specs.Steps.{putBack}

@@ -8,9 +8,9 @@ use lib.Bits.{bitXor, xor-lt, xor-comm, xor-shifted}
 use lib.Dec.{lit<}
 use lib.ListN.{length, getD, take, drop, drop-of-length-le}
 use Rattle.octets.proofs.Takes.{take-rest}
-use Rattle.octets.specs.Octets.{Octets, lowOf, highOf, pairOf}
+use Rattle.octets.specs.Octets.{Octets, pairOf}
 use Rattle.octets.proofs.Rest.{rest}
-use Rattle.fcs.specs.Check.{polynomial, bitStep, bitSteps, octetStep, registerAfter, checkOf, Remainders}
+use Rattle.fcs.specs.Check.{polynomial, bitStep, bitSteps, octetStep, registerAfter, checkOf}
 use Rattle.fcs.proofs.Division.{comes-down}
 use Rattle.fcs.proofs.Exclusive.{xor-assoc}
 

@@ -6,7 +6,7 @@ use mathlib.Core.Logic.{_↔_}
 use Prim.Native.Nat.{ℕ, zero, suc, _+_, _*_, _/_, _%_, _^_, _<_}
 use native.Mathlib.Omega.{arith}
 use lib.Dec.{lit<}
-use lib.Bits.{bitXor, xor-shr, xor-lt, xor-self, xor-comm, xor-zero-l, xor-shifted}
+use lib.Bits.{bitXor, xor-shr, xor-lt, xor-comm, xor-zero-l, xor-shifted}
 use Rattle.octets.specs.Octets.{Octets, lowOf, highOf, pairOf}
 use Rattle.octets.proofs.Bounds.{pair-parts}
 use Rattle.fcs.specs.Check.{polynomial, bitStep, bitSteps, octetStep, registerAfter, checkOf, withCheck, residue}

@@ -3,14 +3,14 @@
 use mathlib.Core.Path.{_≡_, sym, ap, _∙_}
 use mathlib.Core.Bool.{Bool}
 use mathlib.Core.List.{List}
-use Prim.Native.Nat.{ℕ, _/_, _%_, _^_, _<_}
+use Prim.Native.Nat.{ℕ, _/_, _%_, _^_}
 use native.Mathlib.Nat.{mod-lt}
 use lib.Bits.{bitXor}
 use lib.Dec.{T, eqb, eqb→eq}
 use lib.ListN.{length, getD}
 use lib.Pow.{pow-pos}
 use Rattle.octets.proofs.Every.{every, at}
-use Rattle.fcs.specs.Check.{bitStep, bitSteps, octetStep, Remainders}
+use Rattle.fcs.specs.Check.{bitSteps, Remainders}
 use Rattle.fcs.proofs.Division.{by-table}
 
 -- the entry x of a table for k bits is right

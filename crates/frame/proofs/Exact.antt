@@ -1,14 +1,14 @@
 -- Each number is given exactly when 01 says: per number, both ways. And demand 1 for this layer: any octets get a
 -- frame or one of the numbers, and a number leaves the lent output as it was. Over the frame limit N. Assumes nothing.
-use mathlib.Core.Path.{_≡_, refl, sym, ap, _∙_}
-use mathlib.Core.Bool.{Bool, true, false, not}
+use mathlib.Core.Path.{_≡_, refl, ap}
+use mathlib.Core.Bool.{true, false, not}
 use mathlib.Core.List.{List, [], _∷_}
 use mathlib.Core.Logic.{_↔_, _⊎_}
 use Prim.Native.Nat.{ℕ, _-_, _<_, _≤_}
 use borrow.Author.Tests.{ltb-true, ltb-false, lt-ltb, le-ltb, not-true, not-false}
 use lib.ListN.{length}
 use Rattle.octets.specs.Octets.{holds}
-use Rattle.refusal.specs.Answer.{Answer, gives, refuses, answered, Given, Clear, numbersOf, apart, Hands}
+use Rattle.refusal.specs.Answer.{Answer, gives, refuses, Given, Clear, numbersOf, apart, Hands}
 use Rattle.refusal.specs.Numbers.{numberOf}
 use Rattle.refusal.specs.declared.Refusal.{Refusal}
 use Rattle.refusal.specs.declared.Handed.the-variants.{Refused}

@@ -1,13 +1,12 @@
 -- Each way out of the decoder's and the writer's tests, over the frame limit N. Assumes nothing.
-use mathlib.Core.Path.{_≡_, refl, sym, ap, _∙_}
-use mathlib.Core.Bool.{Bool, true, false, not}
-use mathlib.Core.List.{List, [], _∷_}
+use mathlib.Core.Path.{_≡_, sym, ap, _∙_}
+use mathlib.Core.Bool.{true, false, not}
+use mathlib.Core.List.{List, _∷_}
 use Prim.Native.Nat.{ℕ, _-_, _<_, _≤_}
-use native.Mathlib.Omega.{arith}
 use borrow.Author.Tests.{lt-ltb, le-ltb, eq-eqb, ne-eqb}
 use lib.ListN.{length, getD, take}
 use Rattle.octets.specs.Octets.{pairOf}
-use Rattle.refusal.specs.Answer.{Answer, refuses, answered, handedOut}
+use Rattle.refusal.specs.Answer.{refuses, handedOut}
 use Rattle.refusal.proofs.Answers.{answered-here, answered-later}
 use Rattle.fcs.specs.Check.{checkOf, withCheck}
 use Rattle.frame.specs.Line.{broken, plain, between}

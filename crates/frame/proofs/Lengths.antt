@@ -1,10 +1,10 @@
 -- How long a written line is, where its flags stand, and which room it needs, over the frame limit N. Assumes nothing.
-use mathlib.Core.Path.{_≡_, refl, sym, ap, _∙_}
-use mathlib.Core.List.{List, [], _∷_, _++_}
+use mathlib.Core.Path.{_≡_, sym, _∙_}
+use mathlib.Core.List.{List, [], _∷_}
 use Prim.Native.Nat.{ℕ, zero, suc, _+_, _-_, _*_, _<_, _≤_}
 use native.Mathlib.Nat.{not-suc-le-zero}
 use native.Mathlib.Omega.{arith}
-use lib.ListN.{length, getD, List·getD-append, length-append}
+use lib.ListN.{length, getD, List·getD-append}
 use Rattle.octets.proofs.Words.{holds-nowhere}
 use Rattle.refusal.specs.Answer.{gives, refuses}
 use Rattle.refusal.proofs.Answers.{no-room, in-room}

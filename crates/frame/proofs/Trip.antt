@@ -1,18 +1,17 @@
 -- The round trip, over the frame limit N: what lies between the flags of a written line decodes to what was put in.
 -- Assumes nothing.
 use mathlib.Core.Path.{_≡_, refl, sym, ap, _∙_}
-use mathlib.Core.Bool.{Bool, true, false, _||_}
+use mathlib.Core.Bool.{Bool, true, false}
 use mathlib.Core.List.{List, [], _∷_, _++_}
-use Prim.Native.Nat.{ℕ, _+_, _-_, _*_, _<_, _≤_}
+use Prim.Native.Nat.{ℕ, _+_, _-_, _≤_}
 use native.Mathlib.Omega.{arith}
-use borrow.Author.Tests.{eqb-true, eqb-false, eq-eqb, ne-eqb}
+use borrow.Author.Tests.{eqb-true, eq-eqb}
 use lib.Dec.{eqb}
-use lib.ListN.{length, getD, take, drop}
+use lib.ListN.{length, getD, take}
 use lib.Seq.{take-at, getD-at, getD-append-add}
-use Rattle.octets.specs.Octets.{Octets, holds, lastOf, lowOf, highOf, pairOf, _atStartOf_}
+use Rattle.octets.specs.Octets.{Octets, holds, lastOf, lowOf, highOf, pairOf}
 use Rattle.octets.proofs.Bounds.{pair-parts}
-use Rattle.octets.proofs.Words.{holds-not}
-use Rattle.refusal.specs.Answer.{Answer, gives, handedOut, Hands}
+use Rattle.refusal.specs.Answer.{gives, handedOut, Hands}
 use Rattle.refusal.specs.declared.Handed.{Handed}
 use Rattle.refusal.specs.declared.Handed.the-variants.{Octets as Handed·Octets}
 use Rattle.refusal.proofs.Answers.{in-room, octets-told, hands-is}

@@ -3,21 +3,21 @@
 use mathlib.Core.Path.{_≡_, refl, sym, ap, _∙_}
 use mathlib.Core.Bool.{Bool, true, false}
 use mathlib.Core.List.{List, [], _∷_, _++_}
-use mathlib.Core.Logic.{_⊎_, inl, inr, ⊎-elim}
+use mathlib.Core.Logic.{_⊎_, inl, inr}
 use Prim.Native.Nat.{ℕ, suc, _+_, _-_, _<_, _≤_}
 use native.Mathlib.Omega.{arith}
-use borrow.Author.Tests.{eqb-true, eqb-false, eq-eqb, ne-eqb}
-use lib.Bits.{bitXor, xor-lt}
+use borrow.Author.Tests.{eqb-true, eqb-false, ne-eqb}
+use lib.Bits.{xor-lt}
 use lib.Dec.{eqb, lit<}
-use lib.ListN.{length, getD, take, drop, take-append-drop, drop-of-length-le}
+use lib.ListN.{length, getD, take, take-append-drop, drop-of-length-le}
 use lib.Seq.{drop-cons}
-use Rattle.octets.specs.Octets.{Octets, holds, lastOf, lowOf, highOf, pairOf}
+use Rattle.octets.specs.Octets.{Octets, holds, lastOf, pairOf}
 use Rattle.octets.proofs.Bounds.{octets-at, low-pair, high-pair, octets-cond}
 use Rattle.octets.proofs.Words.{holds-head, holds-tail}
 use Rattle.refusal.specs.Answer.{gives}
 use Rattle.fcs.specs.Check.{checkOf, withCheck}
-use Rattle.frame.specs.Line.{flag, escape, broken, plainAfter, plain, special, escaped, onLine, between, inside}
-use Rattle.frame.specs.Line.{Needed, NeededNext}
+use Rattle.frame.specs.Line.{flag, escape, plainAfter, plain, special, escaped, onLine, inside}
+use Rattle.frame.specs.Line.{Needed}
 use Rattle.frame.specs.Decode.{body, rightCheck, decoded}
 use Rattle.frame.specs.Write.{lineOf}
 use Rattle.frame.proofs.Exact.{decode-frame}

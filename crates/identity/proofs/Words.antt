@@ -6,11 +6,9 @@ use mathlib.Core.List.{List, [], _∷_, _++_, append-nil}
 use Prim.Native.Nat.{ℕ, zero, suc, _+_, _*_, _≤_, _<_, _^_, min}
 use native.Mathlib.Nat.{two-pow-succ, pow-le-pow-right}
 use native.Mathlib.Omega.{arith}
-use borrow.Author.Tests.{leb-true, leb-false}
-use lib.Dec.{leb}
 use lib.ListN.{length, take, drop, getD, set, replicate}
 use lib.ListN.{length-take, drop-of-length-le, List·getD-eq-default}
-use lib.Seq.{getD-take, getD-drop, drop-drop, take-all, sets}
+use lib.Seq.{getD-take, getD-drop, drop-drop, sets}
 use Rattle.octets.specs.Octets.{Octets, _atStartOf_}
 use Rattle.octets.proofs.Stores.{sets-start, sets-more, sets-done}
 use Rattle.identity.specs.Bits.{Bits, digit, word, packed, ones}

@@ -1,12 +1,11 @@
 -- An allowed record stays allowed under every message, in Connected and with nothing pending: the station keeps its
 -- address and its session, whose numbers are 0 to 7, and the answer, if there is one, becomes the pending one.
 -- Assumes nothing.
-use mathlib.Core.Path.{_≡_, refl, sym, ap, _∙_}
-use mathlib.Core.Bool.{Bool, true, false, _&&_}
+use mathlib.Core.Path.{_≡_, sym, ap, _∙_}
+use mathlib.Core.Bool.{Bool, true}
 use mathlib.Core.List.{List}
-use mathlib.Core.Logic.{_⊎_, inl, inr, ⊎-elim}
+use mathlib.Core.Logic.{_⊎_, ⊎-elim}
 use Prim.Native.Nat.{ℕ}
-use lib.Dec.{leb}
 use Rattle.identity.proofs.Identities.{and-parts}
 use Rattle.antenna.specs.declared.Waits.the-variants.{Result}
 use Rattle.antenna.specs.Motions.{waitingOf}
@@ -18,11 +17,11 @@ use Rattle.record.specs.declared.Station.{Station}
 use Rattle.record.specs.declared.Device.{Device}
 use Rattle.record.specs.Allowed.{addressed, numbersAllowed, pendingFits, sessionAllowed, linkAllowed, stationAllowed}
 use Rattle.record.specs.Allowed.{owedAllowed, allowedDevice}
-use Rattle.record.proofs.Stays.{Sound, sound, allowed-by}
+use Rattle.record.proofs.Stays.{sound, allowed-by}
 use Rattle.message.specs.Carried.{carriedOf, unanswered}
 use Rattle.message.specs.declared.Carried.{Carried}
-use Rattle.message.proofs.Moves.{Due, moved-or-not, due-moves}
-use Rattle.message.proofs.Stays.{stays-in-range, stays-owed, reply-fits}
+use Rattle.message.proofs.Moves.{moved-or-not, due-moves}
+use Rattle.message.proofs.Stays.{stays-in-range, reply-fits}
 
 -- what comes of the message m at the device d
 abbrev pub carriedAt : Device → List ℕ → Carried

@@ -1,7 +1,7 @@
 -- What a message changes. Set tilt alone starts a movement, exactly where it is due; clear alarms alone changes what
 -- is raised and told; subscribe alone changes the subscription; nothing else changes anything. Assumes nothing.
 use mathlib.Core.Path.{_≡_, refl, sym, ap, _∙_}
-use mathlib.Core.Bool.{Bool, true, false, cond, not}
+use mathlib.Core.Bool.{Bool, true, false, cond}
 use mathlib.Core.List.{List, [], _∷_}
 use mathlib.Core.Logic.{_↔_, _⊎_, inl, inr, ⊎-elim}
 use Prim.Native.Nat.{ℕ, _≤_}

@@ -1,22 +1,20 @@
 -- `paramsOf` computes what `WellFormed` says, for octets of any content: a payload has the parameters ps exactly if it
 -- is 0x81, 0xF0, the length of all that follows and the triples of ps, each with a right length and none twice.
 -- So no payload has two readings. Assumes nothing.
-use mathlib.Core.Path.{_≡_, refl, sym, ap, ap₂, _∙_, subst}
+use mathlib.Core.Path.{_≡_, refl, sym, ap, _∙_}
 use mathlib.Core.Bool.{Bool, true, false, cond, not, _&&_, false≢true}
 use mathlib.Core.Logic.{_↔_, ⊎-elim}
 use mathlib.Core.List.{List, [], _∷_, _++_, List·Memᴰ, List·Memᴰ·head, List·Memᴰ·tail, List·Memᴰ·cases-cons}
 use mathlib.Core.List.{List·Memᴰ·not-nil}
 use mathlib.Core.Option.{Option, none, some}
-use Prim.Native.Nat.{ℕ, zero, suc, _+_, _-_, _<_, _≤_}
-use native.Mathlib.Nat.{le-of-suc-le-suc}
+use Prim.Native.Nat.{ℕ, zero, suc, _+_, _-_, _≤_}
 use native.Mathlib.Omega.{arith}
-use borrow.Author.Tests.{leb-true, eqb-true, eq-eqb, ne-eqb, le-leb, not-true}
+use borrow.Author.Tests.{eqb-true, eq-eqb, le-leb, not-true}
 use lib.Dec.{eqb, leb}
-use lib.ListN.{length, getD, take, drop, length-append, length-drop, take-append-drop}
+use lib.ListN.{length, take, drop, length-append, take-append-drop}
 use lib.Seq.{take-append-seam, drop-append-seam, length-take-le}
 use Rattle.octets.specs.Octets.{holds}
-use Rattle.octets.proofs.Rest.{rest}
-use Rattle.octets.proofs.Words.{holds-head, holds-tail, holds-not, true-not-false}
+use Rattle.octets.proofs.Words.{holds-head, holds-tail, holds-not}
 use Rattle.identity.specs.Order.{Different}
 use Rattle.params.specs.Field.{Param, _is_, tripleOf, fieldOf, payloadOf, rightLength, identifiers, AllRight}
 use Rattle.params.specs.Field.{WellFormed, before, triplesAfter, triplesOf, allRight, noneTwice, checked, opened}

@@ -9,7 +9,7 @@ use native.Mathlib.Omega.{arith}
 use lib.Dec.{eqb}
 use lib.ListN.{length, take, drop}
 use lib.Seq.{drop-drop, take-append-seam, drop-append-seam}
-use Rattle.params.specs.Field.{Param, _is_, tripleOf, fieldOf, payloadOf, paramsOf, valueOf, Values, valuesOf}
+use Rattle.params.specs.Field.{Param, _is_, tripleOf, fieldOf, payloadOf, paramsOf, valueOf, valuesOf}
 use Rattle.params.specs.Walk.{partAt, partsAt, walked, walkOf, valueAt, valuesAt}
 use Rattle.params.specs.declared.Part.the-variants.{At}
 use Rattle.params.specs.declared.Parts.{Parts}

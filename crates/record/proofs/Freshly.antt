@@ -1,14 +1,14 @@
 -- How a fresh device is put together, and each way out of `fresh`. Assumes nothing.
-use mathlib.Core.Path.{_≡_, refl, sym, ap, _∙_}
-use mathlib.Core.Bool.{Bool, true, false, not, _&&_}
-use mathlib.Core.List.{List, [], _∷_}
+use mathlib.Core.Path.{_≡_, sym, ap}
+use mathlib.Core.Bool.{true, false, not}
+use mathlib.Core.List.{List}
 use Prim.Native.Nat.{ℕ}
-use Rattle.refusal.specs.Answer.{Answer, gives, refuses, answered}
-use Rattle.refusal.proofs.Answers.{answered-here, answered-later}
+use Rattle.refusal.specs.Answer.{gives, refuses, answered}
+use Rattle.refusal.proofs.Answers.{answered-here}
 use Rattle.identity.proofs.Identities.{and-parts}
 use Rattle.antenna.specs.declared.Alarms.{Alarms}
 use Rattle.antenna.specs.declared.Antenna.{Antenna}
-use Rattle.record.specs.Fresh.{calm, noReply, identityFrom, productFrom, versionFrom, plateFrom, freshStation}
+use Rattle.record.specs.Fresh.{calm, noReply, identityFrom, productFrom, versionFrom, plateFrom}
 use Rattle.record.specs.Fresh.{freshFrom, textsAllowed, dataAllowed, antennaFrom, freshOf}
 use Rattle.record.specs.declared.Identity.{Identity}
 use Rattle.record.specs.declared.Product.{Product}

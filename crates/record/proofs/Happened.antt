@@ -1,14 +1,14 @@
 -- An event of a device is the event of its antenna, after refusal 6. Assumes nothing.
-use mathlib.Core.Path.{_≡_, refl, sym, ap, _∙_}
-use mathlib.Core.Bool.{Bool, true, false, not}
-use mathlib.Core.List.{List, [], _∷_}
+use mathlib.Core.Path.{_≡_, sym, ap}
+use mathlib.Core.Bool.{true, false, not}
+use mathlib.Core.List.{[], _∷_}
 use Prim.Native.Nat.{ℕ}
-use Rattle.refusal.specs.Answer.{Answer, gives, refuses, _when_, answered, Changes}
+use Rattle.refusal.specs.Answer.{refuses, _when_, Changes}
 use Rattle.refusal.specs.declared.Outcome.{Outcome}
 use Rattle.refusal.proofs.Answers.{answered-here, answered-later, changes-is, changes-through}
 use Rattle.antenna.specs.declared.Angle.{Angle}
 use Rattle.antenna.specs.declared.Antenna.{Antenna}
-use Rattle.antenna.specs.Events.{canStop, at, stoppedAt, isAlarm, withAlarm, alarmedOf}
+use Rattle.antenna.specs.Events.{stoppedAt, alarmedOf}
 use Rattle.record.specs.Allowed.{allowedDevice}
 use Rattle.record.specs.Changes.{canBe, afterEvent, antennaHappened, withAntenna, eventRows, happened}
 use Rattle.record.specs.declared.Device.{Device}

@@ -1,7 +1,7 @@
 -- An allowed record stays allowed: under every event, and at a session's end; and a fresh device is allowed.
 -- Assumes nothing.
-use mathlib.Core.Path.{_≡_, refl, sym, ap, _∙_}
-use mathlib.Core.Bool.{Bool, true, false, not, _&&_}
+use mathlib.Core.Path.{_≡_, refl, ap, _∙_}
+use mathlib.Core.Bool.{Bool, true, false, not}
 use mathlib.Core.List.{List}
 use Prim.Native.Nat.{ℕ}
 use borrow.Author.Tests.{not-true, not-false, le-leb}
@@ -10,27 +10,25 @@ use lib.ListN.{length, take, replicate}
 use Rattle.octets.specs.Octets.{_atStartOf_}
 use Rattle.octets.proofs.Stores.{take-start}
 use Rattle.octets.proofs.Words.{true-not-false}
-use Rattle.refusal.specs.Answer.{Answer, gives, Clear}
+use Rattle.refusal.specs.Answer.{gives, Clear}
 use Rattle.refusal.proofs.Exactly.{exactly-given}
-use Rattle.identity.specs.Identity.{width, allowedIdentity}
+use Rattle.identity.specs.Identity.{width}
 use Rattle.identity.proofs.Identities.{and-parts, allowed-parts}
 use Rattle.antenna.specs.declared.Angle.{Angle}
 use Rattle.antenna.specs.declared.Antenna.{Antenna}
 use Rattle.antenna.specs.declared.Motion.{Motion}
 use Rattle.antenna.specs.declared.Motion.the-variants.{Still, Moving, Owing, Stopped}
 use Rattle.antenna.specs.Motions.{inRange, runs, owesOf, unowedOf, moves}
-use Rattle.antenna.specs.Events.{canStop, at, isAlarm, withAlarm, restedOf}
+use Rattle.antenna.specs.Events.{canStop, at, withAlarm, restedOf}
 use Rattle.antenna.proofs.Movements.{unowed-owes}
-use Rattle.record.specs.Allowed.{identityAllowed, platesAllowed, productMost, versionMost, linkAllowed}
+use Rattle.record.specs.Allowed.{identityAllowed, platesAllowed, linkAllowed}
 use Rattle.record.specs.Allowed.{stationAllowed, owedAllowed, allowedDevice}
-use Rattle.record.specs.Fresh.{identityFrom, productFrom, versionFrom, plateFrom, freshStation, freshFrom}
+use Rattle.record.specs.Fresh.{identityFrom, productFrom, versionFrom, plateFrom, freshFrom}
 use Rattle.record.specs.Fresh.{textsAllowed, dataAllowed}
 use Rattle.record.specs.Changes.{unsaidAt, endedAs, canBe, afterEvent, withAntenna, eventRows, happened}
 use Rattle.record.proofs.Laid.{texts-parts}
 use Rattle.record.specs.declared.Link.{Link}
 use Rattle.record.specs.declared.Link.the-variants.{NoAddress, AddressAssigned, Connected}
-use Rattle.record.specs.declared.Plate.{Plate}
-use Rattle.record.specs.declared.Station.{Station}
 use Rattle.record.specs.declared.Device.{Device}
 use Rattle.record.specs.declared.Event.{Event}
 use Rattle.record.specs.declared.Event.the-variants as event

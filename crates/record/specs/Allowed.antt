@@ -8,7 +8,7 @@
 --   owedAllowed l m    == "a tilt result owed only in Connected"
 --   allowedDevice d    == d may be handed in; anything else is refusal 6
 -- "only alarms named below" holds by type. Assumes nothing.
-use mathlib.Core.Bool.{Bool, true, false, not, _&&_}
+use mathlib.Core.Bool.{Bool, true, not, _&&_}
 use mathlib.Core.List.{List}
 use Prim.Native.Nat.{ℕ}
 use lib.Dec.{ltb, leb, eqb}

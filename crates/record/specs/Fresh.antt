@@ -6,11 +6,11 @@
 --   freshFrom ..       == the fresh device; freshOf .. == what is answered
 --   blankDevice        == the record beside a refusal
 -- Assumes nothing.
-use mathlib.Core.Bool.{Bool, true, false, not, _&&_}
+use mathlib.Core.Bool.{Bool, false, not, _&&_}
 use mathlib.Core.List.{List, [], _∷_}
 use Prim.Native.Nat.{ℕ}
 use lib.Dec.{leb}
-use lib.IntN.{ℤ, pos}
+use lib.IntN.{pos}
 use lib.ListN.{length, replicate}
 use Rattle.octets.specs.Octets.{_atStartOf_}
 use Rattle.refusal.specs.Answer.{Answer, _when_, answered}

@@ -1,16 +1,15 @@
 -- A number is given exactly if its row holds and none before it, and what is asked for exactly if no row holds.
 -- One law for every table of rows whose numbers differ. Assumes nothing.
-use mathlib.Core.Path.{_≡_, refl, sym, ap, _∙_}
+use mathlib.Core.Path.{_≡_, refl, sym, ap}
 use mathlib.Core.Bool.{Bool, true, false, cond}
 use mathlib.Core.List.{List, [], _∷_}
 use mathlib.Core.Logic.{_↔_, _⊎_, inl, inr, ⊎-elim}
 use Prim.Native.Nat.{ℕ}
-use native.Mathlib.Omega.{arith}
 use borrow.Author.Tests.{eqb-true, eq-eqb, ne-eqb}
 use lib.Dec.{eqb}
 use Rattle.octets.specs.Octets.{holds}
 use Rattle.octets.proofs.Words.{holds-head, holds-tail, true-not-false}
-use Rattle.refusal.specs.Answer.{Answer, gives, refuses, Row, _when_, answered, Given, Clear, numbersOf}
+use Rattle.refusal.specs.Answer.{gives, refuses, Row, _when_, answered, Given, Clear, numbersOf}
 use Rattle.refusal.specs.Answer.{apart, roomRow, handedOut}
 use Rattle.refusal.proofs.Answers.{gives-not-refuses, refuses-same, gives-same}
 

@@ -6,7 +6,7 @@ use Prim.Native.Nat.{ℕ}
 use lib.Dec.{eqb}
 use Rattle.octets.proofs.Only.{only}
 use Rattle.refusal.specs.Numbers.{numberOf}
-use Rattle.refusal.specs.Answer.{Answer, gives, refuses, handedOut, answerOf, Hands}
+use Rattle.refusal.specs.Answer.{Answer, handedOut, answerOf, Hands}
 use Rattle.refusal.specs.declared.Refusal.{Refusal}
 use Rattle.refusal.specs.declared.Refusal.the-variants.{TooShort, TooLong, WrongCheck, Broken, NoRoom}
 use Rattle.refusal.specs.declared.Refusal.the-variants.{NotAllowed, ScanOver, CannotBe, PayloadTooLong}

@@ -2,7 +2,6 @@
 use mathlib.Core.Path.{_≡_, sym}
 use mathlib.Core.Bool.{Bool, true, false}
 use Rattle.refusal.specs.Answer.{answered, stateAfter, Changes}
-use Rattle.refusal.specs.declared.Outcome.{Outcome}
 use Rattle.refusal.specs.declared.Outcome.the-variants.{Done, Refused}
 use Rattle.refusal.specs.declared.Refusal.the-variants.{ScanOver}
 use Rattle.refusal.proofs.Answers.{answered-here, unchanged, changed}

@@ -7,7 +7,6 @@
 --   reportedAll s answers == the scan s after the answers, reported one after the other
 --   driven heard n s == the scan s after n answers, each as `heard` says of the beginning that is asked
 -- Assumes nothing.
-use mathlib.Core.Path.{_≡_}
 use mathlib.Core.Bool.{Bool, true, false, not, _||_}
 use mathlib.Core.List.{List, [], _∷_, _++_}
 use Prim.Native.Nat.{ℕ, zero, suc, _*_}

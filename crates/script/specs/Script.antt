@@ -17,7 +17,6 @@ use lib.ListN.{length, getD, set, replicate}
 use lib.Seq.{sets}
 use Rattle.script.specs.Words.{spelled, wordAt, spacesIn, placeFrom}
 use Rattle.script.specs.Values.{hexOf, valueOf}
-use Rattle.script.specs.declared.Fault.{Fault}
 use Rattle.script.specs.declared.Fault.the-variants.{Long, Command, Words, Hex}
 use Rattle.script.specs.declared.Value.{Value}
 use Rattle.script.specs.declared.Value.the-variants.{Means, Bad}

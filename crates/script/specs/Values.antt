@@ -8,7 +8,7 @@
 --   valueOf k d w    == what the word w of the kind k stands for, on a bench with d devices
 -- The kinds by their letters: o an octet, r ROOM, d a device K, t a tilt, a an alarm, l a limit, h heard or silent; HEX
 -- has none of these values. Assumes nothing.
-use mathlib.Core.Bool.{Bool, true, false, cond, not, _&&_}
+use mathlib.Core.Bool.{Bool, true, cond, not, _&&_}
 use mathlib.Core.List.{List, [], _∷_}
 use mathlib.Core.Option.{Option, none, some}
 use Prim.Native.Nat.{ℕ, _+_, _-_, _*_, _%_, min}

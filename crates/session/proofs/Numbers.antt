@@ -1,6 +1,6 @@
 -- What an accepted I-frame and an acknowledgement need. Assumes nothing.
-use mathlib.Core.Path.{_≡_, refl, sym, ap, _∙_}
-use mathlib.Core.Bool.{Bool, true, false, not, _&&_, _||_}
+use mathlib.Core.Path.{_≡_}
+use mathlib.Core.Bool.{true, false, not}
 use mathlib.Core.Logic.{_↔_}
 use Prim.Native.Nat.{ℕ, _<_}
 use borrow.Author.Tests.{eqb-true, eq-eqb, not-true}
@@ -8,9 +8,8 @@ use lib.Dec.{eqb}
 use Rattle.identity.proofs.Identities.{and-parts}
 use Rattle.control.specs.Control.{nextOf}
 use Rattle.control.proofs.Named.{next-below}
-use Rattle.record.specs.declared.Pending.the-variants.{Nothing}
 use Rattle.record.specs.declared.Session.{Session}
-use Rattle.session.specs.Session.{pends, acknowledges, goodNumber, accepts, taken}
+use Rattle.session.specs.Session.{pends, acknowledges, accepts, taken}
 
 -- an I-frame is accepted exactly if nothing is pending and its number is the next one due
 pub accepts-exactly : (s : Session) (n : ℕ) → accepts s n ≡ true ↔ (pends (s .pending) ≡ false) × (n ≡ s .r)

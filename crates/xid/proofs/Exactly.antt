@@ -2,28 +2,26 @@
 -- exactly if its address value is 1 to 254 and all that it names fits; no payload is both. For octets of any content
 -- and identities of any octets. Assumes nothing.
 use mathlib.Core.Path.{_≡_, refl, sym, ap, _∙_}
-use mathlib.Core.Bool.{Bool, true, false, cond, not, _&&_, false≢true}
+use mathlib.Core.Bool.{Bool, true, cond, not, _&&_}
 use mathlib.Core.Logic.{_↔_, _⊎_, ⊎-elim}
 use mathlib.Core.List.{List, [], _∷_}
 use mathlib.Core.Option.{Option, none, some}
-use Prim.Native.Nat.{ℕ, suc, _≤_, _<_}
+use Prim.Native.Nat.{ℕ}
 use native.Mathlib.Omega.{arith}
-use borrow.Author.Tests.{eqb-true, eq-eqb, leb-true, le-leb, ltb-true, lt-ltb, not-true}
-use lib.Dec.{eqb, leb, ltb}
-use lib.ListN.{length, getD, take}
-use Rattle.octets.proofs.Words.{true-not-false}
-use Rattle.identity.specs.Bits.{masked}
-use Rattle.identity.specs.Identity.{vendor, padded, same, answersScan}
+use borrow.Author.Tests.{eq-eqb, leb-true, le-leb, ltb-true, lt-ltb, not-true}
+use lib.Dec.{leb, ltb}
+use lib.ListN.{length, take}
+use Rattle.identity.specs.Identity.{vendor, same, answersScan}
 use Rattle.identity.proofs.Scans.{same-is, is-same}
 use Rattle.compare.specs.Rows.{rightmost, endsWith}
 use Rattle.record.specs.Allowed.{addressed}
-use Rattle.params.specs.Field.{Param, _is_, rightLength, AllRight, WellFormed, paramsOf, valueOf, given, octetsIn}
+use Rattle.params.specs.Field.{given, octetsIn}
 use Rattle.params.specs.Field.{Values, valuesOf}
-use Rattle.params.proofs.Exact.{params-exactly, one-reading}
+use Rattle.params.proofs.Exact.{one-reading}
 use Rattle.params.proofs.Kept.{both-of, of-both}
-use Rattle.xid.specs.Match.{deviceType, isScan, scanShape, isAssignment, assignmentShape, scanMatches, addressOf}
+use Rattle.xid.specs.Match.{deviceType, isScan, scanShape, assignmentShape, scanMatches}
 use Rattle.xid.specs.Match.{identityMatches, kindMatches, vendorMatches, assignmentMatches, assigned, judged}
-use Rattle.xid.specs.Match.{judgedParams, readOf}
+use Rattle.xid.specs.Match.{readOf}
 use Rattle.xid.specs.Meaning.{ScanOf, AssignmentOf, IfGiven, EndOf, Meant, Answers, Takes}
 use Rattle.xid.proofs.Told.{given-none, values-are, scan-values, unmasked, address-one, scan-told}
 use Rattle.xid.proofs.Told.{assignment-told, formed-of, read-is}

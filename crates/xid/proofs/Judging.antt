@@ -1,24 +1,23 @@
 -- How the tests of the code, one after the other, come to what the definition says. Assumes nothing.
-use mathlib.Core.Path.{_≡_, refl, sym, ap, _∙_}
-use mathlib.Core.Bool.{Bool, true, false, cond, _&&_}
+use mathlib.Core.Path.{_≡_, _∙_}
+use mathlib.Core.Bool.{Bool, true, false}
 use mathlib.Core.List.{List, [], _∷_}
-use mathlib.Core.Option.{Option, none, some}
-use Prim.Native.Nat.{ℕ, zero, suc, _≤_, min}
+use mathlib.Core.Option.{none, some}
+use Prim.Native.Nat.{ℕ, min}
 use native.Mathlib.Omega.{arith}
-use lib.ListN.{length, getD, take, drop, length-take}
-use lib.Seq.{take-all, take-nil}
+use lib.ListN.{length, getD, take, drop}
 use Rattle.octets.proofs.Takes.{take-min, take-within}
 use Rattle.identity.specs.Bits.{masked}
 use Rattle.identity.specs.Identity.{padded, same, answersScan}
 use Rattle.compare.specs.Rows.{endsWith}
 use Rattle.record.specs.Allowed.{addressed}
 use Rattle.params.specs.Field.{Param, paramsOf, valuesOf, octetsIn}
-use Rattle.params.specs.Walk.{valueAt, valuesAt, walkOf}
+use Rattle.params.specs.Walk.{valueAt, valuesAt}
 use Rattle.params.specs.declared.Part.{Part}
 use Rattle.params.specs.declared.Part.the-variants.{Absent, At}
 use Rattle.params.specs.declared.Parts.{Parts}
 use Rattle.xid.specs.Match.{isScan, isAssignment, scanMatches, identityMatches, kindMatches}
-use Rattle.xid.specs.Match.{vendorMatches, addressOf, assignmentMatches, assigned, judged, judgedParams, readOf}
+use Rattle.xid.specs.Match.{vendorMatches, assignmentMatches, assigned, judged, judgedParams, readOf}
 use Rattle.xid.specs.declared.Xid.{Xid}
 use Rattle.xid.specs.declared.Xid.the-variants.{Silence, Scan, Assignment}
 

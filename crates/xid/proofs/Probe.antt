@@ -1,15 +1,15 @@
 -- The scanner's probe is a scan: a device answers it exactly if its identity answers the mask and the value in it.
 -- Assumes nothing.
 use mathlib.Core.Path.{_≡_, refl, sym, ap, ap₂, _∙_}
-use mathlib.Core.Bool.{Bool, true, false, cond}
+use mathlib.Core.Bool.{cond}
 use mathlib.Core.List.{List, [], _∷_, _++_, append-nil}
 use Prim.Native.Nat.{ℕ, _+_}
 use native.Mathlib.Omega.{arith}
 use lib.ListN.{length, length-append}
 use Rattle.octets.specs.Octets.{holds}
 use Rattle.identity.specs.Identity.{width, answersScan}
-use Rattle.params.specs.Field.{Param, _is_, tripleOf, fieldOf, payloadOf, rightLength, identityLong, identifiers}
-use Rattle.params.specs.Field.{WellFormed, noneTwice, valueOf, valuesOf}
+use Rattle.params.specs.Field.{_is_, tripleOf, fieldOf, payloadOf, rightLength, identityLong, identifiers}
+use Rattle.params.specs.Field.{noneTwice, valueOf, valuesOf}
 use Rattle.params.proofs.Exact.{once-different}
 use Rattle.xid.specs.Match.{readOf}
 use Rattle.xid.specs.Meaning.{ScanOf}

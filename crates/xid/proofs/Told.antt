@@ -1,28 +1,22 @@
 -- What follows for the values of a payload from how it is judged. Assumes nothing.
 use mathlib.Core.Path.{_≡_, refl, sym, ap, _∙_}
 use mathlib.Core.Bool.{Bool, true, false, cond, not, _&&_, false≢true}
-use mathlib.Core.Logic.{_↔_, _⊎_, ⊎-elim}
 use mathlib.Core.List.{List, [], _∷_}
 use mathlib.Core.Option.{Option, none, some}
-use Prim.Native.Nat.{ℕ, suc, _≤_, _<_}
+use Prim.Native.Nat.{ℕ}
 use native.Mathlib.Omega.{arith}
-use borrow.Author.Tests.{eqb-true, eq-eqb, leb-true, le-leb, ltb-true, lt-ltb, not-true}
-use lib.Dec.{eqb, leb, ltb}
-use lib.ListN.{length, getD, take}
+use borrow.Author.Tests.{eqb-true, not-true}
+use lib.Dec.{eqb}
+use lib.ListN.{length, getD}
 use Rattle.octets.proofs.Words.{true-not-false}
-use Rattle.identity.specs.Bits.{masked}
-use Rattle.identity.specs.Identity.{padded, same, answersScan}
-use Rattle.identity.proofs.Scans.{same-is, is-same}
-use Rattle.compare.specs.Rows.{rightmost, endsWith}
-use Rattle.record.specs.Allowed.{addressed}
+use Rattle.identity.specs.Identity.{same}
 use Rattle.params.specs.Field.{Param, _is_, rightLength, AllRight, WellFormed, paramsOf, valueOf, given, octetsIn}
 use Rattle.params.specs.Field.{Values, valuesOf}
-use Rattle.params.proofs.Exact.{params-exactly, one-reading}
-use Rattle.params.proofs.Kept.{both-of, of-both}
-use Rattle.xid.specs.Match.{isScan, scanShape, isAssignment, assignmentShape, scanMatches, addressOf}
-use Rattle.xid.specs.Match.{identityMatches, kindMatches, vendorMatches, assignmentMatches, assigned, judged}
+use Rattle.params.proofs.Exact.{params-exactly}
+use Rattle.params.proofs.Kept.{both-of}
+use Rattle.xid.specs.Match.{isScan, scanShape, isAssignment, scanMatches, addressOf}
+use Rattle.xid.specs.Match.{assignmentMatches, assigned, judged}
 use Rattle.xid.specs.Match.{judgedParams, readOf}
-use Rattle.xid.specs.Meaning.{ScanOf, AssignmentOf, IfGiven, EndOf, Meant}
 use Rattle.xid.specs.declared.Xid.{Xid}
 use Rattle.xid.specs.declared.Xid.the-variants.{Silence, Scan, Assignment}
 

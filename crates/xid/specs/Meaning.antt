@@ -17,7 +17,7 @@ use lib.ListN.{length, take}
 use Rattle.identity.specs.Bits.{masked}
 use Rattle.identity.specs.Identity.{vendor, padded}
 use Rattle.compare.specs.Rows.{rightmost}
-use Rattle.params.specs.Field.{Param, WellFormed, Values, valuesOf}
+use Rattle.params.specs.Field.{Param, WellFormed, valuesOf}
 use Rattle.xid.specs.Match.{deviceType}
 
 pub record ScanOf (m v k : List ℕ) : Type 0 where

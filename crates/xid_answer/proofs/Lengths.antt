@@ -1,18 +1,18 @@
 -- The answers' lengths: n+8 and n+5 in the length field for an identity of n octets, and at most 74 octets for an
 -- allowed one. They are well formed themselves, and the payload's first octets are theirs. Assumes nothing.
-use mathlib.Core.Path.{_≡_, refl, sym, ap, _∙_}
-use mathlib.Core.Bool.{Bool, true, false, _&&_}
+use mathlib.Core.Path.{_≡_, refl}
+use mathlib.Core.Bool.{true}
 use mathlib.Core.List.{List, [], _∷_}
 use Prim.Native.Nat.{ℕ, _+_, _≤_}
 use native.Mathlib.Omega.{arith}
 use borrow.Author.Tests.{le-leb}
 use lib.ListN.{length, getD, take, replicate}
-use Rattle.octets.specs.Octets.{holds, _atStartOf_}
+use Rattle.octets.specs.Octets.{holds}
 use Rattle.octets.proofs.Stores.{take-start}
 use Rattle.identity.specs.Identity.{width, allowedIdentity}
 use Rattle.identity.proofs.Identities.{allowed-parts}
 use Rattle.record.specs.Allowed.{replyMost}
-use Rattle.params.specs.Field.{_is_, payloadOf, rightLength, identityLong, identifiers, WellFormed, noneTwice}
+use Rattle.params.specs.Field.{payloadOf, rightLength, identityLong, identifiers, WellFormed, noneTwice}
 use Rattle.params.proofs.Exact.{once-different}
 use Rattle.params.proofs.Kept.{of-both}
 use Rattle.xid_answer.specs.Answer.{scanParams, assignmentParams, scanAnswer, assignmentAnswer}

@@ -1,16 +1,14 @@
 -- How an answer comes to stand in a payload, triple by triple. Assumes nothing.
-use mathlib.Core.Path.{_≡_, refl, sym, ap, ap₂, _∙_}
+use mathlib.Core.Path.{_≡_, refl, sym, _∙_}
 use mathlib.Core.List.{List, [], _∷_, _++_, append-nil}
 use Prim.Native.Nat.{ℕ, _+_, _≤_, min}
 use native.Mathlib.Nat.{zero-add}
 use native.Mathlib.Omega.{arith}
 use lib.ListN.{length, take, set, replicate, length-append, length-take}
-use lib.Seq.{sets, take-all}
-use Rattle.octets.specs.Octets.{_atStartOf_}
+use lib.Seq.{sets}
 use Rattle.octets.proofs.Runs.{Run, run-all, run-two, run-some, run-done}
 use Rattle.octets.proofs.Stores.{sets-start}
-use Rattle.record.specs.declared.Payload.{Payload}
-use Rattle.params.specs.Field.{Param, _is_, tripleOf, fieldOf, payloadOf}
+use Rattle.params.specs.Field.{_is_, tripleOf, fieldOf, payloadOf}
 use Rattle.xid.specs.Match.{deviceType}
 use Rattle.octets.proofs.Takes.{take-within}
 use Rattle.xid_answer.specs.Answer.{opening, scanParams, assignmentParams, scanAnswer, assignmentAnswer}

@@ -3,14 +3,8 @@
 --   assignmentParams i == those of the answer to an assignment; assignmentAnswer i == its payload
 --   opening k          == the three octets before the triples, with the length k
 -- Assumes nothing.
-use mathlib.Core.Path.{_≡_}
 use mathlib.Core.List.{List, [], _∷_}
-use Prim.Native.Nat.{ℕ, _+_}
-use lib.ListN.{length, replicate}
-use lib.Seq.{sets}
-use Rattle.octets.specs.Octets.{_atStartOf_}
-use Rattle.record.specs.Allowed.{replyMost}
-use Rattle.record.specs.declared.Payload.{Payload}
+use Prim.Native.Nat.{ℕ}
 use Rattle.params.specs.Field.{Param, _is_, payloadOf}
 use Rattle.xid.specs.Match.{deviceType}
 

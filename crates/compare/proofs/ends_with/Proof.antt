@@ -1,6 +1,6 @@
 -- `compare::ends_with` meets its promise: the right-most octets are those from the start on. Assumes nothing.
 use Rattle.compare.proofs.Laws.{ends-longer, ends-right}
-use mathlib.Core.Path.{sym, ap, _∙_}
+use mathlib.Core.Path.{_∙_}
 use borrow.Author.Needs.{needs}
 use Rattle.compare.proofs.ends_with.Statement.{statement}
 use Rattle.compare.proofs.ends_with.Tie as tie

@@ -1,6 +1,6 @@
 -- `compare::padded` meets its promise: what is left to pad comes to the same as all. Assumes nothing.
 use borrow.Author.Needs.{needs}
-use mathlib.Core.Path.{_≡_, refl, sym, _∙_}
+use mathlib.Core.Path.{_≡_, refl, _∙_}
 use Prim.Native.Nat.{_-_}
 use lib.ListN.{replicate}
 use lib.Seq.{sets}

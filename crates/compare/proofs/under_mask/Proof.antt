@@ -3,8 +3,7 @@
 use borrow.Author.Needs.{needs}
 use mathlib.Core.Path.{_≡_, refl, sym, _∙_}
 use Prim.Native.Nat.{_-_, _≤_}
-use native.Mathlib.Omega.{arith}
-use lib.ListN.{length, drop}
+use lib.ListN.{drop}
 use Rattle.identity.specs.Bits.{masked}
 use Rattle.identity.specs.Identity.{same}
 use Rattle.compare.proofs.Laws.{same-differ, length-masked, masked-not, masked-more, masked-done}

@@ -52,23 +52,19 @@ fresh-requires c κs = search needs
 
 returns : tie.Need-returns
 returns c =
-    let a = c .before .before .before .before .before .before .before .before .before .before .before .before .before .before .before .before .args in
-    fresh-by (a .values) (now (a .octets))
-    (c .before .before .before .before .before .before .before .before .before .before .before .before .before .before .value .ensures)
-    (c .before .before .before .before .before .before .before .before .before .before .before .before .before .value2 .ensures)
-    (c .before .before .before .before .before .before .before .before .before .before .before .before .value3 .ensures)
-    (c .before .before .before .before .before .before .before .before .value4 .ensures)
-    (c .before .before .before .before .before .before .value5 .ensures)
-    (c .before .before .before .before .value6 .ensures)
-    (c .before .before .value7 .ensures)
-    (c .before .before .before .before .before .before .before .before .before .before .before .part .ensures)
-    (c .before .before .before .before .before .before .before .before .before .before .part2 .ensures)
-    (c .before .before .before .before .before .before .before .before .before .part3 .ensures)
-    (c .before .before .before .before .before .before .before .part4 .ensures)
-    (c .before .before .before .before .before .tilt-of .ensures)
-    (c .before .before .before .tilt-of2 .ensures)
-    (c .before .tilt-of3 .ensures)
-    (c .fresh .ensures)
+    let at7 = c .before .before in
+    let at6 = at7 .before .before in
+    let at5 = at6 .before .before in
+    let at4 = at5 .before .before in
+    let at3 = at4 .before .before .before .before in
+    let at2 = at3 .before in
+    let at1 = at2 .before in
+    let a = at1 .before .before .args in
+    fresh-by (a .values) (now (a .octets)) (at1 .value .ensures) (at2 .value2 .ensures) (at3 .value3 .ensures)
+    (at4 .value4 .ensures) (at5 .value5 .ensures) (at6 .value6 .ensures) (at7 .value7 .ensures)
+    (at4 .before .before .before .part .ensures) (at4 .before .before .part2 .ensures) (at4 .before .part3 .ensures)
+    (at5 .before .part4 .ensures) (at6 .before .tilt-of .ensures) (at7 .before .tilt-of2 .ensures)
+    (c .before .tilt-of3 .ensures) (c .fresh .ensures)
 
 pub fresh-spec : {M : Type 1} → statement M
 fresh-spec =

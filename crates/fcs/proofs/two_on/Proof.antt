@@ -1,6 +1,5 @@
 -- `fcs::two_on` meets its promise: the second octet comes down with the register. Assumes nothing.
 use borrow.Author.Needs.{needs}
-use native.Mathlib.Omega.{arith}
 use Rattle.fcs.proofs.Register.{register-both}
 use Rattle.fcs.proofs.two_on.Statement.{statement}
 use Rattle.fcs.proofs.two_on.Tie as tie

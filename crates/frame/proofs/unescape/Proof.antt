@@ -5,7 +5,7 @@ use mathlib.Core.List.{List}
 use Prim.Native.Nat.{ℕ, _≤_, _-_}
 use lib.ListN.{length, drop}
 use Rattle.octets.specs.Octets.{holds}
-use Rattle.octets.proofs.Runs.{Run, run-all, run-one, run-is, run-done}
+use Rattle.octets.proofs.Runs.{Run, run-all, run-one, run-done}
 use Rattle.octets.proofs.Words.{holds-here, holds-more, holds-done}
 use Rattle.frame.specs.Line.{flag, plain}
 use Rattle.frame.proofs.Filled.{fills-of}

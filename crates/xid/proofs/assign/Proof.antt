@@ -4,7 +4,6 @@ use mathlib.Core.Path.{sym, ap, _∙_}
 use mathlib.Core.List.{List}
 use Prim.Native.Nat.{ℕ}
 use lib.ListN.{getD}
-use borrow.Author.Needs.{needs}
 use Rattle.xid.proofs.assign.Statement.{statement}
 use Rattle.xid.proofs.assign.Tie as tie
 use Rattle.xid.proofs.assign.Reads as reads

@@ -1,9 +1,7 @@
 -- `xid::assignment_shape` meets its promise: one test after the other. Assumes nothing.
-use Rattle.xid.specs.Match.{isGiven}
 use Rattle.xid.specs.Match.{assignmentShape}
 use mathlib.Core.Path.{sym, _∙_}
 use Rattle.octets.proofs.Rules.{tests}
-use borrow.Author.Needs.{needs}
 use Rattle.xid.proofs.assignment_shape.Statement.{statement}
 use Rattle.xid.proofs.assignment_shape.Tie as tie
 use Rattle.xid.proofs.assignment_shape.Reads as reads

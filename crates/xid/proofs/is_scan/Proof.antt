@@ -1,8 +1,6 @@
 -- `xid::is_scan` meets its promise: the shape, then the lengths. Assumes nothing.
-use Rattle.xid.specs.Match.{isScan}
 use mathlib.Core.Path.{sym, _∙_}
 use Rattle.xid.proofs.Shapes.{scan-lengths, scan-not}
-use borrow.Author.Needs.{needs}
 use Rattle.xid.proofs.is_scan.Statement.{statement}
 use Rattle.xid.proofs.is_scan.Tie as tie
 use Rattle.xid.proofs.is_scan.Reads as reads

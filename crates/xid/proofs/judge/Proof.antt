@@ -1,8 +1,7 @@
 -- `xid::judge` meets its promise: one test after the other. Assumes nothing.
 use Rattle.xid.proofs.Judging.{judged-scan, judged-other, judged-assignment, judged-neither}
 use Rattle.xid.proofs.Shapes.{assignment-shaped}
-use mathlib.Core.Path.{sym, ap, _∙_}
-use borrow.Author.Needs.{needs}
+use mathlib.Core.Path.{sym, _∙_}
 use Rattle.xid.proofs.judge.Statement.{statement}
 use Rattle.xid.proofs.judge.Tie as tie
 use Rattle.xid.proofs.judge.Reads as reads

@@ -1,7 +1,6 @@
 -- `xid::scan_shape` meets its promise: one test after the other. Assumes nothing.
 use mathlib.Core.Path.{sym, _∙_}
 use Rattle.xid.proofs.Shapes.{no-identity, no-mask, an-address, a-kind, a-vendor}
-use borrow.Author.Needs.{needs}
 use Rattle.xid.proofs.scan_shape.Statement.{statement}
 use Rattle.xid.proofs.scan_shape.Tie as tie
 use Rattle.xid.proofs.scan_shape.Reads as reads

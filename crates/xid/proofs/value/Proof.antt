@@ -1,7 +1,7 @@
 -- `xid::value` meets its promise: a case a variant. Assumes nothing.
 use Rattle.params.specs.Field.{octetsIn}
 use Rattle.params.specs.Walk.{valueAt}
-use mathlib.Core.Path.{sym, _∙_}
+use mathlib.Core.Path.{sym}
 use Rattle.octets.proofs.Rules.{tests}
 use borrow.Author.Needs.{needs}
 use Rattle.xid.proofs.value.Statement.{statement}
