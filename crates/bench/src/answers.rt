@@ -4,7 +4,6 @@ use crate::rows;
 use antenna::Angle;
 use device::Said;
 use libc::STDOUT_FILENO;
-use refusal::Handed;
 use refusal::Outcome;
 use refusal::Refusal;
 
@@ -108,17 +107,8 @@ pub fn say_refused(refusal: Refusal) {
 }
 
 // The whole of a lent output.
-fn say_buffer(lent: [u8; ROOM], room: usize) {
+pub fn say_buffer(lent: [u8; ROOM], room: usize) {
     say_hex(b' ', rows::part(&lent, 0, room));
-}
-
-// What is handed out, by its name.
-pub fn say_handed(name: Name, handed: Handed, lent: [u8; ROOM], room: usize) {
-    match handed {
-        Handed::Octets(n) => say_count(name, n),
-        Handed::Refused(refusal) => say_refused(refusal),
-    }
-    say_buffer(lent, room);
 }
 
 // A device's answer.

@@ -2,7 +2,7 @@
 // read, and its command carried out; the answer goes to standard output word by word. What a line means and what the
 // commands do is the libraries'; here are the row of devices and the scan by hand that the bench holds.
 mod answers;
-mod codec;
+mod handed;
 mod input;
 mod rows;
 mod scanned;
@@ -11,9 +11,9 @@ mod shown;
 
 use answers::Name;
 use antenna::Angle;
+use bus::MOST;
+use bus::Row;
 use drives::Answer;
-use mast::MOST;
-use mast::Row;
 use record::Span;
 use script::Asked;
 use script::Fault;
@@ -161,7 +161,7 @@ fn play(row: Row) {
         let command = command_of(line);
         row = obey(row, command, asked);
         scan = scans::by_hand(scan, command, asked);
-        codec::obey(command, asked);
+        handed::obey(scan, command, asked);
         end_answer(command);
         if !input.whole {
             return;

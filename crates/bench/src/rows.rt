@@ -7,6 +7,10 @@ pub fn value(asked: Asked, place: usize) -> usize {
     values[place % 8]
 }
 
+pub fn octet(asked: Asked, place: usize) -> u8 {
+    (value(asked, place) % 256) as u8
+}
+
 // Part of a row; nothing where the row has no such part.
 pub fn part(s: &[u8], from: usize, end: usize) -> &[u8] {
     if end < from {

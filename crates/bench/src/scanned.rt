@@ -1,13 +1,9 @@
-// What a scan comes to, in one line, and its next probe. Assumes nothing of the caller.
+// What a scan comes to, in one line. Assumes nothing of the caller.
 use crate::answers;
-use crate::answers::FILL;
 use crate::answers::Name;
-use crate::answers::ROOM;
 use crate::rows;
 use scan::Scan;
 use scan::State;
-
-const PROBE: Name = *b"probe.......";
 
 const GOING: Name = *b"going.......";
 
@@ -77,11 +73,4 @@ pub fn say_scan(scan: Scan) {
     if words == 2 {
         say_beginning(beginning, scan.bits);
     }
-}
-
-// The next probe.
-pub fn probe(scan: Scan, room: usize) {
-    let mut lent = [FILL; ROOM];
-    let handed = scan::probe(scan, rows::front(&mut lent, room));
-    answers::say_handed(PROBE, handed, lent, room);
 }

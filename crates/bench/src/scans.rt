@@ -1,4 +1,4 @@
-// `begin`, `probe` and `report`: a scan by hand. Assumes nothing of the caller.
+// `begin` and `report`: a scan by hand. Assumes nothing of the caller.
 use crate::answers;
 use crate::answers::Name;
 use crate::rows;
@@ -20,15 +20,12 @@ fn report(scan: Scan, heard: bool) -> Scan {
     scan
 }
 
-// The commands at the places 8 to 10; any other leaves the scan alone.
+// The commands at the places 8 and 10; any other leaves the scan alone.
 pub fn by_hand(scan: Scan, command: usize, asked: Asked) -> Scan {
     let value = rows::value(asked, 1);
     if command == 8 {
         answers::say(BEGUN);
         return scan::new((value % 65536) as u16);
-    }
-    if command == 9 {
-        scanned::probe(scan, value);
     }
     if command == 10 {
         return report(scan, value == 1);

@@ -10,7 +10,7 @@ use Rattle.refusal.specs.Answer.{Answer, gives, refuses, settled, stateAfter}
 use Rattle.record.specs.declared.Device.{Device}
 use Rattle.record.specs.Changes.{happened}
 use Rattle.device.specs.Judge.{Reaction, toldOf, deviceAfter, bufferAfter}
-use Rattle.mast.specs.declared.Row.{Row}
+use Rattle.bus.specs.declared.Row.{Row}
 use Rattle.drives.specs.Drives.{Reply, noCommand, noDevice, full, device, outcome, answer, state, After, Came}
 use Rattle.drives.specs.Drives.{_saying_, _leaving_, withDevice, deviceAt, isDevice, listens, tells, eventOf, befalls}
 use Rattle.drives.specs.Drives.{freshBy, added, adds, drives, toDevice, obeyed}

@@ -9,7 +9,7 @@ use Rattle.refusal.proofs.Only.{outcome-apart}
 use Rattle.device.specs.declared.Said.{Said}
 use Rattle.device.specs.Judge.{saidOf}
 use Rattle.device.proofs.Only.{said-apart}
-use Rattle.mast.specs.declared.Row.{Row}
+use Rattle.bus.specs.declared.Row.{Row}
 use Rattle.drives.specs.declared.Answer as the-answer
 use Rattle.drives.specs.declared.Answer.the-variants as code
 use Rattle.drives.specs.declared.Obeyed.{Obeyed}

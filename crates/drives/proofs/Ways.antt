@@ -21,7 +21,7 @@ use Rattle.record.specs.Changes.{happened}
 use Rattle.device.specs.declared.Said.{Said}
 use Rattle.device.specs.declared.Judged.{Judged}
 use Rattle.device.specs.Judge.{Reaction, judged, heard, Judges}
-use Rattle.mast.specs.declared.Row.{Row}
+use Rattle.bus.specs.declared.Row.{Row}
 use Rattle.drives.specs.declared.Answer.the-variants as code
 use Rattle.drives.specs.declared.Obeyed.{Obeyed}
 use Rattle.drives.specs.Drives.{After, Came, Obeys, noDevice, noCommand, device, outcome, answer, state}

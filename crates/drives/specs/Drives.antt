@@ -26,7 +26,7 @@ use Rattle.record.specs.declared.Event.the-variants.{Stopped, Raised, Cleared}
 use Rattle.record.specs.Fresh.{freshOf, blankDevice}
 use Rattle.record.specs.Changes.{happened}
 use Rattle.device.specs.Judge.{Reaction, judged, heard, saidOf, toldOf, deviceAfter, bufferAfter}
-use Rattle.mast.specs.declared.Row.{Row}
+use Rattle.bus.specs.declared.Row.{Row}
 use Rattle.drives.specs.declared.Answer as the-answer
 use Rattle.drives.specs.declared.Answer.the-variants as code
 use Rattle.drives.specs.declared.Obeyed.{Obeyed}

@@ -3,7 +3,7 @@
 -- Assumes nothing.
 use Prim.Native.Nat.{ℕ}
 use Rattle.record.specs.declared.Device.{Device}
-use Rattle.mast.specs.declared.Row.{Row}
+use Rattle.bus.specs.declared.Row.{Row}
 use Rattle.drives.specs.Drives.{withDevice}
 use Rattle.drives.specs.declared.Answer.{Answer}
 use Rattle.drives.specs.declared.Obeyed.{Obeyed}

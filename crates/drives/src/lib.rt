@@ -13,10 +13,10 @@ ghost use Rattle.drives.specs.Drives.{Obeys, afterOf, tiltOf, freshBy, a
 ghost use Rattle.drives.specs.Drives.{deviceAt, befalls, tells, toDevice, obeyed};
 ghost use Rattle.drives.specs.Steps.{putBack};
 use antenna::Angle;
+use bus::MOST;
+use bus::Row;
 use device::Judged;
 use device::Said;
-use mast::MOST;
-use mast::Row;
 use record::Changed;
 use record::Device;
 use record::Event;

@@ -15,7 +15,7 @@ use Rattle.whole_scan.specs.Demand.{AnyScan, BusScan}
 use Rattle.bus.specs.Cable.{paddedIn, Cabled, heardOn}
 use Rattle.bus.specs.Scanning.{probesAsked, started}
 use Rattle.bus.proofs.Scans.{scan-unchanged, scan-row, scan-any, scan-complete}
-use Rattle.mast.specs.declared.Row.{Row}
+use Rattle.bus.specs.declared.Row.{Row}
 use Rattle.mast.specs.Mast.{onCable, offCable, withDevices, sweptBy, swept}
 
 -- a row of the code has 32 places, so that no more devices hang on the cable

@@ -2,7 +2,7 @@
 use mathlib.Core.Path.{_≡_}
 use Prim.Native.Nat.{ℕ}
 use Rattle.octets.proofs.Only.{only}
-use Rattle.mast.specs.declared.Row.{Row}
+use Rattle.bus.specs.declared.Row.{Row}
 use Rattle.mast.specs.declared.Swept.{Swept}
 use Rattle.mast.specs.Mast.{swept}
 

@@ -20,7 +20,7 @@ use Rattle.mast.specs.Steps.{lineIn, isGiven, Asks, Listens, Sends}
 use Rattle.mast.specs.declared.Asked.{Asked}
 use Rattle.mast.specs.declared.Listened.{Listened}
 use Rattle.mast.specs.declared.Heard.{Heard}
-use Rattle.mast.specs.declared.Row.{Row}
+use Rattle.bus.specs.declared.Row.{Row}
 
 -- ---- a line goes to every device
 

@@ -10,7 +10,7 @@ use Prim.Native.Nat.{ℕ}
 use lib.ListN.{take, drop}
 use Rattle.record.specs.declared.Device.{Device}
 use Rattle.bus.specs.Scanning.{Bus, scanned}
-use Rattle.mast.specs.declared.Row.{Row}
+use Rattle.bus.specs.declared.Row.{Row}
 use Rattle.mast.specs.declared.Swept.{Swept}
 
 abbrev pub onCable : Row → List Device

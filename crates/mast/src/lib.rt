@@ -10,13 +10,12 @@ ghost use Rattle.scan.specs.Scan.{probed, reported};
 ghost use Rattle.bus.specs.Cable.{lineFor};
 ghost use Rattle.mast.specs.Mast.{swept};
 ghost use Rattle.mast.specs.Steps.{sizeIn, givenIn, frameIn, lineIn, Asks, Listens, Sends};
+use bus::MOST;
+use bus::Row;
 use device::Said;
 use record::Device;
 use refusal::Handed;
 use scan::Scan;
-
-// The most devices.
-pub const MOST: usize = 32;
 
 // The octets of a probe.
 const PROBE: usize = 47;
@@ -25,12 +24,6 @@ const PROBE: usize = 47;
 const LINE: usize = 158;
 
 const ANSWER: usize = 76;
-
-// The first `count` of the devices hang on the cable.
-pub struct Row {
-    pub devices: [Device; MOST],
-    pub count: usize,
-}
 
 // A scan that was run to its end, and the row after it.
 pub struct Swept {
