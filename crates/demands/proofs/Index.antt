@@ -1,5 +1,5 @@
 -- The headline theorems of the crates under one roof: where each stands, in the order of the crates. docs/THEOREMS.md
--- says each in a sentence, and those of the bench script, which stand in script/proofs and drives/proofs. Assumes nothing.
+-- says each in a sentence, and those of a line of the bench script, which stand in script/proofs. Assumes nothing.
 
 -- ---- numbers for "no": the first row that holds, both ways; one result for each promise
 pub use Rattle.refusal.proofs.Exactly.{exactly, exactly-given, answered-all}
@@ -57,3 +57,6 @@ pub use Rattle.demands.proofs.Cable.{heard-when, whole-row, installer}
 pub use Rattle.demands.proofs.Cases.{starred-hold}
 -- ---- and of a scan of a row of devices, in code
 pub use Rattle.mast.proofs.Demand.{sweep-unchanged, sweep-row, sweep-any, sweep-complete}
+-- ---- commands to such a row: one result, and a "no" changes nothing
+pub use Rattle.drives.proofs.Only.{obey-only}
+pub use Rattle.drives.proofs.Keeps.{no-keeps}
