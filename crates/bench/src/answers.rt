@@ -30,16 +30,12 @@ const DONE: Name = *b"done........";
 
 // ---- words, numbers, octets
 
-fn say_octets(s: &[u8]) {
+pub fn say_octets(s: &[u8]) {
     io::write_all(STDOUT_FILENO, s);
 }
 
 pub fn say(name: Name) {
     say_octets(rows::part(&name, 0, octets::find(b'.', &name)));
-}
-
-pub fn end_line() {
-    say_octets(b"\n");
 }
 
 pub fn say_number(mark: u8, number: usize) {

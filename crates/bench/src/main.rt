@@ -142,7 +142,7 @@ fn obey(row: Row, command: usize, asked: Asked) -> Row {
 
 fn end_answer(command: usize) {
     if command < NOTHING {
-        answers::end_line();
+        answers::say_octets(b"\n");
     }
 }
 

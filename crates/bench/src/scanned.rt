@@ -33,12 +33,6 @@ fn say_list(list: [u8; scan::LIST], listed: usize) {
     }
 }
 
-// The beginning that a scan names.
-fn say_beginning(beginning: [bool; identity::BITS], bits: usize) {
-    answers::say_number(b' ', bits);
-    answers::say_hex(b':', &identity::octets_of(beginning, bits));
-}
-
 fn name_of(state: State) -> Name {
     match state {
         State::Asking { quiet: _, doubt: _ } => GOING,
@@ -71,6 +65,7 @@ pub fn say_scan(scan: Scan) {
     }
     say_list(list, scan.listed);
     if words == 2 {
-        say_beginning(beginning, scan.bits);
+        answers::say_number(b' ', scan.bits);
+        answers::say_hex(b':', &identity::octets_of(beginning, scan.bits));
     }
 }

@@ -64,10 +64,6 @@ fn say_pending(pending: Pending, station: Station) {
     }
 }
 
-fn result_name(reached: bool) -> Name {
-    if reached { REACHED } else { JAMMED }
-}
-
 fn say_drive(motion: Motion) {
     match motion {
         Motion::Still => answers::say(STILL),
@@ -76,7 +72,12 @@ fn say_drive(motion: Motion) {
             answers::say(MOVING);
             answers::say_tilt(b':', asked);
         }
-        Motion::Stopped { reached } => answers::say(result_name(reached)),
+        Motion::Stopped { reached } => {
+            if reached {
+                return answers::say(REACHED);
+            }
+            answers::say(JAMMED);
+        }
     }
 }
 
