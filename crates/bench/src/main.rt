@@ -150,7 +150,7 @@ fn end_answer(command: usize) {
 // uses up.
 fn play(row: Row) {
     let mut row = row;
-    let mut scan = scan::new(0);
+    let mut scan = scanner::new(0);
     let mut input = input::unread();
     let mut turns = u64::MAX;
     while 0 < turns {

@@ -10,7 +10,7 @@ use script::Asked;
 const BEGUN: Name = *b"begun.......";
 
 fn report(scan: Scan, heard: bool) -> Scan {
-    let reported = scan::report(scan, heard);
+    let reported = scanner::report(scan, heard);
     let outcome = reported.outcome;
     let scan = reported.scan;
     match outcome {
@@ -25,7 +25,7 @@ pub fn by_hand(scan: Scan, command: usize, asked: Asked) -> Scan {
     let value = rows::value(asked, 1);
     if command == 8 {
         answers::say(BEGUN);
-        return scan::new((value % 65536) as u16);
+        return scanner::new((value % 65536) as u16);
     }
     if command == 10 {
         return report(scan, value == 1);

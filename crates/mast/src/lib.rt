@@ -160,7 +160,7 @@ fn send(devices: [Device; MOST], count: usize, line: Written) -> Heard
 fn told(scan: Scan, heard: bool) -> Scan
     ensures { λ r. ⌜ r ≡ stateAfter (reported scan heard) scan ⌝ }
 {
-    let reported = scan::report(scan, heard);
+    let reported = scanner::report(scan, heard);
     reported.scan
 }
 
@@ -170,7 +170,7 @@ pub fn sweep(row: Row, limit: u16) -> Swept
 {
     let count = row.count;
     let mut devices = row.devices;
-    let mut scan = scan::new(limit);
+    let mut scan = scanner::new(limit);
     let mut probes = limit;
     while 0 < probes {
         probes -= 1;

@@ -1,11 +1,11 @@
--- `scan::note` meets its promise: a law of `Moves` for each of the four ways of a step. Assumes nothing.
+-- `scanner::note` meets its promise: a law of `Moves` for each of the four ways of a step. Assumes nothing.
 use borrow.Author.Needs.{needs}
 use borrow.Author.Tests.{not-true, not-false}
 use mathlib.Core.Path.{_∙_}
 use native.Mathlib.Omega.{arith}
 use Rattle.scan.proofs.Moves.{note-silent, note-deeper, note-listed, note-full}
-use Rattle.scan.proofs.note.Statement.{statement}
-use Rattle.scan.proofs.note.Tie as tie
+use Rattle.scanner.proofs.note.Statement.{statement}
+use Rattle.scanner.proofs.note.Tie as tie
 
 climb-requires : tie.Need-climb-requires
 climb-requires c κs = search needs

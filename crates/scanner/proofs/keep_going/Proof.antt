@@ -1,9 +1,9 @@
--- `scan::keep_going` meets its promise: the state is what its count and its limit give. Assumes nothing.
+-- `scanner::keep_going` meets its promise: the state is what its count and its limit give. Assumes nothing.
 use borrow.Author.Needs.{needs}
 use mathlib.Core.Path.{ap, _∙_}
 use Rattle.scan.specs.Steps.{inState}
-use Rattle.scan.proofs.keep_going.Statement.{statement}
-use Rattle.scan.proofs.keep_going.Tie as tie
+use Rattle.scanner.proofs.keep_going.Statement.{statement}
+use Rattle.scanner.proofs.keep_going.Tie as tie
 
 standing-requires : tie.Need-standing-requires
 standing-requires c κs = search needs

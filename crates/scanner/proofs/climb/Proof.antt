@@ -1,13 +1,13 @@
--- `scan::climb` meets its promise: a trailing one dropped does not change what is next. Assumes nothing.
+-- `scanner::climb` meets its promise: a trailing one dropped does not change what is next. Assumes nothing.
 use borrow.Author.Tests.{not-true, not-false}
 use mathlib.Core.Path.{_≡_, refl, _∙_}
 use Prim.Native.Nat.{_≤_}
 use native.Mathlib.Omega.{arith}
 use lib.ListN.{take}
 use Rattle.walk.specs.Machine.{next}
 use Rattle.scan.proofs.Climbs.{climb-zero, climb-one, climb-none}
-use Rattle.scan.proofs.climb.Statement.{statement}
-use Rattle.scan.proofs.climb.Tie as tie
+use Rattle.scanner.proofs.climb.Statement.{statement}
+use Rattle.scanner.proofs.climb.Tie as tie
 
 abbrev Inv-loop : tie.InvT-loop
 Inv-loop bits beginning n₀ n = (n ≤ bits) × (next (take bits beginning) ≡ next (take n beginning))

@@ -1,9 +1,9 @@
--- `scan::move_on` meets its promise: done where no bit is left, else the last is made a one. Assumes nothing.
+-- `scanner::move_on` meets its promise: done where no bit is left, else the last is made a one. Assumes nothing.
 use borrow.Author.Needs.{needs}
 use mathlib.Core.Path.{_∙_}
 use Rattle.scan.proofs.Moves.{moved-none, moved-some}
-use Rattle.scan.proofs.move_on.Statement.{statement}
-use Rattle.scan.proofs.move_on.Tie as tie
+use Rattle.scanner.proofs.move_on.Statement.{statement}
+use Rattle.scanner.proofs.move_on.Tie as tie
 
 finished-requires : tie.Need-finished-requires
 finished-requires c κs = search needs

@@ -1,11 +1,11 @@
--- `scan::report` meets its promise: the row of 7, or one step. Assumes nothing.
+-- `scanner::report` meets its promise: the row of 7, or one step. Assumes nothing.
 use borrow.Author.Needs.{needs}
 use mathlib.Core.Path.{sym, _∙_}
 use Rattle.scan.proofs.Overs.{tag-ended, over-ended, open-parts}
 use Rattle.scan.proofs.Reports.{report-over, report-taken}
 use Rattle.scan.proofs.Moves.{noted-step}
-use Rattle.scan.proofs.report.Statement.{statement}
-use Rattle.scan.proofs.report.Tie as tie
+use Rattle.scanner.proofs.report.Statement.{statement}
+use Rattle.scanner.proofs.report.Tie as tie
 
 is-over-requires : tie.Need-is-over-requires
 is-over-requires c κs = search needs

@@ -1,9 +1,9 @@
--- `scan::zero_half` meets its promise: a half is the 0 half exactly if its last bit is 0. Assumes nothing.
+-- `scanner::zero_half` meets its promise: a half is the 0 half exactly if its last bit is 0. Assumes nothing.
 use borrow.Author.Needs.{needs}
 use native.Mathlib.Omega.{arith}
 use Rattle.scan.proofs.Climbs.{zero-half-at, zero-half-none}
-use Rattle.scan.proofs.zero_half.Statement.{statement}
-use Rattle.scan.proofs.zero_half.Tie as tie
+use Rattle.scanner.proofs.zero_half.Statement.{statement}
+use Rattle.scanner.proofs.zero_half.Tie as tie
 
 returns : tie.Need-returns
 returns c = zero-half-none _ _ (c .if1 .taken)

@@ -1,7 +1,7 @@
--- `scan::finished` meets its promise: a test decides between the two ends. Assumes nothing.
+-- `scanner::finished` meets its promise: a test decides between the two ends. Assumes nothing.
 use Rattle.scan.specs.Steps.{finishedBy}
-use Rattle.scan.proofs.finished.Statement.{statement}
-use Rattle.scan.proofs.finished.Tie as tie
+use Rattle.scanner.proofs.finished.Statement.{statement}
+use Rattle.scanner.proofs.finished.Tie as tie
 
 returns : tie.Need-returns
 unfolding finishedBy

@@ -1,8 +1,8 @@
--- `scan::new` meets its promise: its state is what the limit gives. Assumes nothing.
+-- `scanner::new` meets its promise: its state is what the limit gives. Assumes nothing.
 use borrow.Author.Needs.{needs}
 use Rattle.scan.specs.Scan.{fresh}
-use Rattle.scan.proofs.new.Statement.{statement}
-use Rattle.scan.proofs.new.Tie as tie
+use Rattle.scanner.proofs.new.Statement.{statement}
+use Rattle.scanner.proofs.new.Tie as tie
 
 standing-requires : tie.Need-standing-requires
 standing-requires c κs = search needs
