@@ -1,7 +1,7 @@
 // Identities, and beginnings as octets. Assumes nothing of its caller.
 ghost use mathlib.Core.Path.{_≡_};
-ghost use mathlib.Core.Bool.{true, false};
-ghost use Prim.Native.Nat.{_+_, _*_, _≤_, min};
+ghost use mathlib.Core.Bool.{false};
+ghost use Prim.Native.Nat.{_≤_, min};
 ghost use lib.ListN.{take, drop, getD};
 ghost use Rattle.identity.specs.Bits.{word, digit, ones};
 ghost use Rattle.identity.specs.Identity.{depth, allPrintable, allowedIdentity, octetsOf};

@@ -1,8 +1,8 @@
 // The master's scanner: a new scan, and an answer reported to one. The record goes in by value and comes back; any
 // record of the type may be handed in. Assumes nothing of its caller.
 ghost use mathlib.Core.Path.{_≡_};
-ghost use mathlib.Core.Bool.{true, false, _||_};
-ghost use Prim.Native.Nat.{_+_, _*_, _≤_, _<_};
+ghost use mathlib.Core.Bool.{_||_};
+ghost use Prim.Native.Nat.{_*_, _≤_, _<_};
 ghost use lib.ListN.{length, take};
 ghost use lib.Seq.{sets};
 ghost use Rattle.refusal.specs.Answer.{Changes};

@@ -3,7 +3,7 @@
 // Assumes nothing of its caller.
 ghost use mathlib.Core.Path.{_≡_};
 ghost use mathlib.Core.List.{[], _∷_};
-ghost use mathlib.Core.Option.{Option, none, some};
+ghost use mathlib.Core.Option.{some};
 ghost use Prim.Native.Nat.{_≤_};
 ghost use lib.ListN.{take};
 ghost use Rattle.speech.specs.Speech.{octetsOf, pendingOctets, linkOctets, isSilent, controlBy, payloadBy};
