@@ -1,9 +1,12 @@
-/* The codec in C: a pass for the escapes and one for the check, and the same in one pass. Assumes that
- * baseline_tables has been called. */
+/* The codec in C: a pass for the escapes and one for the check; the same in one pass; and the loops that ours has.
+ * Assumes that baseline_tables has been called. */
 #include "baseline.h"
+#include <stdbool.h>
 #include <string.h>
 
 enum { FLAG = 0x7E, ESCAPE = 0x7D, LIMIT = 78, REFUSED = 0x10000, RESIDUE = 0xF0B8 };
+
+typedef uint16_t checker(const uint8_t *, size_t);
 
 static uint16_t table[8][256];
 
@@ -33,20 +36,6 @@ uint16_t baseline_check(const uint8_t *s, size_t len)
     return r ^ 0xFFFF;
 }
 
-uint16_t baseline_check2(const uint8_t *s, size_t len)
-{
-    uint16_t r = 0xFFFF;
-    size_t pairs = len / 2 * 2, i;
-    for (i = 0; i < pairs; i += 2) {
-        r ^= s[i] | s[i + 1] << 8;
-        r = r >> 8 ^ table[0][r & 0xFF];
-        r = r >> 8 ^ table[0][r & 0xFF];
-    }
-    if (i < len)
-        r = step(r, s[i]);
-    return r ^ 0xFFFF;
-}
-
 uint16_t baseline_check8(const uint8_t *s, size_t len)
 {
     uint16_t r = 0xFFFF;
@@ -56,6 +45,35 @@ uint16_t baseline_check8(const uint8_t *s, size_t len)
     for (; len; s++, len--)
         r = step(r, *s);
     return r ^ 0xFFFF;
+}
+
+static size_t handed(const uint8_t *b, size_t n, uint8_t *out, size_t room)
+{
+    if (room < n)
+        return REFUSED + 5;
+    memcpy(out, b, n);
+    return n;
+}
+
+static inline size_t delivered(checker *check, const uint8_t *d, size_t n, uint8_t *out, size_t room)
+{
+    if (n < 4)
+        return REFUSED + 1;
+    if (n > LIMIT)
+        return REFUSED + 2;
+    if (check(d, n - 2) != (d[n - 2] | d[n - 1] << 8))
+        return REFUSED + 3;
+    return handed(d, n - 2, out, room);
+}
+
+static inline void assemble(checker *check, uint8_t address, uint8_t control, const uint8_t *payload, size_t len, uint8_t *d)
+{
+    d[0] = address;
+    d[1] = control;
+    memcpy(d + 2, payload, len);
+    uint16_t sum = check(d, len + 2);
+    d[len + 2] = sum & 0xFF;
+    d[len + 3] = sum >> 8;
 }
 
 size_t baseline_decode(const uint8_t *src, size_t len, uint8_t *out, size_t room)
@@ -78,16 +96,7 @@ size_t baseline_decode(const uint8_t *src, size_t len, uint8_t *out, size_t room
             d[n] = b;
         n++;
     }
-    if (n < 4)
-        return REFUSED + 1;
-    if (n > LIMIT)
-        return REFUSED + 2;
-    if (baseline_check(d, n - 2) != (d[n - 2] | d[n - 1] << 8))
-        return REFUSED + 3;
-    if (room < n - 2)
-        return REFUSED + 5;
-    memcpy(out, d, n - 2);
-    return n - 2;
+    return delivered(baseline_check, d, n, out, room);
 }
 
 size_t baseline_write(uint8_t address, uint8_t control, const uint8_t *payload, size_t len, uint8_t *out, size_t room)
@@ -96,12 +105,7 @@ size_t baseline_write(uint8_t address, uint8_t control, const uint8_t *payload, 
     size_t n = 0;
     if (len > LIMIT - 4)
         return REFUSED + 9;
-    d[0] = address;
-    d[1] = control;
-    memcpy(d + 2, payload, len);
-    uint16_t check = baseline_check(d, len + 2);
-    d[len + 2] = check & 0xFF;
-    d[len + 3] = check >> 8;
+    assemble(baseline_check, address, control, payload, len, d);
     line[n++] = FLAG;
     for (size_t i = 0; i < len + 4; i++) {
         if (d[i] == FLAG || d[i] == ESCAPE) {
@@ -112,10 +116,7 @@ size_t baseline_write(uint8_t address, uint8_t control, const uint8_t *payload, 
         }
     }
     line[n++] = FLAG;
-    if (room < n)
-        return REFUSED + 5;
-    memcpy(out, line, n);
-    return n;
+    return handed(line, n, out, room);
 }
 
 size_t baseline_decode1(const uint8_t *src, size_t len, uint8_t *out, size_t room)
@@ -146,10 +147,7 @@ size_t baseline_decode1(const uint8_t *src, size_t len, uint8_t *out, size_t roo
         return REFUSED + 2;
     if (r != RESIDUE)
         return REFUSED + 3;
-    if (room < n - 2)
-        return REFUSED + 5;
-    memcpy(out, d, n - 2);
-    return n - 2;
+    return handed(d, n - 2, out, room);
 }
 
 static size_t put(uint8_t *line, size_t n, uint8_t b)
@@ -180,8 +178,65 @@ size_t baseline_write1(uint8_t address, uint8_t control, const uint8_t *payload,
     n = put(line, n, r & 0xFF);
     n = put(line, n, r >> 8);
     line[n++] = FLAG;
-    if (room < n)
-        return REFUSED + 5;
-    memcpy(out, line, n);
-    return n;
+    return handed(line, n, out, room);
+}
+
+/* two octets at once: the second comes down with the register */
+static uint16_t two_on(uint16_t r, const uint8_t *s)
+{
+    r ^= s[0] | s[1] << 8;
+    r = r >> 8 ^ table[0][r & 0xFF];
+    return r >> 8 ^ table[0][r & 0xFF];
+}
+
+uint16_t baseline_check_as(const uint8_t *s, size_t len)
+{
+    uint16_t r = 0xFFFF;
+    size_t whole = len / 8 * 8, i;
+    for (i = 0; i < whole; i += 8)
+        r = two_on(two_on(two_on(two_on(r, s + i), s + i + 2), s + i + 4), s + i + 6);
+    for (; i + 1 < len; i += 2)
+        r = two_on(r, s + i);
+    if (i < len)
+        r = step(r, s[i]);
+    return r ^ 0xFFFF;
+}
+
+static bool is_broken(const uint8_t *s, size_t len)
+{
+    bool found = false;
+    for (size_t i = 0; i < len; i++)
+        if (s[i] == FLAG)
+            found = true;
+    return found || (len && s[len - 1] == ESCAPE);
+}
+
+size_t baseline_decode_as(const uint8_t *src, size_t len, uint8_t *out, size_t room)
+{
+    uint8_t d[2 * LIMIT + 2];
+    size_t n = 0;
+    if (is_broken(src, len))
+        return REFUSED + 4;
+    if (len > sizeof d)
+        return REFUSED + 2;
+    for (size_t i = 0; i < len; i++)
+        d[n++] = src[i] == ESCAPE ? src[++i] ^ 0x20 : src[i];
+    return delivered(baseline_check_as, d, n, out, room);
+}
+
+size_t baseline_write_as(uint8_t address, uint8_t control, const uint8_t *payload, size_t len, uint8_t *out, size_t room)
+{
+    uint8_t d[LIMIT], line[2 * LIMIT + 2];
+    size_t n = 0, i;
+    if (len > LIMIT - 4)
+        return REFUSED + 9;
+    assemble(baseline_check_as, address, control, payload, len, d);
+    line[n++] = FLAG;
+    size_t whole = (len + 4) / 4 * 4;
+    for (i = 0; i < whole; i += 4)
+        n = put(line, put(line, put(line, put(line, n, d[i]), d[i + 1]), d[i + 2]), d[i + 3]);
+    for (; i < len + 4; i++)
+        n = put(line, n, d[i]);
+    line[n++] = FLAG;
+    return handed(line, n, out, room);
 }

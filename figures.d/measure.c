@@ -41,22 +41,32 @@ static void same(size_t ours, size_t theirs, const uint8_t *a, const uint8_t *b)
 
 static void decoded_alike(const uint8_t *s, size_t n, size_t room)
 {
-    uint8_t a[LINE] = {0}, b[LINE] = {0}, c[LINE] = {0};
+    decoder *const all[] = {baseline_decode, baseline_decode1, baseline_decode_as};
+    uint8_t a[LINE] = {0};
     size_t ours = gorittaem_decode(s, n, a, room);
-    same(ours, baseline_decode(s, n, b, room), a, b);
-    same(ours, baseline_decode1(s, n, c, room), a, c);
+    for (size_t k = 0; k < sizeof all / sizeof *all; k++) {
+        uint8_t b[LINE] = {0};
+        same(ours, all[k](s, n, b, room), a, b);
+    }
+}
+
+static void written_alike(size_t n, size_t room)
+{
+    writer *const all[] = {baseline_write, baseline_write1, baseline_write_as};
+    uint8_t a[LINE] = {0};
+    size_t ours = gorittaem_write(frame[0], frame[1], frame + 2, n, a, room);
+    for (size_t k = 0; k < sizeof all / sizeof *all; k++) {
+        uint8_t b[LINE] = {0};
+        same(ours, all[k](frame[0], frame[1], frame + 2, n, b, room), a, b);
+    }
 }
 
 static void hold_to_each_other(void)
 {
     uint8_t damaged[LINE];
     for (size_t n = 0; n <= sizeof frame; n++)
-        for (size_t room = 0; room <= LINE; room++) {
-            uint8_t a[LINE] = {0}, b[LINE] = {0}, c[LINE] = {0};
-            size_t ours = gorittaem_write(frame[0], frame[1], frame + 2, n, a, room);
-            same(ours, baseline_write(frame[0], frame[1], frame + 2, n, b, room), a, b);
-            same(ours, baseline_write1(frame[0], frame[1], frame + 2, n, c, room), a, c);
-        }
+        for (size_t room = 0; room <= LINE; room++)
+            written_alike(n, room);
     for (size_t n = 0; n < len; n++)
         decoded_alike(line + 1, n, LINE);
     for (size_t room = 0; room <= LINE; room++)
@@ -68,8 +78,8 @@ static void hold_to_each_other(void)
             decoded_alike(damaged, len - 2, LINE);
         }
     for (size_t n = 0; n <= sizeof frame; n++)
-        if (gorittaem_check(frame, n) != baseline_check(frame, n) || baseline_check(frame, n) != baseline_check2(frame, n)
-            || baseline_check(frame, n) != baseline_check8(frame, n))
+        if (gorittaem_check(frame, n) != baseline_check(frame, n) || baseline_check(frame, n) != baseline_check8(frame, n)
+            || baseline_check(frame, n) != baseline_check_as(frame, n))
             same(0, 1, frame, frame);
 }
 
@@ -107,22 +117,26 @@ int main(int argc, char **argv)
         check(gorittaem_check, count);
     else if (!strcmp(what, "check-c"))
         check(baseline_check, count);
-    else if (!strcmp(what, "check-c2"))
-        check(baseline_check2, count);
     else if (!strcmp(what, "check-c8"))
         check(baseline_check8, count);
+    else if (!strcmp(what, "check-as"))
+        check(baseline_check_as, count);
     else if (!strcmp(what, "decode-ours"))
         decode(gorittaem_decode, count);
     else if (!strcmp(what, "decode-c"))
         decode(baseline_decode, count);
     else if (!strcmp(what, "decode-c1"))
         decode(baseline_decode1, count);
+    else if (!strcmp(what, "decode-as"))
+        decode(baseline_decode_as, count);
     else if (!strcmp(what, "write-ours"))
         write(gorittaem_write, count);
     else if (!strcmp(what, "write-c"))
         write(baseline_write, count);
     else if (!strcmp(what, "write-c1"))
         write(baseline_write1, count);
+    else if (!strcmp(what, "write-as"))
+        write(baseline_write_as, count);
     else
         return 2;
     return 0;

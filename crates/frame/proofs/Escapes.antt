@@ -1,16 +1,16 @@
 -- Octets put on the line, one after the other: how many, and which. Assumes nothing.
-use mathlib.Core.Path.{_≡_, refl, ap, _∙_}
+use mathlib.Core.Path.{_≡_, refl}
 use mathlib.Core.Bool.{Bool, true, false}
 use mathlib.Core.List.{List, [], _∷_, _++_}
 use Prim.Native.Nat.{ℕ, _+_, _-_, _*_, _<_, _≤_}
 use native.Mathlib.Omega.{arith}
 use lib.Bits.{bitXor}
 use lib.Dec.{lit≤}
-use lib.ListN.{length, getD, drop, drop-of-length-le, length-append, set}
-use lib.Seq.{sets, set-set}
+use lib.ListN.{length, getD, drop, drop-of-length-le, length-append, length-drop, set}
+use Rattle.octets.specs.Puts.{Puts}
 use Rattle.octets.proofs.Rest.{rest}
+use Rattle.octets.proofs.Runs.{run-all, run-one, run-put, run-done}
 use Rattle.frame.specs.Line.{flag, escape, special, escaped, onLine, between}
-use Rattle.frame.specs.Steps.{Fills}
 
 pub escaped-special : (x : ℕ) → special x ≡ true → escaped x ≡ escape ∷ bitXor x 0x20 ∷ []
 unfolding escaped
@@ -36,34 +36,50 @@ pub length-between : (d : List ℕ) → length (between d) ≡ length (onLine d)
 unfolding between
 length-between d = rw length-append (omega arith)
 
--- the octet before is written once more
-pub overwritten : (o : List ℕ) (n x y : ℕ) → set (set o n x) (n + 1 - 1) y ≡ set o n y
-overwritten o n x y = let e : n + 1 - 1 ≡ n = omega arith in rw e (set-set o n x y)
+-- one octet is put, as y to the place n: behind its escape, or at once
+module _ (x : ℕ) (o : List ℕ) (at : ℕ) {o₁ : List ℕ} {n y : ℕ} where
+  pub special-put : special x ≡ true → o₁ ≡ set o at escape → n ≡ at + 1 → y ≡ bitXor x 0x20
+      → Puts o at (escaped x) (n + 1) (set o₁ n y)
+  special-put e s k v = rw (k, v) (run-done refl (run-one _ refl refl (run-one _ s (escaped-special x e) run-all)))
 
--- a loop that goes through d by i, with z behind it: one octet more, and the end
-module _ (d z : List ℕ) (i : ℕ) where
-  module _ (h : i < length d) where
-    pub line-special : special (getD d i 0) ≡ true
-        → onLine (drop i d) ++ z ≡ escape ∷ bitXor (getD d i 0) 0x20 ∷ (onLine (drop (i + 1) d) ++ z)
-    unfolding onLine
-    line-special e = rw (rest d i h, escaped-special (getD d i 0) e)
+  pub other-put : special x ≡ false → o₁ ≡ o → n ≡ at → y ≡ x → Puts o at (escaped x) (n + 1) (set o₁ n y)
+  other-put e s k v = rw (s, k, v) (run-done refl (run-one _ refl (escaped-other x e) run-all))
 
-    pub line-other : special (getD d i 0) ≡ false
-        → onLine (drop i d) ++ z ≡ getD d i 0 ∷ (onLine (drop (i + 1) d) ++ z)
-    unfolding onLine
-    line-other e = rw (rest d i h, escaped-other (getD d i 0) e)
+-- how far it goes
+pub octet-few : (x : ℕ) {o o' : List ℕ} {at n : ℕ} → Puts o at (escaped x) n o' → n ≤ at + 2
+octet-few x p = omega (arith, p .count, escaped-short x)
 
-  pub line-done : length d ≤ i → onLine (drop i d) ++ z ≡ z
+-- a loop that goes through d by i: one octet more, four, and the end
+module _ (d : List ℕ) where
+  pub line-more : (i : ℕ) → i < length d → onLine (drop i d) ≡ escaped (getD d i 0) ++ onLine (drop (i + 1) d)
   unfolding onLine
-  line-done h = rw (drop-of-length-le d h)
+  line-more i h = rw (rest d i h)
 
--- the first flag, and then what follows it
-pub between-filled : (d : List ℕ) {o o₀ o' : List ℕ} {n : ℕ} → o₀ ≡ set o 0 flag
-    → (n ≡ 1 + length (onLine d ++ flag ∷ [])) × (o' ≡ sets o₀ 1 (onLine d ++ flag ∷ [])) → Fills o (between d) n o'
+  pub line-four : (i : ℕ) → i + 3 < length d → onLine (drop i d) ≡ escaped (getD d i 0) ++ (escaped (getD d (i + 1) 0)
+      ++ (escaped (getD d (i + 2) 0) ++ (escaped (getD d (i + 3) 0) ++ onLine (drop (i + 4) d))))
+  line-four i h =
+      let two : i + 1 + 1 ≡ i + 2 = omega arith in
+      let three : i + 2 + 1 ≡ i + 3 = omega arith in
+      let four : i + 3 + 1 ≡ i + 4 = omega arith in
+      let second = rw two at (line-more (i + 1) (omega arith)) in
+      let third = rw three at (line-more (i + 2) (omega arith)) in
+      let fourth = rw four at (line-more (i + 3) h) in
+      rw (line-more i (omega arith), second, third, fourth)
+
+  pub line-done : (i : ℕ) → length d ≤ i → onLine (drop i d) ≡ []
+  unfolding onLine
+  line-done i h = rw (drop-of-length-le d h)
+
+  -- how far the octets from i on go
+  pub rest-few : (i : ℕ) {o o' : List ℕ} {at n : ℕ} → Puts o at (onLine (drop i d)) n o' → n ≤ at + 2 * (length d - i)
+  rest-few i p = omega (arith, p .count, onLine-short (drop i d), length-drop i d)
+
+-- the first flag, what lies between, and the last flag
+pub between-put : (d : List ℕ) {o o₁ o₂ o' : List ℕ} {n : ℕ} → o₁ ≡ set o 0 flag → Puts o₁ 1 (onLine d) n o₂
+    → o' ≡ set o₂ n flag → Puts o 0 (between d) (n + 1) o'
 unfolding between
-between-filled d s f =
-    record { count = omega (arith, f .0); octets = f .1 ∙ ap (λ (l : List ℕ). sets l 1 (onLine d ++ flag ∷ [])) s }
+between-put d s p t = run-done refl (run-one _ t refl (run-put (onLine d) p refl (run-one _ s refl run-all)))
 
 -- at most 78 octets take at most 158 on the line
-pub between-short : (d : List ℕ) {o o' : List ℕ} {n : ℕ} → Fills o (between d) n o' → length d ≤ 78 → n ≤ 158
-between-short d f h = omega (arith, f .count, length-between d, onLine-short d)
+pub between-short : (d : List ℕ) {o o' : List ℕ} {n : ℕ} → Puts o 0 (between d) n o' → length d ≤ 78 → n ≤ 158
+between-short d p h = omega (arith, p .count, length-between d, onLine-short d)

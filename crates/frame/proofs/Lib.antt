@@ -2,7 +2,6 @@
 pub mod Assembled
 pub mod Escapes
 pub mod Exact
-pub mod Filled
 pub mod Judge
 pub mod Lengths
 pub mod Lines

@@ -5,17 +5,14 @@ use mathlib.Core.Bool.{Bool, true, false, cond, _||_}
 use mathlib.Core.List.{List, [], _∷_}
 use Prim.Native.Nat.{ℕ, suc, _+_, _-_, _*_, _<_, _≤_}
 use native.Mathlib.Omega.{arith}
-use borrow.Author.Tests.{eq-eqb, ne-eqb, lt-ltb, le-ltb, ltb-true, ltb-false}
+use borrow.Author.Tests.{eq-eqb, ne-eqb, ltb-true, ltb-false}
 use lib.Bits.{bitXor}
 use lib.Dec.{eqb, ltb}
 use lib.ListN.{length, getD, drop, drop-of-length-le}
-use Rattle.octets.specs.Octets.{holds, placeOf, lastOf}
+use Rattle.octets.specs.Octets.{holds, lastOf}
 use Rattle.octets.proofs.Rest.{rest}
-use Rattle.octets.proofs.Words.{true-not-false, place-held, last-at}
+use Rattle.octets.proofs.Words.{true-not-false, holds-here, holds-more, holds-done, last-at}
 use Rattle.frame.specs.Line.{flag, escape, broken, plainAfter, plain}
-use Rattle.frame.specs.Steps.{Fills, Unescapes}
-use Rattle.frame.specs.declared.Unescaped.{Unescaped}
-use Rattle.frame.specs.declared.Unescaped.the-variants.{Flag, Octets}
 
 module _ (s : List ℕ) (i : ℕ) where
   pub plain-done : length s ≤ i → plain (drop i s) ≡ []
@@ -65,31 +62,26 @@ plain-long s = plain-long-after false s
 pub overlong : (s : List ℕ) → 158 < length s → 78 < length (plain s)
 overlong s h = omega (arith, plain-long s)
 
--- a flag looked for by its place
-module _ (s : List ℕ) {n : ℕ} (e : n ≡ placeOf flag s) where
-  pub flag-at : n < length s → holds flag s ≡ true
-  flag-at h = place-held flag s ∙ lt-ltb (placeOf flag s) (length s) (rw e at h)
+-- a flag looked for by a loop that goes through all of s, whatever it found
+module _ (s : List ℕ) (i : ℕ) {w : Bool} where
+  pub flag-here : (found : Bool) → (found || holds flag (drop i s)) ≡ w → i < length s → getD s i 0 ≡ flag → true ≡ w
+  flag-here true v h e = v
+  flag-here false v h e = holds-here flag s i v h e
 
-  pub flag-nowhere : length s ≤ n → holds flag s ≡ false
-  flag-nowhere h = place-held flag s ∙ le-ltb (placeOf flag s) (length s) (rw e at h)
+  pub flag-more : (found : Bool) → (found || holds flag (drop i s)) ≡ w → i < length s → (getD s i 0 ≡ flag → ⊥)
+      → (found || holds flag (drop (i + 1) s)) ≡ w
+  flag-more true v h n = v
+  flag-more false v h n = holds-more flag s i v h n
 
-or-true : (a : Bool) → (a || true) ≡ true
-or-true true = refl
-or-true false = refl
+  pub flag-done : (found : Bool) → (found || holds flag (drop i s)) ≡ w → length s ≤ i → found ≡ w
+  flag-done true v h = v
+  flag-done false v h = holds-done flag s i v h
 
 or-parts : (a b : Bool) → (a || b) ≡ false → (a ≡ false) × (b ≡ false)
 or-parts true b e = absurd (true-not-false e)
 or-parts false b e = (refl, e)
 
 module _ (s : List ℕ) where
-  pub broken-end : eqb (lastOf 0 s) escape ≡ true → broken s ≡ true
-  unfolding broken
-  broken-end e = rw e (or-true (holds flag s))
-
-  pub broken-flag : holds flag s ≡ true → broken s ≡ true
-  unfolding broken
-  broken-flag e = rw e
-
   pub unbroken : holds flag s ≡ false → eqb (lastOf 0 s) escape ≡ false → broken s ≡ false
   unfolding broken
   unbroken e f = rw (e, f)
@@ -97,10 +89,3 @@ module _ (s : List ℕ) where
   pub unbroken-parts : broken s ≡ false → (holds flag s ≡ false) × (eqb (lastOf 0 s) escape ≡ false)
   unfolding broken
   unbroken-parts e = or-parts (holds flag s) (eqb (lastOf 0 s) escape) e
-
-module _ (s o o' : List ℕ) {r : Unescaped} (u : Unescapes s o r o') where
-  pub flag-found : r ≡ Flag → holds flag s ≡ true
-  flag-found e = rw e at u
-
-  pub octets-found : {n : ℕ} → r ≡ Octets n → (holds flag s ≡ false) × Fills o (plain s) n o'
-  octets-found e = rw e at u

@@ -2,4 +2,3 @@
 pub mod Line
 pub mod Decode
 pub mod Write
-pub mod Steps

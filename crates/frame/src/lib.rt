@@ -7,23 +7,17 @@ ghost use Prim.Native.Nat.{_≤_};
 ghost use mathlib.Core.Bool.{false};
 ghost use lib.Dec.{eqb};
 ghost use lib.ListN.{length};
-ghost use Rattle.octets.specs.Octets.{lastOf};
+ghost use Rattle.octets.specs.Octets.{holds, lastOf};
+ghost use Rattle.octets.specs.Puts.{Puts};
 ghost use Rattle.refusal.specs.Answer.{Hands};
-ghost use Rattle.frame.specs.Line.{escape};
+ghost use Rattle.frame.specs.Line.{flag, escape, broken, plain};
 ghost use Rattle.frame.specs.Decode.{framed, decoded};
-ghost use Rattle.frame.specs.Steps.{Unescapes};
 use refusal::Handed;
 use refusal::Refusal;
 
 const FLAG: u8 = 0x7E;
 
 const ESCAPE: u8 = 0x7D;
-
-// What taking the escapes out of a line found: a flag inside, or so many octets.
-enum Unescaped {
-    Flag,
-    Octets(usize),
-}
 
 // Whether the last octet is an escape.
 fn ends_escaped(s: &[u8]) -> bool
@@ -36,33 +30,49 @@ fn ends_escaped(s: &[u8]) -> bool
     s[n - 1] == ESCAPE
 }
 
-// Takes the escapes out of `s`, of which none is the last octet, into `store`, unless a flag lies inside.
-fn unescape(s: &[u8], store: &mut [u8]) -> Unescaped
+// Whether a flag lies inside `s`. Goes through all of it, whatever it finds: then the compiler looks at many octets at once.
+fn has_flag(s: &[u8]) -> bool
+    ensures { λ r. ⌜ r ≡ holds flag (now (s .entry)) ⌝ }
+{
+    let mut found = false;
+    let mut i = 0;
+    while i < s.len() {
+        let b = s[i];
+        i += 1;
+        if b == FLAG {
+            found = true;
+        }
+    }
+    found
+}
+
+// Whether `s` is broken: no frame lies between flags like this.
+fn is_broken(s: &[u8]) -> bool
+    ensures { λ r. ⌜ r ≡ broken (now (s .entry)) ⌝ }
+{
+    has_flag(s) || ends_escaped(s)
+}
+
+// Takes the escapes out of `s`, of which none is the last octet, into `store`.
+fn unescape(s: &[u8], store: &mut [u8]) -> usize
     requires { ⌜ (length (now s) ≤ length (now store)) × (eqb (lastOf 0 (now s)) escape ≡ false) ⌝ }
-    ensures { λ r. ⌜ Unescapes (now (s .entry)) (now (store .entry)) r (now (store .exit)) ⌝ }
+    ensures { λ r. ⌜ Puts (now (store .entry)) 0 (plain (now (s .entry))) r (now (store .exit)) ⌝ }
 {
     let mut n = 0;
     let mut i = 0;
     while i < s.len() {
         let b = s[i];
         i += 1;
-        if b == FLAG {
-            return Unescaped::Flag;
-        }
         if b == ESCAPE {
-            let x = s[i];
-            i += 1;
-            if x == FLAG {
-                return Unescaped::Flag;
-            }
-            store[n] = x ^ 0x20;
+            store[n] = s[i] ^ 0x20;
             n += 1;
+            i += 1;
         } else {
             store[n] = b;
             n += 1;
         }
     }
-    Unescaped::Octets(n)
+    n
 }
 
 // Judges the decoded octets `d`, and hands address, control and payload out.
@@ -90,20 +100,14 @@ pub fn decode(src: &[u8], out: &mut [u8]) -> Handed
     ensures { λ r. ⌜ Hands (decoded 78 (now (src .entry)) (length (now (out .entry))))
         (now (out .entry)) r (now (out .exit)) ⌝ }
 {
-    if ends_escaped(src) {
+    if is_broken(src) {
         return Handed::Refused(Refusal::Broken);
     }
     if 158 < src.len() {
-        if octets::find(FLAG, src) < src.len() {
-            return Handed::Refused(Refusal::Broken);
-        }
         return Handed::Refused(Refusal::TooLong);
     }
     let mut store = [0u8; 158];
-    let found = unescape(src, &mut store);
-    let Unescaped::Octets(n) = found else {
-        return Handed::Refused(Refusal::Broken);
-    };
+    let n = unescape(src, &mut store);
     if 78 < n {
         return Handed::Refused(Refusal::TooLong);
     }

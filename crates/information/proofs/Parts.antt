@@ -9,8 +9,8 @@ use lib.Dec.{leb}
 use lib.ListN.{length, set, take, drop, length-take, length-drop, drop-of-length-le}
 use lib.Seq.{sets, take-all}
 use Rattle.octets.proofs.Takes.{take-within}
-use Rattle.octets.proofs.Runs.{Run, run-all, run-one, run-some, run-done}
-use Rattle.payload.specs.Puts.{Puts}
+use Rattle.octets.proofs.Runs.{Run, run-all, run-one, run-some, run-put, run-done}
+use Rattle.octets.specs.Puts.{Puts}
 use Rattle.payload.proofs.Backs.{success-put}
 use Rattle.information.specs.Information.{textOf, withoutVendor}
 use Rattle.information.proofs.Laws.{length-text}
@@ -56,8 +56,7 @@ pub text-put : (t o : List ℕ) (at : ℕ) {o₁ o₂ : List ℕ}
 unfolding textOf
 text-put t o at s₁ s₂ =
     let first : Run _ (at + 1) t o at (length t ∷ t) = run-one (length t) s₁ refl run-all in
-    let done = run-done refl (run-some t s₂ refl (sym (append-nil t)) first) in
-    record { count = done .0; octets = done .1 }
+    run-done refl (run-some t s₂ refl (sym (append-nil t)) first)
 
 -- how far a text of at most k octets goes
 abbrev pub Text : ℕ → List ℕ → List ℕ → ℕ → ℕ → List ℕ → Type 0
@@ -92,7 +91,7 @@ module _ (p s h w o : List ℕ) {o₁ o₂ o₃ o₄ : List ℕ} {a b c d : ℕ}
   texts-put =
       let more = textOf s ++ (textOf h ++ textOf w) in
       let one : Run o₁ a more (set o 0 0) 1 (textOf p ++ more)
-      = run-some (textOf p) (put₁ .octets) (put₁ .count) refl run-all in
-      let two = run-some (textOf s) (put₂ .octets) (put₂ .count) refl one in
-      let three = run-some (textOf h) (put₃ .octets) (put₃ .count) refl two in
-      success-put _ o refl (run-some (textOf w) (put₄ .octets) (put₄ .count) (sym (append-nil (textOf w))) three)
+      = run-put (textOf p) put₁ refl run-all in
+      let two = run-put (textOf s) put₂ refl one in
+      let three = run-put (textOf h) put₃ refl two in
+      success-put _ o refl (run-put (textOf w) put₄ (sym (append-nil (textOf w))) three)

@@ -5,7 +5,7 @@ ghost use mathlib.Core.Path.{_≡_};
 ghost use Prim.Native.Nat.{_≤_};
 ghost use lib.ListN.{length, take};
 ghost use Rattle.payload.specs.Payloads.{payloadOf, successOf};
-ghost use Rattle.payload.specs.Puts.{Puts};
+ghost use Rattle.octets.specs.Puts.{Puts};
 ghost use Rattle.information.specs.Information.{textOf, withoutVendor, informationOf};
 use record::Payload;
 use record::Plate;

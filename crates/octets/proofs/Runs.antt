@@ -2,13 +2,14 @@
 -- as it was. The one relation for every loop that fills a buffer. Assumes nothing.
 use mathlib.Core.Path.{_≡_, refl, sym, ap, _∙_}
 use mathlib.Core.List.{List, [], _∷_, _++_}
-use Prim.Native.Nat.{ℕ, _+_}
+use Prim.Native.Nat.{ℕ, _+_, _≤_}
 use native.Mathlib.Nat.{add-zero}
 use native.Mathlib.Numerals.{add-one}
 use native.Mathlib.Omega.{arith}
-use lib.ListN.{length, set, length-append}
+use lib.ListN.{length, set, take, length-append}
 use lib.Seq.{sets}
-use Rattle.octets.proofs.Stores.{sets-append}
+use Rattle.octets.specs.Puts.{Puts}
+use Rattle.octets.proofs.Stores.{sets-append, take-stored}
 
 -- xs are left to store into o from k on; xs₀ were, into o₀ from k₀ on
 pub record Run (o : List ℕ) (k : ℕ) (xs o₀ : List ℕ) (k₀ : ℕ) (xs₀ : List ℕ) : Type 0 where
@@ -47,7 +48,17 @@ run-some {o} {ys = ys} {k = k} vs s n e r =
 pub run-is : {o o₀ xs ys xs₀ : List ℕ} {k k₀ : ℕ} → xs ≡ ys → Run o k xs o₀ k₀ xs₀ → Run o k ys o₀ k₀ xs₀
 run-is e r = record { count = rw (← e) (r .count); octets = rw (← e) (r .octets) }
 
--- nothing is left
-pub run-done : {o o₀ xs xs₀ : List ℕ} {k k₀ : ℕ} → xs ≡ [] → Run o k xs o₀ k₀ xs₀
-    → (k ≡ k₀ + length xs₀) × (o ≡ sets o₀ k₀ xs₀)
-run-done {k = k} e r = (sym (add-zero k) ∙ (rw e at (r .count)), rw e at (r .octets))
+-- a function puts a list of them
+pub run-put : {o o' o₀ xs ys xs₀ : List ℕ} {k k₀ q : ℕ} (vs : List ℕ)
+    → Puts o k vs q o' → xs ≡ vs ++ ys → Run o k xs o₀ k₀ xs₀ → Run o' q ys o₀ k₀ xs₀
+run-put vs p e r = run-some vs (p .octets) (p .count) e r
+
+-- nothing is left: all of them are put
+pub run-done : {o o₀ xs xs₀ : List ℕ} {k k₀ : ℕ} → xs ≡ [] → Run o k xs o₀ k₀ xs₀ → Puts o₀ k₀ xs₀ k o
+run-done {k = k} e r = record { count = sym (add-zero k) ∙ (rw e at (r .count)); octets = rw e at (r .octets) }
+
+-- what is put at the start, read back
+pub put-back : {o b o' : List ℕ} {n : ℕ} → Puts o 0 b n o' → n ≤ length o → take n o' ≡ b
+put-back {o} {b} {n = n} p h =
+    let e : n ≡ length b = omega (arith, p .count) in
+    rw (e, p .octets) (take-stored b o (omega arith))

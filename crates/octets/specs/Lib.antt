@@ -1,2 +1,3 @@
 -- What the other crates cite of lists of octets.
 pub mod Octets
+pub mod Puts

@@ -5,10 +5,9 @@ use Prim.Native.Nat.{ℕ, _≤_}
 use native.Mathlib.Omega.{arith}
 use lib.ListN.{length, set, take}
 use lib.Seq.{sets}
-use Rattle.octets.proofs.Runs.{Run, run-done}
-use Rattle.octets.proofs.Stores.{take-stored}
+use Rattle.octets.specs.Puts.{Puts}
+use Rattle.octets.proofs.Runs.{Run, run-done, put-back}
 use Rattle.payload.specs.Payloads.{payloadOf, messageOf, bodyMost}
-use Rattle.payload.specs.Puts.{Puts}
 use Rattle.payload.proofs.Places.{laid-whole}
 
 -- octets stored behind the one of success, from the start
@@ -16,7 +15,7 @@ pub success-put : (xs o : List ℕ) {o₁ o' : List ℕ} {n : ℕ}
     → o₁ ≡ set o 0 0 → Run o' n [] o₁ 1 xs → Puts o 0 (0 ∷ xs) n o'
 success-put xs o s r =
     let done = run-done refl r in
-    record { count = omega (arith, done .0); octets = done .1 ∙ ap (λ (l : List ℕ). sets l 1 xs) s }
+    record { count = omega (arith, done .count); octets = done .octets ∙ ap (λ (l : List ℕ). sets l 1 xs) s }
 
 -- what was stored from the start, read back and laid
 module _ (code : ℕ) (b o : List ℕ) {o' : List ℕ} {n : ℕ} (few : n ≤ bodyMost) (room : n ≤ length o)
@@ -24,5 +23,4 @@ module _ (code : ℕ) (b o : List ℕ) {o' : List ℕ} {n : ℕ} (few : n ≤ bo
   pub laid-back : payloadOf (messageOf code (take bodyMost (take n o'))) ≡ payloadOf (messageOf code b)
   laid-back =
       let e : n ≡ length b = omega (arith, p .count) in
-      let back : take n o' ≡ b = rw (e, p .octets) (take-stored b o (omega arith)) in
-      rw back (laid-whole code b (omega arith))
+      rw (put-back {o = o} p room) (laid-whole code b (omega arith))

@@ -1,3 +1,2 @@
 -- What the other crates cite of payloads.
 pub mod Payloads
-pub mod Puts

@@ -4,7 +4,7 @@ use mathlib.Core.List.{List, _∷_}
 use Prim.Native.Nat.{ℕ, _≤_}
 use native.Mathlib.Omega.{arith}
 use Rattle.antenna.specs.Alarms.{alarmCodes, codesOf, changesOf}
-use Rattle.payload.specs.Puts.{Puts}
+use Rattle.octets.specs.Puts.{Puts}
 use Rattle.report.proofs.Counts.{length-codes, length-changes}
 
 -- how few they are

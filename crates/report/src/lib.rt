@@ -6,7 +6,7 @@ ghost use mathlib.Core.List.{_∷_};
 ghost use Rattle.antenna.specs.Alarms.{codesOf, changesOf, stateOf, differs};
 ghost use Rattle.payload.specs.Payloads.{payloadOf, successOf};
 ghost use Rattle.report.specs.Reports.{indicationOf};
-ghost use Rattle.payload.specs.Puts.{Puts};
+ghost use Rattle.octets.specs.Puts.{Puts};
 use antenna::Alarms;
 use record::Payload;
 

@@ -2,12 +2,12 @@
 // Headline: what `write` wrote is the line that frame/specs/Write.antt says, or a refusal changes nothing; what lies
 // between its flags decodes to what was put in (frame/proofs/Trip.antt). Assumes nothing of its caller.
 ghost use mathlib.Core.Path.{_≡_};
-ghost use Prim.Native.Nat.{_≤_};
-ghost use lib.ListN.{length};
+ghost use Prim.Native.Nat.{_+_, _-_, _*_, _≤_};
+ghost use lib.ListN.{length, drop};
+ghost use Rattle.octets.specs.Puts.{Puts};
 ghost use Rattle.refusal.specs.Answer.{Hands};
-ghost use Rattle.frame.specs.Line.{special, between};
+ghost use Rattle.frame.specs.Line.{special, escaped, onLine, between};
 ghost use Rattle.frame.specs.Write.{frameOf, written};
-ghost use Rattle.frame.specs.Steps.{Fills};
 use refusal::Handed;
 use refusal::Refusal;
 
@@ -22,33 +22,61 @@ fn is_special(b: u8) -> bool
     b == FLAG || b == ESCAPE
 }
 
-// Puts flag, `d` with its escapes, flag into `line`.
+// Puts `b`, escaped where it has to be, into `line` at `at`, and gives the place behind it.
+fn put_octet(b: u8, line: &mut [u8], at: usize) -> usize
+    requires { ⌜ at + 2 ≤ length (now line) ⌝ }
+    ensures { λ r. ⌜ Puts (now (line .entry)) at (escaped b) r (now (line .exit)) ⌝ }
+{
+    let mut n = at;
+    let mut x = b;
+    if is_special(b) {
+        line[n] = ESCAPE;
+        n += 1;
+        x = b ^ 0x20;
+    }
+    line[n] = x;
+    n + 1
+}
+
+// Puts the octets of `d` from `from` on, with their escapes, into `line` at `at`, and gives the place behind them.
+fn put_rest(d: &[u8], from: usize, line: &mut [u8], at: usize) -> usize
+    requires { ⌜ at + 2 * (length (now d) - from) ≤ length (now line) ⌝ }
+    ensures { λ r. ⌜ Puts (now (line .entry)) at (onLine (drop from (now (d .entry)))) r (now (line .exit)) ⌝ }
+{
+    let mut n = at;
+    let mut i = from;
+    while i < d.len() {
+        n = put_octet(d[i], line, n);
+        i += 1;
+    }
+    n
+}
+
+// Puts flag, `d` with its escapes, flag into `line`: four octets a turn, and what is left one by one.
 fn put_between(d: &[u8], line: &mut [u8]) -> usize
     requires { ⌜ (length (now d) ≤ 78) × (158 ≤ length (now line)) ⌝ }
-    ensures { λ r. ⌜ Fills (now (line .entry)) (between (now (d .entry))) r (now (line .exit)) ⌝ }
+    ensures { λ r. ⌜ Puts (now (line .entry)) 0 (between (now (d .entry))) r (now (line .exit)) ⌝ }
 {
     line[0] = FLAG;
     let mut n = 1;
     let mut i = 0;
-    while i < d.len() {
-        let b = d[i];
-        i += 1;
-        line[n] = b;
-        n += 1;
-        if is_special(b) {
-            line[n - 1] = ESCAPE;
-            line[n] = b ^ 0x20;
-            n += 1;
-        }
+    let whole = d.len() / 4 * 4;
+    while i < whole {
+        n = put_octet(d[i], line, n);
+        n = put_octet(d[i + 1], line, n);
+        n = put_octet(d[i + 2], line, n);
+        n = put_octet(d[i + 3], line, n);
+        i += 4;
     }
-    line[n] = FLAG;
-    n + 1
+    let end = put_rest(d, i, line, n);
+    line[end] = FLAG;
+    end + 1
 }
 
 // Puts address, control, payload and their check into `d`.
 fn assemble(address: u8, control: u8, payload: &[u8], d: &mut [u8]) -> usize
     requires { ⌜ (length (now payload) ≤ 74) × (78 ≤ length (now d)) ⌝ }
-    ensures { λ r. ⌜ Fills (now (d .entry)) (frameOf address control (now (payload .entry))) r (now (d .exit)) ⌝ }
+    ensures { λ r. ⌜ Puts (now (d .entry)) 0 (frameOf address control (now (payload .entry))) r (now (d .exit)) ⌝ }
 {
     octets::put(d, 0, address);
     octets::put(d, 1, control);

@@ -6,17 +6,14 @@ use native.Mathlib.Nat.{zero-add}
 use native.Mathlib.Omega.{arith}
 use lib.ListN.{length, take, set, replicate, length-append, length-take}
 use lib.Seq.{sets}
-use Rattle.octets.proofs.Runs.{Run, run-all, run-two, run-some, run-done}
+use Rattle.octets.proofs.Runs.{Run, run-all, run-two, run-some, run-put, run-done}
 use Rattle.octets.proofs.Stores.{sets-start}
 use Rattle.params.specs.Field.{_is_, tripleOf, fieldOf, payloadOf}
 use Rattle.xid.specs.Match.{deviceType}
 use Rattle.octets.proofs.Takes.{take-within}
 use Rattle.xid_answer.specs.Answer.{opening, scanParams, assignmentParams, scanAnswer, assignmentAnswer}
-use Rattle.payload.specs.Puts.{Puts}
+use Rattle.octets.specs.Puts.{Puts}
 use Rattle.payload.specs.Payloads.{payloadOf as held}
-
-puts-of : {o o' b : List ℕ} {at n : ℕ} → (n ≡ at + length b) × (o' ≡ sets o at b) → Puts o at b n o'
-puts-of w = record { count = w .0; octets = w .1 }
 
 -- identifier, length, value
 pub param-stored : (at n : ℕ) (v o : List ℕ) {o₁ o₂ o₃ : List ℕ} → o₁ ≡ set o at n → o₂ ≡ set o₁ (at + 1) (length v)
@@ -26,7 +23,7 @@ param-stored at n v o {o₃ = o₃} s₁ s₂ s₃ =
     let all : Run o at (n ∷ length v ∷ v) o at (n ∷ length v ∷ v) = run-all in
     let done : Run o₃ (at + 2 + length v) [] o at (n ∷ length v ∷ v) =
     run-some v s₃ refl (sym (append-nil v)) (run-two n (length v) s₁ s₂ refl all) in
-    puts-of (run-done refl done)
+    run-done refl done
 
 pub opening-stored : (k : ℕ) (o : List ℕ) {o₁ o₂ o₃ : List ℕ} → o₁ ≡ set o 0 0x81 → o₂ ≡ set o₁ 1 0xF0
     → o₃ ≡ set o₂ 2 k → o₃ ≡ sets o 0 (opening k)
@@ -59,10 +56,10 @@ module _ (i o : List ℕ) {o₁ o₂ o₃ : List ℕ} {a : ℕ} where
       let all : Run o 0 xs o 0 xs = run-all in
       let opened : Run o₁ 3 (own ++ (from ++ (kind ++ []))) o 0 xs =
       run-some (opening (length i + 8)) s refl refl all in
-      let first : Run o₂ a (from ++ (kind ++ [])) o 0 xs = run-some own (p .octets) (p .count) refl opened in
-      let second : Run o₃ b (kind ++ []) o 0 xs = run-some from (q .octets) (q .count) refl first in
-      let third : Run o₄ n [] o 0 xs = run-some kind (r .octets) (r .count) refl second in
-      rw (scan-length i address) (puts-of (run-done refl third))
+      let first : Run o₂ a (from ++ (kind ++ [])) o 0 xs = run-put own p refl opened in
+      let second : Run o₃ b (kind ++ []) o 0 xs = run-put from q refl first in
+      let third : Run o₄ n [] o 0 xs = run-put kind r refl second in
+      rw (scan-length i address) (run-done refl third)
 
   pub assignment-stored : {n : ℕ} → o₁ ≡ sets o 0 (opening (length i + 5)) → Puts o₁ 3 (tripleOf (1 is i)) a o₂
       → Puts o₂ a (tripleOf (4 is (deviceType ∷ []))) n o₃ → Puts o 0 (assignmentAnswer i) n o₃
@@ -73,9 +70,9 @@ module _ (i o : List ℕ) {o₁ o₂ o₃ : List ℕ} {a : ℕ} where
       let xs = opening (length i + 5) ++ (own ++ (kind ++ [])) in
       let all : Run o 0 xs o 0 xs = run-all in
       let opened : Run o₁ 3 (own ++ (kind ++ [])) o 0 xs = run-some (opening (length i + 5)) s refl refl all in
-      let first : Run o₂ a (kind ++ []) o 0 xs = run-some own (p .octets) (p .count) refl opened in
-      let second : Run o₃ n [] o 0 xs = run-some kind (r .octets) (r .count) refl first in
-      rw (assignment-length i) (puts-of (run-done refl second))
+      let first : Run o₂ a (kind ++ []) o 0 xs = run-put own p refl opened in
+      let second : Run o₃ n [] o 0 xs = run-put kind r refl first in
+      rw (assignment-length i) (run-done refl second)
 
 -- ---- at the start of a payload of zeros
 

@@ -7,7 +7,7 @@ ghost use lib.Seq.{sets};
 ghost use Rattle.record.specs.Allowed.{identityOf};
 ghost use Rattle.params.specs.Field.{_is_, tripleOf};
 ghost use Rattle.xid_answer.specs.Answer.{opening, scanAnswer, assignmentAnswer};
-ghost use Rattle.payload.specs.Puts.{Puts};
+ghost use Rattle.octets.specs.Puts.{Puts};
 ghost use Rattle.payload.specs.Payloads.{payloadOf as held};
 use record::Payload;
 use record::Plate;

@@ -99,8 +99,7 @@ same-length c = search needs
 returns : tie.Need-returns Inv-loop μ-loop
 returns c =
     let at = c .before .loop in
-    let done = run-done (changes-done alarmCodes _ _ (at .i) (c .loop-test .left)) (at .inv .5) in
-    record { count = done .0; octets = done .1 }
+    run-done (changes-done alarmCodes _ _ (at .i) (c .loop-test .left)) (at .inv .5)
 
 pub put-changes-spec : {M : Type 1} → statement M
 put-changes-spec =

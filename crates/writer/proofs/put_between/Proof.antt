@@ -1,103 +1,141 @@
--- `writer::put_between` meets its promise: each way out, by the tests that lead to it. Assumes nothing.
+-- `writer::put_between` meets its promise: four octets a turn, the rest, and a flag before and behind. Assumes nothing.
 use borrow.Author.Needs.{needs}
-use mathlib.Core.Path.{_≡_, refl, sym, _∙_}
-use mathlib.Core.List.{[], _∷_, _++_}
-use Prim.Native.Nat.{_+_, _*_, _-_, _≤_}
+use mathlib.Core.Path.{_≡_, refl, sym}
+use mathlib.Core.List.{append-nil}
+use Prim.Native.Nat.{ℕ, _+_, _*_, _-_, _/_, _%_, _<_, _≤_}
 use native.Mathlib.Omega.{arith}
-use lib.ListN.{length, getD, drop, length-set}
-use Rattle.octets.proofs.Runs.{Run, run-all, run-one, run-done}
-use Rattle.frame.specs.Line.{flag, escape, onLine}
-use Rattle.frame.proofs.Escapes.{overwritten, line-special, line-other, line-done, between-filled}
+use lib.ListN.{length, drop, length-set}
+use Rattle.octets.proofs.Runs.{Run, run-put, run-done}
+use Rattle.frame.specs.Line.{flag, onLine}
+use Rattle.frame.proofs.Escapes.{octet-few, rest-few, line-four, between-put}
 use Rattle.writer.proofs.put_between.Statement.{statement}
 use Rattle.writer.proofs.put_between.Tie as tie
 
 abbrev Inv-loop : tie.InvT-loop
-Inv-loop d line₀ n₀ i₀ line n i =
-    (i ≤ length d) × (n ≤ 1 + 2 * i) × (length line ≡ length line₀) × (158 ≤ length line)
-    × Run line n (onLine (drop i d) ++ flag ∷ []) line₀ 1 (onLine d ++ flag ∷ [])
+Inv-loop d line₀ n₀ i₀ whole line n i =
+    (i ≤ length d) × (i % 4 ≡ 0) × (n ≤ 1 + 2 * i) × (length line ≡ length line₀) × (158 ≤ length line)
+    × Run line n (onLine (drop i d)) line₀ 1 (onLine d)
 
 abbrev μ-loop : tie.MeasureT-loop
-μ-loop d line₀ n₀ i₀ line n i = length d - i
+μ-loop d line₀ n₀ i₀ whole line n i = length d - i
+
+-- a turn that begins has four octets to put
+four-inside : {i n : ℕ} → i < n / 4 * 4 → i % 4 ≡ 0 → i + 3 < n
+four-inside h e = omega (arith, h, e)
 
 slice-write-line : tie.Need-slice-write-line Inv-loop μ-loop
 slice-write-line c = search needs
 
-loop-holds : tie.Need-loop-holds Inv-loop μ-loop
-loop-holds c = (search needs, search needs, search needs, simp length-set (c .before .before .pre .1), run-all)
+mul-whole : tie.Need-mul-whole Inv-loop μ-loop
+mul-whole c = search needs
 
-shared-slice-read-b : tie.Need-shared-slice-read-b Inv-loop μ-loop
-shared-slice-read-b c = search needs
+loop-holds : tie.Need-loop-holds Inv-loop μ-loop
+loop-holds c = search needs
+
+shared-slice-read-put-octet : tie.Need-shared-slice-read-put-octet Inv-loop μ-loop
+shared-slice-read-put-octet c = search needs
+
+put-octet-requires : tie.Need-put-octet-requires Inv-loop μ-loop
+put-octet-requires c κs = search needs
+
+add-put-octet : tie.Need-add-put-octet Inv-loop μ-loop
+add-put-octet c = search needs
+
+shared-slice-read-put-octet-2 : tie.Need-shared-slice-read-put-octet-2 Inv-loop μ-loop
+shared-slice-read-put-octet-2 c = search needs
+
+put-octet-requires-2 : tie.Need-put-octet-requires-2 Inv-loop μ-loop
+put-octet-requires-2 c κs =
+    let few = octet-few _ (c .before .before .before .before .put-octet .ensures) in
+    omega arith
+
+add-put-octet-2 : tie.Need-add-put-octet-2 Inv-loop μ-loop
+add-put-octet-2 c = search needs
+
+shared-slice-read-put-octet-3 : tie.Need-shared-slice-read-put-octet-3 Inv-loop μ-loop
+shared-slice-read-put-octet-3 c = search needs
+
+put-octet-requires-3 : tie.Need-put-octet-requires-3 Inv-loop μ-loop
+put-octet-requires-3 c κs =
+    let second = c .before .before .before .before in
+    let few = octet-few _ (second .put-octet2 .ensures) in
+    let few₁ = octet-few _ (second .before .before .before .before .before .put-octet .ensures) in
+    omega arith
+
+add-put-octet-3 : tie.Need-add-put-octet-3 Inv-loop μ-loop
+add-put-octet-3 c = search needs
+
+shared-slice-read-put-octet-4 : tie.Need-shared-slice-read-put-octet-4 Inv-loop μ-loop
+shared-slice-read-put-octet-4 c = search needs
+
+put-octet-requires-4 : tie.Need-put-octet-requires-4 Inv-loop μ-loop
+put-octet-requires-4 c κs =
+    let third = c .before .before .before .before in
+    let second = third .before .before .before .before .before in
+    let first = second .before .before .before .before .before in
+    let test = first .before .before .before in
+    let few₃ = octet-few _ (third .put-octet3 .ensures) in
+    let few₂ = octet-few _ (second .put-octet2 .ensures) in
+    let few₁ = octet-few _ (first .put-octet .ensures) in
+    let turn = four-inside (test .loop-test .taken) (test .before .loop .inv .1) in
+    omega (arith, turn, test .before .loop .inv .2, test .before .before .before .before .pre .0)
 
 add-i : tie.Need-add-i Inv-loop μ-loop
 add-i c = search needs
-
-slice-write-line-2 : tie.Need-slice-write-line-2 Inv-loop μ-loop
-slice-write-line-2 c = search needs
-
-add-n : tie.Need-add-n Inv-loop μ-loop
-add-n c = search needs
-
-is-special-requires : tie.Need-is-special-requires Inv-loop μ-loop
-is-special-requires c κs = search needs
-
-sub-line : tie.Need-sub-line Inv-loop μ-loop
-sub-line c = search needs
-
-slice-write-line-3 : tie.Need-slice-write-line-3 Inv-loop μ-loop
-slice-write-line-3 c = simp length-set (omega arith)
-
-slice-write-line-4 : tie.Need-slice-write-line-4 Inv-loop μ-loop
-slice-write-line-4 c = simp length-set (omega arith)
-
-add-n-2 : tie.Need-add-n-2 Inv-loop μ-loop
-add-n-2 c = search needs
 
 loop-less : tie.Need-loop-less Inv-loop μ-loop
 loop-less c = search needs
 
 loop-again : tie.Need-loop-again Inv-loop μ-loop
 loop-again c =
-    let test = c .before .before .before in
-    let at = test .before .loop in
-    let d = test .before .before .before .before .args .d .now in
-    let told = sym (c .before .is-special .ensures) ∙ c .if1 .taken in (
+    let fourth = c .before .before in
+    let third = fourth .before .before .before .before .before in
+    let second = third .before .before .before .before .before in
+    let first = second .before .before .before .before .before in
+    let test = first .before .before .before in
+    let at = test .before .loop .inv in
+    let few₄ = octet-few _ (fourth .put-octet4 .ensures) in
+    let few₃ = octet-few _ (third .put-octet3 .ensures) in
+    let few₂ = octet-few _ (second .put-octet2 .ensures) in
+    let few₁ = octet-few _ (first .put-octet .ensures) in
+    let turn = four-inside (test .loop-test .taken) (at .1) in
+    let run₁ = run-put _ (first .put-octet .ensures) (line-four _ _ turn) (at .5) in
+    let run₂ = run-put _ (second .put-octet2 .ensures) refl run₁ in
+    let run₃ = run-put _ (third .put-octet3 .ensures) refl run₂ in (
+      omega (arith, turn),
+      search needs,
+      omega (arith, at .2),
       search needs,
       search needs,
-      search needs,
-      simp length-set (at .inv .3),
-      run-one _ refl refl
-          (run-one _ (overwritten (at .line) (at .n) (getD d (at .i) 0) escape) (line-special _ _ _ (test .loop-test .taken) told) (at .inv .4)),
+      run-put _ (fourth .put-octet4 .ensures) refl run₃,
     )
 
-loop-less-2 : tie.Need-loop-less-2 Inv-loop μ-loop
-loop-less-2 c = search needs
+put-rest-requires : tie.Need-put-rest-requires Inv-loop μ-loop
+put-rest-requires c κs = search needs
 
-loop-again-2 : tie.Need-loop-again-2 Inv-loop μ-loop
-loop-again-2 c =
-    let test = c .before .before .before in
-    let at = test .before .loop in
-    let told = sym (c .before .is-special .ensures) ∙ c .if1 .left in (
-      search needs,
-      search needs,
-      search needs,
-      simp length-set (at .inv .3),
-      run-one _ refl (line-other _ _ _ (test .loop-test .taken) told) (at .inv .4),
-    )
-
-slice-write-line-5 : tie.Need-slice-write-line-5 Inv-loop μ-loop
-slice-write-line-5 c = search needs
+slice-write-line-2 : tie.Need-slice-write-line-2 Inv-loop μ-loop
+slice-write-line-2 c =
+    let at = c .before .before .before .before .before in
+    let few = rest-few (at .before .before .before .args .d .now) (at .loop .i) (c .before .before .put-rest .ensures) in
+    omega (arith, few, at .loop .inv, at .before .before .before .pre, c .before .line5 .given)
 
 add-result : tie.Need-add-result Inv-loop μ-loop
-add-result c = search needs
+add-result c =
+    let at = c .before .before .before .before .before in
+    let few = rest-few (at .before .before .before .args .d .now) (at .loop .i) (c .before .before .put-rest .ensures) in
+    omega (arith, few, at .loop .inv, at .before .before .before .pre)
 
 same-length : tie.Need-same-length Inv-loop μ-loop
 same-length c =
-    simp length-set (c .before .loop .inv .2 ∙ length-set (c .before .before .before .before .args .line .now) 0 flag)
+    let at = c .before .before .before .before .before in
+    let long = length-set (at .before .before .before .args .line .now) 0 flag in
+    simp length-set (omega (arith, c .before .line5 .given, at .loop .inv .3, long))
 
 returns : tie.Need-returns Inv-loop μ-loop
 returns c =
-    let left = line-done _ _ _ (c .loop-test .left) in
-    between-filled _ refl (run-done refl (run-one _ refl left (c .before .loop .inv .4)))
+    let put = c .before .before .put-rest .ensures in
+    let run = c .before .before .before .before .before .loop .inv .5 in
+    between-put _ refl (run-done refl (run-put _ put (sym (append-nil _)) run)) refl
 
 pub put-between-spec : {M : Type 1} → statement M
 put-between-spec =
@@ -106,21 +144,24 @@ put-between-spec =
     Inv-loop
     μ-loop
     slice-write-line
+    mul-whole
     loop-holds
-    shared-slice-read-b
+    shared-slice-read-put-octet
+    put-octet-requires
+    add-put-octet
+    shared-slice-read-put-octet-2
+    put-octet-requires-2
+    add-put-octet-2
+    shared-slice-read-put-octet-3
+    put-octet-requires-3
+    add-put-octet-3
+    shared-slice-read-put-octet-4
+    put-octet-requires-4
     add-i
-    slice-write-line-2
-    add-n
-    is-special-requires
-    sub-line
-    slice-write-line-3
-    slice-write-line-4
-    add-n-2
     loop-less
     loop-again
-    loop-less-2
-    loop-again-2
-    slice-write-line-5
+    put-rest-requires
+    slice-write-line-2
     add-result
     same-length
     returns)

@@ -5,7 +5,7 @@ use lib.ListN.{length-take}
 use Rattle.refusal.specs.declared.Refusal.the-variants.{PayloadTooLong}
 use Rattle.refusal.proofs.Answers.{refused, hands-is}
 use Rattle.frame.proofs.Assembled.{assembled-short}
-use Rattle.frame.proofs.Filled.{filled}
+use Rattle.octets.proofs.Runs.{put-back}
 use Rattle.frame.proofs.Escapes.{between-short}
 use Rattle.frame.proofs.Judge.{payload-long, when-lined}
 use Rattle.writer.proofs.write.Statement.{statement}
@@ -66,8 +66,8 @@ returns-2 c =
     let fits = early .before .before .if1 .left in
     let few = assembled-short _ _ _ (early .assemble .ensures) fits in
     let line = between-short _ (late .put-between .ensures) (simp length-take (omega arith)) in
-    let stored = filled (early .assemble .ensures) (omega arith) in
-    hands-is (when-lined 78 _ _ _ _ fits stored (filled (late .put-between .ensures) (omega arith)))
+    let stored = put-back (early .assemble .ensures) (omega arith) in
+    hands-is (when-lined 78 _ _ _ _ fits stored (put-back (late .put-between .ensures) (omega arith)))
     (c .before .before .hand-out .ensures)
 
 pub write-spec : {M : Type 1} → statement M
