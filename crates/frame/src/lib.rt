@@ -46,7 +46,7 @@ fn has_flag(s: &[u8]) -> bool
     found
 }
 
-// Whether `s` is broken: no frame lies between flags like this.
+// Whether `s` is broken: a flag inside, or an escape as its last octet.
 fn is_broken(s: &[u8]) -> bool
     ensures { λ r. ⌜ r ≡ broken (now (s .entry)) ⌝ }
 {
