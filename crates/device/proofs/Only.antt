@@ -14,6 +14,10 @@ use Rattle.device.specs.declared.Said.{Said}
 use Rattle.device.specs.declared.Said.the-variants.{Silence, Frame, Refused}
 use Rattle.device.specs.declared.Judged.{Judged}
 use Rattle.device.specs.Judge.{Reaction, judged, heard, saidOf, Judges}
+use denote.Ref.{now}
+use Rattle.octets.proofs.Only.{AsksNothing, SettlesAll}
+use Rattle.device.proofs.judge.Reads as judge-reads
+use Rattle.device.proofs.hear.Reads as hear-reads
 
 pub none-not-some : {A : Type 0} {a : A} → none ≡ some a → ⊥
 none-not-some e = let z : _≡_ {A = ℕ} 0 1 = cc in omega arith
@@ -50,3 +54,15 @@ judge-only d f o = judges-only
 pub hear-only : (d : Device) (line o : List ℕ) {p q : List ℕ} {r s : Judged}
     → Judges (heard d line (length o)) d o r p → Judges (heard d line (length o)) d o s q → (r ≡ s) × (p ≡ q)
 hear-only d line o = judges-only
+
+pub judge-tied : SettlesAll judge-reads.Learnt (λ κs s. now (s .1 .1 .0))
+judge-tied κs a r q s t = judges-only
+
+pub hear-tied : SettlesAll hear-reads.Learnt (λ κs s. now (s .1 .1 .0))
+hear-tied κs a r q s t = judges-only
+
+pub judge-asks : AsksNothing judge-reads.Asked
+judge-asks κs a = tt
+
+pub hear-asks : AsksNothing hear-reads.Asked
+hear-asks κs a = tt

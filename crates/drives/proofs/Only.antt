@@ -15,6 +15,9 @@ use Rattle.drives.specs.declared.Answer.the-variants as code
 use Rattle.drives.specs.declared.Obeyed.{Obeyed}
 use Rattle.drives.specs.Drives.{Reply, noCommand, noDevice, full, device, outcome, answer, state, After, replyOf}
 use Rattle.drives.specs.Drives.{Obeys, obeyed}
+use denote.Ref.{now}
+use Rattle.octets.proofs.Only.{AsksNothing, SettlesAll}
+use Rattle.drives.proofs.obey.Reads as obey-reads
 
 -- the code's answers that stand for an answer
 Means : Reply → the-answer.Answer → Type 0
@@ -59,3 +62,9 @@ obey-only c row v os o {r = r} {s = s} a b =
           (reply-apart (r .answer) (s .answer) (ap (λ (x : After). x .reply) both)),
       only (a .lent) (b .lent),
     )
+
+pub obey-tied : SettlesAll obey-reads.Learnt (λ κs s. now (s .1 .1 .1 .1 .0))
+obey-tied κs a r q s t = obey-only (a .1 .0) (a .0) _ _ _
+
+pub obey-asks : AsksNothing obey-reads.Asked
+obey-asks κs a = tt

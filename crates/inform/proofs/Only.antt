@@ -7,7 +7,15 @@ use Rattle.record.specs.declared.Session.{Session}
 use Rattle.record.specs.declared.Device.{Device}
 use Rattle.station.specs.declared.Turn.{Turn}
 use Rattle.inform.specs.Inform.{informOf}
+use Rattle.octets.proofs.Only.{AsksNothing, Settles}
+use Rattle.inform.proofs.inform.Reads as inform-reads
 
 pub inform-only : (d : Device) (s : Session) (n : ℕ) (m : List ℕ) {t u : Turn}
     → t ≡ informOf d s n m → u ≡ informOf d s n m → t ≡ u
 inform-only d s n m = only
+
+pub inform-tied : Settles inform-reads.Learnt
+inform-tied κs a r q s t = only
+
+pub inform-asks : AsksNothing inform-reads.Asked
+inform-asks κs a = tt

@@ -17,6 +17,8 @@ use Rattle.record.specs.Changes.{canBe, afterEvent, withAntenna, eventRo
 use Rattle.record.specs.declared.Span.{Span}
 use Rattle.record.specs.declared.Device.{Device}
 use Rattle.record.specs.declared.Event.{Event}
+use Rattle.octets.proofs.Only.{AsksNothing, Settles}
+use Rattle.record.proofs.allowed.Reads as allowed-reads
 
 pub allowed-only : (device : Device) {r q : Bool} → r ≡ allowedDevice device → q ≡ allowedDevice device → r ≡ q
 allowed-only device = only
@@ -46,3 +48,9 @@ module _ (d : Device) (e : Event) where
     λ g. let t = by-rows 8 .0 g in (not-false _ (t .0), not-true _ (t .1)),
     λ w. by-rows 8 .1 (ap not (w .0), ap not (w .1)),
   )
+
+pub allowed-tied : Settles allowed-reads.Learnt
+allowed-tied κs a r q s t = only
+
+pub allowed-asks : AsksNothing allowed-reads.Asked
+allowed-asks κs a = tt

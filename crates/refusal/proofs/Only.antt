@@ -16,6 +16,10 @@ use Rattle.refusal.specs.Answer.{outcomeOf, Changes}
 use Rattle.refusal.specs.declared.Outcome.{Outcome}
 use Rattle.refusal.specs.declared.Outcome.the-variants.{Done}
 use Rattle.refusal.proofs.Answers.{gives-not-refuses, refuses-same, gives-same}
+use denote.Ref.{now}
+use Rattle.octets.proofs.Only.{AsksNothing, Settles, SettlesAll}
+use Rattle.refusal.proofs.number.Reads as number-reads
+use Rattle.refusal.proofs.hand_out.Reads as hand-out-reads
 
 -- the refusal of a number; of any other number, the last
 named : ℕ → Refusal
@@ -74,3 +78,15 @@ outcome-apart (Outcome.Refused k) (Outcome.Refused j) e =
 pub changes-only : {S : Type 0} {right : Answer S} {s t u : S} {r q : Outcome}
     → Changes right s r t → Changes right s q u → (r ≡ q) × (t ≡ u)
 changes-only {r = r} {q = q} a b = (outcome-apart r q (only (a .outcome) (b .outcome)), only (a .state) (b .state))
+
+pub number-tied : Settles number-reads.Learnt
+number-tied κs a r q s t = only
+
+pub hand-out-tied : SettlesAll hand-out-reads.Learnt (λ κs s. now (s .1 .0))
+hand-out-tied κs a r q s t = hands-only
+
+pub number-asks : AsksNothing number-reads.Asked
+number-asks κs a = tt
+
+pub hand-out-asks : AsksNothing hand-out-reads.Asked
+hand-out-asks κs a = tt
