@@ -30,8 +30,7 @@ use Rattle.record.specs.Changes.{happened}
 use Rattle.session.specs.Session.{acknowledges, accepts}
 use Rattle.inform.specs.Inform.{heeded}
 use Rattle.acknowledge.specs.Acknowledge.{sessionAfter, stationAfter}
-use Rattle.message.specs.Messages.{askedOf}
-use Rattle.message.proofs.Moves.{Due}
+use Rattle.message.specs.Messages.{askedOf, Due}
 use Rattle.station.specs.Turns.{ready}
 use Rattle.link.specs.Link.{judgedFrame}
 use Rattle.link.specs.Frames.{Numbered}

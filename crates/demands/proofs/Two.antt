@@ -33,7 +33,7 @@ use Rattle.record.specs.Changes.{unsaidAt, endedAs}
 use Rattle.session.specs.Session.{goodNumber}
 use Rattle.session.proofs.Numbers.{accepts-exactly}
 use Rattle.acknowledge.specs.Acknowledge.{sessionAfter}
-use Rattle.message.proofs.Moves.{Due}
+use Rattle.message.specs.Messages.{Due}
 use Rattle.xid.specs.Meaning.{Answers, Takes}
 use Rattle.xid.specs.Match.{readOf}
 use Rattle.xid.specs.declared.Xid.the-variants as xid

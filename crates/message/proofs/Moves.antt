@@ -31,6 +31,7 @@ use Rattle.message.specs.declared.Check.{Check}
 use Rattle.message.specs.declared.Check.the-variants.{Passed, Failed}
 use Rattle.message.specs.declared.Carried.{Carried}
 use Rattle.message.specs.Messages.{codeOf, saidOf, dataOf, askedOf, driveChecks, checks, table, inTable, takenBy}
+use Rattle.message.specs.Messages.{Due}
 use Rattle.message.specs.Carried.{replies, unanswered, quieted, doneBy, outcome, carriedOf}
 use Rattle.message.specs.Steps.{checkedOf, aimed, setOf, getOf, operatedOf, performedOf}
 use Rattle.message.proofs.Judged.{settledBy, performed-is, carried-none, carried-is}
@@ -50,12 +51,6 @@ says-alarms p flags = inl (omega (arith, length-success 0x04 (codesOf flags), le
 says-tilt : (p : Plate) (t : Angle) → Says p (successOf 0x34 (tiltOctets t))
 unfolding tiltOctets
 says-tilt p t = inl (omega (arith, length-success 0x34 (tiltOctets t)))
-
--- a set tilt that is due: exactly these octets, nothing moves or waits, and the tilt they ask is in range
-pub record Due (n : Antenna) (m : List ℕ) : Type 0 where
-  pub octets : m ≡ 0x33 ∷ 2 ∷ 0 ∷ getD m 3 0 ∷ getD m 4 0 ∷ []
-  pub idle : busyOf (n .motion) ≡ false
-  pub reach : inRange n (askedOf m) ≡ true
 
 module _ (p : Plate) (n : Antenna) (told : Alarms) (sub : Bool) (m : List ℕ) where
   -- all that can come of a message

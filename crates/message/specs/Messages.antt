@@ -9,7 +9,9 @@
 --   drives c         == set tilt or get tilt
 --   busied n c       == "busy"; outside n c t == "out of range"
 --   checks n m       == the checks of m, in their order, for the antenna n
+--   Due n m          == m is a set tilt that the antenna n carries out
 -- Assumes nothing.
+use mathlib.Core.Path.{_≡_}
 use mathlib.Core.Bool.{Bool, true, false, cond, not, _&&_, _||_}
 use mathlib.Core.List.{List, [], _∷_}
 use Prim.Native.Nat.{ℕ}
@@ -95,3 +97,10 @@ checks n m =
     ∷ 0x19 when unknown m
     ∷ 0x24 when misfit m
     ∷ driveChecks n (codeOf m) (askedOf m)
+
+-- "0x33 set tilt: 2 octets, low first, signed": exactly these octets, nothing moves or waits, and the tilt they ask is in
+-- range
+pub record Due (n : Antenna) (m : List ℕ) : Type 0 where
+  pub octets : m ≡ 0x33 ∷ 2 ∷ 0 ∷ getD m 3 0 ∷ getD m 4 0 ∷ []
+  pub idle : busyOf (n .motion) ≡ false
+  pub reach : inRange n (askedOf m) ≡ true
