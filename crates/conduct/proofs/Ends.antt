@@ -14,9 +14,10 @@ use Rattle.record.specs.Changes.{unsaidAt, endedAs}
 use Rattle.poll.specs.Poll.{toTell}
 use Rattle.station.specs.declared.Turn.{Turn}
 use Rattle.station.specs.Turns.{saying}
+use Rattle.link.specs.Frames.{hasAddress}
 use Rattle.states.specs.States.{newSession, begun, released, rejected}
 use Rattle.conduct.specs.Conduct.{after}
-use Rattle.conduct.specs.Endings.{pendingIn, Ends, begins, leaves, miscounts, unknown, assigns}
+use Rattle.conduct.specs.Endings.{pendingIn, Ends, renews, leaves, miscounts, unknown, assigns}
 use Rattle.conduct.specs.Endings.{Dropped, Survives}
 use Rattle.conduct.proofs.Refusing.{bad-rejected, unknown-rejected, disc-releases}
 use Rattle.conduct.proofs.Answers.{snrm-begins, assignment-ends}
@@ -74,11 +75,11 @@ module _ (d : Device) where
     -- each of them leaves a device whose session has ended
     pub ends-as : Ends d f → (a : ℕ) × (l : Link) × (pendingIn l ≡ Nothing) × (after d f ≡ endedAs d a l)
     unfolding begun released rejected saying
-    ends-as (begins w h) = (
+    ends-as (renews s w l) = (
       d .station .address,
       Connected newSession,
       refl,
-      ap (λ (t : Turn). t .device) (snrm-begins d f w h),
+      ap (λ (t : Turn). t .device) (snrm-begins d f w (ap hasAddress l)),
     )
     ends-as (leaves s w l) = (
       d .station .address,
@@ -98,7 +99,12 @@ module _ (d : Device) where
       refl,
       ap (λ (t : Turn). t .device) (unknown-rejected d f s w l),
     )
-    ends-as (assigns a w t) = (a, AddressAssigned, refl, ap (λ (t : Turn). t .device) (assignment-ends d f a w t))
+    ends-as (assigns s a w l) = (
+      a,
+      AddressAssigned,
+      refl,
+      ap (λ (t : Turn). t .device) (assignment-ends d f a (w .everyone) (w .takes)),
+    )
 
     pub ends-drop : Ends d f → Dropped (after d f)
     ends-drop e = let (a, l, idle, is) = ends-as e in rw is (ended-drops a l idle)

@@ -15,3 +15,4 @@ pub mod Told
 pub mod Indicates
 pub mod Ends
 pub mod Results
+pub mod Comes

@@ -20,9 +20,9 @@ use Rattle.station.specs.declared.Turn.{Turn}
 use Rattle.station.specs.Turns.{saying}
 use Rattle.states.specs.States.{released, rejected}
 use Rattle.link.specs.Link.{judgedFrame}
-use Rattle.link.specs.Frames.{Own, Numbered}
+use Rattle.link.specs.Frames.{Own, numberIn, Numbered}
 use Rattle.link.proofs.Cases.{judged-cases}
-use Rattle.conduct.specs.Conduct.{after, AnyAccepted, numberIn, Acknowledging}
+use Rattle.conduct.specs.Conduct.{after, AnyAccepted, Acknowledging}
 use Rattle.conduct.proofs.Settles.{next-apart, same-session, assigned-apart}
 use Rattle.conduct.proofs.Sessions.{Counted, info-counted, rr-counted, rnr-counted}
 

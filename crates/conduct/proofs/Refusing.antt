@@ -15,9 +15,8 @@ use Rattle.session.specs.Session.{goodNumber}
 use Rattle.station.specs.Turns.{saying}
 use Rattle.states.specs.States.{released, ua, rejected, infoBy, rrBy, rnrBy, connectedBy}
 use Rattle.link.specs.Link.{judgedFrame}
-use Rattle.link.specs.Frames.{controlOf, Own}
+use Rattle.link.specs.Frames.{controlOf, Own, numberIn}
 use Rattle.conduct.proofs.Settles.{session-is}
-use Rattle.conduct.specs.Conduct.{numberIn}
 
 pub none-not-some : (r : ℕ) → none ≡ some r → ⊥
 none-not-some r e = let z : _≡_ {A = ℕ} 0 1 = cc in omega arith

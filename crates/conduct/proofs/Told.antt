@@ -26,10 +26,9 @@ use Rattle.record.specs.Changes.{deviceOf}
 use Rattle.acknowledge.specs.Acknowledge.{acknowledged}
 use Rattle.states.specs.States.{informedBy, polledBy, pausedBy}
 use Rattle.states.specs.States.{begun, released, rejected}
-use Rattle.link.specs.Frames.{Numbered}
+use Rattle.link.specs.Frames.{numberIn, Numbered}
 use Rattle.link.proofs.Cases.{judged-cases}
 use Rattle.conduct.specs.Conduct.{after}
-use Rattle.conduct.specs.Conduct.{numberIn}
 use Rattle.conduct.specs.Alarms.{Clears, Indicated}
 use Rattle.conduct.proofs.Settles.{info-is, rr-is, rnr-is}
 use Rattle.conduct.proofs.Refusing.{none-not-some}

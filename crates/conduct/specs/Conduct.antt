@@ -3,7 +3,6 @@
 --   starts d f    == judging f starts a movement
 --   Accepted d f s n r == f is an I-frame with N(S) = n and N(R) = r that the session s of d accepts
 --   AnyAccepted d f s, Acknowledging d f s == the session s of d accepts f; f acknowledges its pending answer
---   numberIn o    == the N(R) of the order o, if it has one
 --   TiltDue d f   == f is an accepted I-frame with the message 33 02 00 lo hi, in range, and nothing moves or waits
 --   movedOn s r, TiltStarted d f s r == the session and the device after such a frame
 --   occurs d e, occurAll d es == d after the event e; after all of es, in their order
@@ -12,13 +11,13 @@
 use mathlib.Core.Path.{_≡_}
 use mathlib.Core.Bool.{Bool, true, not, _&&_}
 use mathlib.Core.List.{List, [], _∷_}
-use mathlib.Core.Option.{Option, none, some}
+use mathlib.Core.Option.{some}
 use Prim.Native.Nat.{ℕ}
 use lib.ListN.{drop}
 use Rattle.refusal.specs.Answer.{stateAfter}
 use Rattle.control.specs.Control.{nextOf}
 use Rattle.control.specs.declared.Order.{Order}
-use Rattle.control.specs.declared.Order.the-variants.{Xid, Snrm, Disc, Info, Rr, Rnr, Unknown}
+use Rattle.control.specs.declared.Order.the-variants.{Info}
 use Rattle.antenna.specs.declared.Aim.the-variants.{Started}
 use Rattle.antenna.specs.Motions.{runs, started}
 use Rattle.record.specs.declared.Pending.the-variants.{Nothing}
@@ -33,7 +32,7 @@ use Rattle.acknowledge.specs.Acknowledge.{sessionAfter, stationAfter}
 use Rattle.message.specs.Messages.{askedOf, Due}
 use Rattle.station.specs.Turns.{ready}
 use Rattle.link.specs.Link.{judgedFrame}
-use Rattle.link.specs.Frames.{Numbered}
+use Rattle.link.specs.Frames.{numberIn, Numbered}
 
 abbrev pub after : Device → List ℕ → Device
 after d f = judgedFrame d f .device
@@ -48,16 +47,6 @@ pub record Accepted (d : Device) (f : List ℕ) (s : Session) (n r : ℕ) : Type
 
 abbrev pub AnyAccepted : Device → List ℕ → Session → Type 0
 AnyAccepted d f s = (n : ℕ) × (r : ℕ) × Accepted d f s n r
-
--- the N(R) of "I, RR and RNR"
-abbrev pub numberIn : Order → Option ℕ
-numberIn Xid = none
-numberIn Snrm = none
-numberIn Disc = none
-numberIn (Info n r) = some r
-numberIn (Rr r) = some r
-numberIn (Rnr r) = some r
-numberIn Unknown = none
 
 -- "S+1 where an answer is pending, which removes it and moves S on"
 pub record Acknowledging (d : Device) (f : List ℕ) (s : Session) : Type 0 where

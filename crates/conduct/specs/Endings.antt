@@ -1,15 +1,19 @@
 -- What ends a session, and what a waiting result waits for. 01, "The link": "Ending a session drops the pending answer
 -- and any tilt result owed; alarms, subscription and a running movement stay."
---   pendingIn l  == what is pending in the link state l
---   Ends d f     == f ends the session of d, if there is one: it is SNRM, DISC, a frame with a bad N(R) or an unknown
---                   control, which gets FRMR, or an assignment that d takes
---   Dropped e    == in the device e nothing is pending and no tilt result is owed
---   Survives d e == alarms, what was told, subscription, range, tilt and a running movement of d are in e as well
---   Collects d f == f is RR with a good N(R) that leaves nothing pending in d
+--   pendingIn l   == what is pending in the link state l
+--   Assigns d f a == f is an assignment of the address a that d takes
+--   Begins d f    == f is a first SNRM: no session ends by it
+--   Ends d f      == f ends the session of d: it is SNRM, DISC, a frame with a bad N(R) or an unknown control, which gets
+--                    FRMR, or an assignment that d takes
+--   Drops d f     == f ends a session, is a first SNRM, or an assignment that d takes, with a session or without
+--   Dropped e     == in the device e nothing is pending and no tilt result is owed
+--   Survives d e  == alarms, what was told, subscription, range, tilt and a running movement of d are in e as well
+--   Collects d f  == f is RR with a good N(R) that leaves nothing pending in d
 -- Assumes nothing.
 use mathlib.Core.Path.{_≡_}
-use mathlib.Core.Bool.{true, false}
+use mathlib.Core.Bool.{false}
 use mathlib.Core.List.{List}
+use mathlib.Core.Logic.{_⊎_}
 use mathlib.Core.Option.{some}
 use Prim.Native.Nat.{ℕ}
 use lib.ListN.{drop}
@@ -27,21 +31,36 @@ use Rattle.record.specs.Fresh.{calm, noReply}
 use Rattle.session.specs.Session.{pends, goodNumber}
 use Rattle.xid.specs.Meaning.{Takes}
 use Rattle.acknowledge.specs.Acknowledge.{sessionAfter}
-use Rattle.conduct.specs.Conduct.{numberIn}
-use Rattle.link.specs.Frames.{hasAddress, Own, Numbered, Everyone}
+use Rattle.link.specs.Frames.{Own, numberIn, Numbered, Everyone}
 
 abbrev pub pendingIn : Link → Pending
 pendingIn NoAddress = Nothing
 pendingIn AddressAssigned = Nothing
 pendingIn (Connected s) = s .pending
 
+-- "Assignment: 2 present, 3 absent, value 1 to 254. .. Then any session ends, the address is taken"
+pub record Assigns (d : Device) (f : List ℕ) (a : ℕ) : Type 0 where
+  pub everyone : Everyone f
+  pub takes : Takes (identityOf (d .plate)) (drop 2 f) a
+
+-- "AddressAssigned: SNRM 0x93 gets UA 0x73 and Connected"
+pub record Begins (d : Device) (f : List ℕ) : Type 0 where
+  pub own : Own d f Snrm
+  pub link : d .station .link ≡ AddressAssigned
+
 pub data Ends (d : Device) (f : List ℕ) : Type 0 where
-  begins : Own d f Snrm → hasAddress (d .station .link) ≡ true → Ends d f
+  -- "Connected: SNRM gets UA and starts a new session; DISC 0x53 gets UA and AddressAssigned."
+  renews : (s : Session) → Own d f Snrm → d .station .link ≡ Connected s → Ends d f
   leaves : (s : Session) → Own d f Disc → d .station .link ≡ Connected s → Ends d f
+  -- "Any other N(R), and any control but XID, SNRM, DISC, I, RR and RNR, gets FRMR"
   miscounts : (s : Session) (o : Order) (r : ℕ) → Own d f o → d .station .link ≡ Connected s → numberIn o ≡ some r
       → goodNumber s r ≡ false → Ends d f
   unknown : (s : Session) → Own d f Unknown → d .station .link ≡ Connected s → Ends d f
-  assigns : (a : ℕ) → Everyone f → Takes (identityOf (d .plate)) (drop 2 f) a → Ends d f
+  -- "Then any session ends"
+  assigns : (s : Session) (a : ℕ) → Assigns d f a → d .station .link ≡ Connected s → Ends d f
+
+abbrev pub Drops : Device → List ℕ → Type 0
+Drops d f = Ends d f ⊎ (Begins d f ⊎ ((a : ℕ) × Assigns d f a))
 
 pub record Dropped (e : Device) : Type 0 where
   pub pending : pendingIn (e .station .link) ≡ Nothing

@@ -2,3 +2,5 @@
 pub mod Conduct
 pub mod Endings
 pub mod Alarms
+pub mod Comes
+pub mod Account

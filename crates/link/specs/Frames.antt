@@ -4,19 +4,26 @@
 --   Own d f o          == f is read at the own address of the device d, and its control asks o
 --   Numbered d f o r s == the same in the session s, and the N(R) = r of the order o is good
 --   Everyone f         == f is an XID frame to 0xFF
+--   numberIn o         == the N(R) of the order o, if it has one
+--   Unread d f         == d is silent to f, and why
 -- Assumes nothing.
 use mathlib.Core.Path.{_≡_}
 use mathlib.Core.Bool.{Bool, true, false}
 use mathlib.Core.List.{List}
-use Prim.Native.Nat.{ℕ, _≤_}
+use mathlib.Core.Option.{Option, none, some}
+use Prim.Native.Nat.{ℕ, _<_, _≤_}
 use lib.Dec.{eqb}
 use lib.ListN.{length, getD, drop}
 use Rattle.control.specs.Control.{polled, askedBy}
 use Rattle.control.specs.declared.Order.{Order}
+use Rattle.control.specs.declared.Order.the-variants.{Xid, Snrm, Disc, Info, Rr, Rnr, Unknown}
 use Rattle.record.specs.declared.Session.{Session}
 use Rattle.record.specs.declared.Link.{Link}
 use Rattle.record.specs.declared.Link.the-variants.{NoAddress, AddressAssigned, Connected}
 use Rattle.record.specs.declared.Device.{Device}
+use Rattle.record.specs.Allowed.{identityOf}
+use Rattle.xid.specs.Match.{readOf}
+use Rattle.xid.specs.declared.Xid as xids
 use Rattle.session.specs.Session.{goodNumber}
 use Rattle.link.specs.Link.{quiet, isOwn, frameMost}
 
@@ -47,3 +54,30 @@ pub record Everyone (f : List ℕ) : Type 0 where
   pub most : length f ≤ frameMost
   pub address : getD f 0 0 ≡ 0xFF
   pub control : controlOf f ≡ 0xBF
+
+-- the N(R) of "I, RR and RNR"
+abbrev pub numberIn : Order → Option ℕ
+numberIn Xid = none
+numberIn Snrm = none
+numberIn Disc = none
+numberIn (Info n r) = some r
+numberIn (Rr r) = some r
+numberIn (Rnr r) = some r
+numberIn Unknown = none
+
+pub data Unread (d : Device) (f : List ℕ) : Type 0 where
+  -- "fewer than 2 or more than 76 octets, silence"
+  short : length f < 2 → Unread d f
+  long : frameMost < length f → Unread d f
+  -- "Control octets below have the poll bit set; with it clear, silence."
+  unpolled : polled (controlOf f) ≡ false → Unread d f
+  -- "Address 0xFF: only XID (0xBF) is read."
+  unfit : getD f 0 0 ≡ 0xFF → (controlOf f ≡ 0xBF → ⊥) → Unread d f
+  -- an XID that is malformed, neither scan nor assignment, or does not match
+  unmeant : Everyone f → readOf (identityOf (d .plate)) (drop 2 f) ≡ xids.Xid.Silence → Unread d f
+  -- "Any other address than the device's own nonzero one: silence."
+  elsewhere : (getD f 0 0 ≡ 0xFF → ⊥) → isOwn d (getD f 0 0) ≡ false → Unread d f
+  -- "Own address, XID: silence. SNRM, DISC, RR or RNR with payload: silence."
+  unheeded : (getD f 0 0 ≡ 0xFF → ⊥) → quiet (askedBy (controlOf f)) (eqb (length (drop 2 f)) 0) ≡ true → Unread d f
+  -- a nonzero address in NoAddress, which no allowed record has
+  unassigned : (o : Order) → Own d f o → d .station .link ≡ NoAddress → Unread d f
