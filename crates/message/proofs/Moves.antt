@@ -4,7 +4,7 @@ use mathlib.Core.Path.{_≡_, refl, sym, ap, _∙_}
 use mathlib.Core.Bool.{Bool, true, false, cond}
 use mathlib.Core.List.{List, [], _∷_}
 use mathlib.Core.Logic.{_↔_, _⊎_, inl, inr, ⊎-elim}
-use Prim.Native.Nat.{ℕ, _≤_}
+use Prim.Native.Nat.{ℕ, _<_, _≤_}
 use native.Mathlib.Omega.{arith}
 use borrow.Author.Tests.{ltb-true, ltb-false, eqb-true}
 use lib.Dec.{ltb, eqb}
@@ -35,7 +35,7 @@ use Rattle.message.specs.Messages.{Due}
 use Rattle.message.specs.Carried.{replies, unanswered, quieted, doneBy, outcome, carriedOf}
 use Rattle.message.specs.Steps.{checkedOf, aimed, setOf, getOf, operatedOf, performedOf}
 use Rattle.message.proofs.Judged.{settledBy, performed-is, carried-none, carried-is}
-use Rattle.message.proofs.Shapes.{passed-sizes, shape-none, shape-two}
+use Rattle.message.proofs.Shapes.{passed-sizes, unlisted, shape-none, shape-two}
 
 -- what an answer that changes nothing says: ten octets at most, or what the device is
 abbrev pub Says : Plate → List ℕ → Type 0
@@ -55,13 +55,13 @@ says-tilt p t = inl (omega (arith, length-success 0x34 (tiltOctets t)))
 module _ (p : Plate) (n : Antenna) (told : Alarms) (sub : Bool) (m : List ℕ) where
   -- all that can come of a message
   module _ (P : Carried → Type 0)
-      (none : P (unanswered n told sub))
+      (none : length m < 3 → P (unanswered n told sub))
       (told-only : (b : List ℕ) → Says p b → P (replies b n told sub))
       (cleared : m ≡ 0x06 ∷ 0 ∷ 0 ∷ [] → P (replies (successOf 0x06 []) (quieted n) calm sub))
       (subscribed : m ≡ 0x12 ∷ 0 ∷ 0 ∷ [] → P (replies (successOf 0x12 []) n told true))
       (moved : Due n m → P (unanswered (started n (askedOf m) Started) told sub)) where
     module _ (long : 3 ≤ length m) (said : saidOf m ≡ length (dataOf m))
-        (size : length (dataOf m) ≡ takenBy table (codeOf m)) where
+        (size : length (dataOf m) ≡ takenBy table (codeOf m)) (listed : inTable table (codeOf m) ≡ true) where
       set-case : codeOf m ≡ 0x33 → (a : Aim) → aimOf n (askedOf m) ≡ a → P (aimed n told sub (askedOf m) a)
       unfolding aimed takenBy
       set-case e Busy h = told-only (failureOf 0x33 0x05) (says-failure p 0x33 0x05)
@@ -72,43 +72,45 @@ module _ (p : Plate) (n : Antenna) (told : Alarms) (sub : Bool) (m : List ℕ) w
           moved
           (record { octets = shape-two m 0x33 long e (said ∙ two) two; idle = due .0; reach = due .1 })
 
-      operated : (b₆ : Bool) → eqb (codeOf m) 0x06 ≡ b₆ → (b₁ : Bool) → eqb (codeOf m) 0x12 ≡ b₁
-          → (b₃ : Bool) → eqb (codeOf m) 0x33 ≡ b₃ → (b₄ : Bool) → P
+      operated : eqb (codeOf m) 0x04 ≡ false → eqb (codeOf m) 0x05 ≡ false → (b₆ : Bool) → eqb (codeOf m) 0x06 ≡ b₆
+          → (b₁ : Bool) → eqb (codeOf m) 0x12 ≡ b₁ → (b₃ : Bool) → eqb (codeOf m) 0x33 ≡ b₃
+          → (b₄ : Bool) → eqb (codeOf m) 0x34 ≡ b₄ → P
           (cond b₆ (replies (successOf 0x06 []) (quieted n) calm sub)
           (cond b₁ (replies (successOf 0x12 []) n told true)
           (cond b₃ (setOf n told sub (askedOf m)) (cond b₄ (getOf n told sub) (unanswered n told sub)))))
       unfolding setOf getOf takenBy
-      operated true e₆ b₁ e₁ b₃ e₃ b₄ =
+      operated x y true e₆ b₁ e₁ b₃ e₃ b₄ e₄ =
           let e = eqb-true (codeOf m) 0x06 e₆ in
           let zero : length (dataOf m) ≡ 0 = rw e at size in
           cleared (shape-none m 0x06 long e (said ∙ zero) zero)
-      operated false e₆ true e₁ b₃ e₃ b₄ =
+      operated x y false e₆ true e₁ b₃ e₃ b₄ e₄ =
           let e = eqb-true (codeOf m) 0x12 e₁ in
           let zero : length (dataOf m) ≡ 0 = rw e at size in
           subscribed (shape-none m 0x12 long e (said ∙ zero) zero)
-      operated false e₆ false e₁ true e₃ b₄ = set-case (eqb-true (codeOf m) 0x33 e₃) (aimOf n (askedOf m)) refl
-      operated false e₆ false e₁ false e₃ true = got (busyOf (n .motion))
+      operated x y false e₆ false e₁ true e₃ b₄ e₄ = set-case (eqb-true (codeOf m) 0x33 e₃) (aimOf n (askedOf m)) refl
+      operated x y false e₆ false e₁ false e₃ true e₄ = got (busyOf (n .motion))
         where
           got : (b : Bool) → P
               (cond b (replies (failureOf 0x34 0x05) n told sub)
               (replies (successOf 0x34 (tiltOctets (n .tilt))) n told sub))
           got true = told-only (failureOf 0x34 0x05) (says-failure p 0x34 0x05)
           got false = told-only (successOf 0x34 (tiltOctets (n .tilt))) (says-tilt p (n .tilt))
-      operated false e₆ false e₁ false e₃ false = none
+      operated x y false e₆ false e₁ false e₃ false e₄ =
+          absurd (true-not-false (sym listed ∙ unlisted (codeOf m) x y e₆ e₁ e₃ e₄))
 
       performed : P (performedOf p n told sub (codeOf m) (askedOf m))
       unfolding performedOf operatedOf
-      performed = go (eqb (codeOf m) 0x04) (eqb (codeOf m) 0x05)
+      performed = go (eqb (codeOf m) 0x04) refl (eqb (codeOf m) 0x05) refl
         where
-          go : (a b : Bool) → P
+          go : (a : Bool) → eqb (codeOf m) 0x04 ≡ a → (b : Bool) → eqb (codeOf m) 0x05 ≡ b → P
               (cond a (replies (successOf 0x04 (codesOf (n .raised .flags))) n told sub)
               (cond b (replies (successOf 0x05 (informationOf p)) n told sub)
               (operatedOf n told sub (codeOf m) (askedOf m))))
-          go true b = told-only (successOf 0x04 (codesOf (n .raised .flags))) (says-alarms p (n .raised .flags))
-          go false true = told-only (successOf 0x05 (informationOf p)) (inr refl)
-          go false false =
-              operated (eqb (codeOf m) 0x06) refl (eqb (codeOf m) 0x12) refl (eqb (codeOf m) 0x33) refl
-              (eqb (codeOf m) 0x34)
+          go true x b y = told-only (successOf 0x04 (codesOf (n .raised .flags))) (says-alarms p (n .raised .flags))
+          go false x true y = told-only (successOf 0x05 (informationOf p)) (inr refl)
+          go false x false y =
+              operated x y (eqb (codeOf m) 0x06) refl (eqb (codeOf m) 0x12) refl (eqb (codeOf m) 0x33) refl
+              (eqb (codeOf m) 0x34) refl
 
     judged-cases : 3 ≤ length m → (k : Check) → checkedOf (codeOf m) (saidOf m) (length (dataOf m)) ≡ k → P
         (settledBy n told sub (codeOf m)
@@ -116,14 +118,14 @@ module _ (p : Plate) (n : Antenna) (told : Alarms) (sub : Bool) (m : List ℕ) w
     unfolding settledBy
     judged-cases long Passed e =
         let sizes = passed-sizes (codeOf m) (saidOf m) (length (dataOf m)) e in
-        rw (← performed-is n told sub p (codeOf m) (askedOf m)) (performed long (sizes .0) (sizes .1))
+        rw (← performed-is n told sub p (codeOf m) (askedOf m)) (performed long (sizes .0) (sizes .1) (sizes .2))
     judged-cases long (Failed why) e = told-only (failureOf (codeOf m) why) (says-failure p (codeOf m) why)
 
     pub carried-cases : P (carriedOf p n told sub m)
     carried-cases = go (ltb (length m) 3) refl
       where
         go : (b : Bool) → ltb (length m) 3 ≡ b → P (carriedOf p n told sub m)
-        go true e = rw (carried-none n told sub p m (ltb-true (length m) 3 e)) none
+        go true e = let few = ltb-true (length m) 3 e in rw (carried-none n told sub p m few) (none few)
         go false e =
             let long = ltb-false (length m) 3 e in
             rw (carried-is n told sub p m long) (judged-cases long _ refl)
@@ -132,8 +134,8 @@ module _ (p : Plate) (n : Antenna) (told : Alarms) (sub : Bool) (m : List ℕ) w
   pub moved-or-not : Due n m ⊎ (carriedOf p n told sub m .antenna .motion ≡ n .motion)
   unfolding replies unanswered quieted
   moved-or-not =
-      carried-cases (λ r. Due n m ⊎ (r .antenna .motion ≡ n .motion)) (inr refl) (λ b s. inr refl) (λ e. inr refl)
-      (λ e. inr refl) inl
+      carried-cases (λ r. Due n m ⊎ (r .antenna .motion ≡ n .motion)) (λ few. inr refl) (λ b s. inr refl)
+      (λ e. inr refl) (λ e. inr refl) inl
 
   pub due-moves : Due n m → carriedOf p n told sub m ≡ unanswered (started n (askedOf m) Started) told sub
   unfolding carriedOf outcome answered checks driveChecks holds inTable takenBy doneBy
@@ -159,7 +161,7 @@ module _ (p : Plate) (n : Antenna) (told : Alarms) (sub : Bool) (m : List ℕ) w
   unfolding replies unanswered started moves
   cleared-or-not =
       carried-cases (λ r. (m ≡ 0x06 ∷ 0 ∷ 0 ∷ []) ⊎ ((r .antenna .raised ≡ n .raised) × (r .told ≡ told)))
-      (inr (refl, refl)) (λ b s. inr (refl, refl)) inl (λ e. inr (refl, refl)) (λ d. inr (refl, refl))
+      (λ few. inr (refl, refl)) (λ b s. inr (refl, refl)) inl (λ e. inr (refl, refl)) (λ d. inr (refl, refl))
 
   pub clear-clears : m ≡ 0x06 ∷ 0 ∷ 0 ∷ []
       → carriedOf p n told sub m ≡ replies (successOf 0x06 []) (quieted n) calm sub
@@ -170,8 +172,8 @@ module _ (p : Plate) (n : Antenna) (told : Alarms) (sub : Bool) (m : List ℕ) w
   pub subscribed-or-not : (m ≡ 0x12 ∷ 0 ∷ 0 ∷ []) ⊎ (carriedOf p n told sub m .subscribed ≡ sub)
   unfolding replies unanswered
   subscribed-or-not =
-      carried-cases (λ r. (m ≡ 0x12 ∷ 0 ∷ 0 ∷ []) ⊎ (r .subscribed ≡ sub)) (inr refl) (λ b s. inr refl) (λ e. inr refl)
-      inl (λ d. inr refl)
+      carried-cases (λ r. (m ≡ 0x12 ∷ 0 ∷ 0 ∷ []) ⊎ (r .subscribed ≡ sub)) (λ few. inr refl) (λ b s. inr refl)
+      (λ e. inr refl) inl (λ d. inr refl)
 
   pub subscribe-subscribes : m ≡ 0x12 ∷ 0 ∷ 0 ∷ []
       → carriedOf p n told sub m ≡ replies (successOf 0x12 []) n told true
@@ -183,8 +185,8 @@ module _ (p : Plate) (n : Antenna) (told : Alarms) (sub : Bool) (m : List ℕ) w
       ≡ inRange n (n .tilt)
   unfolding replies unanswered quieted started moves inRange
   range-stays =
-      carried-cases (λ r. inRange (r .antenna) (r .antenna .tilt) ≡ inRange n (n .tilt)) refl (λ b s. refl) (λ e. refl)
-      (λ e. refl) (λ d. refl)
+      carried-cases (λ r. inRange (r .antenna) (r .antenna .tilt) ≡ inRange n (n .tilt)) (λ few. refl) (λ b s. refl)
+      (λ e. refl) (λ e. refl) (λ d. refl)
 
   -- a result comes to be owed only by a set tilt that is due
   pub owed-or-not : Due n m ⊎ (owesOf (carriedOf p n told sub m .antenna .motion) ≡ owesOf (n .motion))
@@ -194,6 +196,6 @@ module _ (p : Plate) (n : Antenna) (told : Alarms) (sub : Bool) (m : List ℕ) w
   pub carried-fits : length (successOf 0x05 (informationOf p)) ≤ 74 → carriedOf p n told sub m .payload .len ≤ 74
   unfolding replies unanswered payloadOf
   carried-fits h =
-      carried-cases (λ r. r .payload .len ≤ 74) (omega arith)
+      carried-cases (λ r. r .payload .len ≤ 74) (λ few. omega arith)
       (λ b. ⊎-elim (λ few. omega (arith, few)) (λ e. omega (arith, h, ap length e)))
       (λ e. omega (arith, length-success 0x06 [])) (λ e. omega (arith, length-success 0x12 [])) (λ d. omega arith)
