@@ -101,6 +101,12 @@ xid-means : (d : Device) (f : List ℕ) → Everyone f → (x : Xid) → readOf 
     → judgedFrame d f ≡ xidBy d x
 xid-means d f w x e = everyone-is d f w ∙ ap (xidBy d) e
 
+-- every scan that is read and matches
+pub scan-answers : (d : Device) (f : List ℕ) → Everyone f → Answers (identityOf (d .plate)) (drop 2 f)
+    → judgedFrame d f ≡ saying d Say.Scanned
+unfolding xidBy
+scan-answers d f w a = xid-means d f w xid.Scan (scan-exactly (identityOf (d .plate)) (drop 2 f) .1 a)
+
 -- every assignment that is read and matches
 pub assignment-ends : (d : Device) (f : List ℕ) (a : ℕ) → Everyone f → Takes (identityOf (d .plate)) (drop 2 f) a
     → judgedFrame d f ≡ saying (endedAs d a AddressAssigned) Say.Assigned
@@ -114,9 +120,7 @@ module _ (d : Device) (m : List ℕ) (fits : length m + 2 ≤ frameMost) where
   to-everyone = record { least = omega arith; most = omega arith; address = refl; control = refl }
 
   pub scan-answered : Answers (identityOf (d .plate)) m → judgedFrame d (0xFF ∷ 0xBF ∷ m) ≡ saying d Say.Scanned
-  unfolding xidBy
-  scan-answered w =
-      xid-means d (0xFF ∷ 0xBF ∷ m) to-everyone xid.Scan (scan-exactly (identityOf (d .plate)) m .1 w)
+  scan-answered w = scan-answers d (0xFF ∷ 0xBF ∷ m) to-everyone w
 
   pub scan-silent : (v k : List ℕ) → ScanOf m v k → (masked (padded (identityOf (d .plate))) k ≡ v → ⊥)
       → judgedFrame d (0xFF ∷ 0xBF ∷ m) ≡ mute d

@@ -68,7 +68,7 @@ module _ (d : Device) (f : List ℕ) where
   unfolding polledBy saying deviceOf moves acknowledged
   poll-told s r =
       poll-cases (acknowledged d s r) (sessionAfter s r) Told (λ e. same-told _ refl)
-      (λ b e. stood (d .antenna .motion)) (λ e. same-told _ refl) (same-told _ refl)
+      (λ b p e. stood (d .antenna .motion)) (λ p q e. same-told _ refl) (λ p q e. same-told _ refl)
 
   module _ (s : Session) (n r : ℕ) (w : Numbered d f (Info n r) r s) where
     carried-told : accepts (sessionAfter s r) n ≡ true
@@ -91,9 +91,9 @@ module _ (d : Device) (f : List ℕ) where
   unfolding starts saying begun released endedAs rejected moves pausedBy
   starts-only =
       let ended = unowed-runs (d .antenna .motion) in
-      judged-cases d f Told (same-told _ refl) (λ w e. same-told _ refl) (λ a w e. same-told _ ended)
-      (λ w h. same-told _ ended) (λ o w l. same-told _ refl) (λ s w l. same-told _ ended)
-      (λ s o c w l. same-told _ ended) inform-told (λ s r w. poll-told s r)
+      judged-cases d f Told (λ u. same-told _ refl) (λ w e. same-told _ refl) (λ a w e. same-told _ ended)
+      (λ w l. same-told _ ended) (λ o w n l. same-told _ refl) (λ s w l. same-told _ ended) (λ s w l. same-told _ ended)
+      (λ s o r w l n b. same-told _ ended) (λ s w l. same-told _ ended) inform-told (λ s r w. poll-told s r)
       (λ s r w. same-told _ (ap (λ x. runs (x .motion)) (antenna-kept d s r)))
 
 -- ---- where a tilt is due

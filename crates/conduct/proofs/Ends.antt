@@ -1,7 +1,9 @@
 -- A session's end, by SNRM, DISC, FRMR or an assignment, drops the pending answer and a tilt result that is owed;
--- alarms, what was told, subscription, range, tilt and a running movement stay, so no change is lost. Assumes nothing.
-use mathlib.Core.Path.{_≡_, refl, ap}
+-- alarms, what was told, subscription, range, tilt and a running movement stay, so no change is lost. A first SNRM and an
+-- assignment without a session do the same. Assumes nothing.
+use mathlib.Core.Path.{_≡_, refl}
 use mathlib.Core.List.{List}
+use mathlib.Core.Logic.{_⊎_, inl, inr}
 use Prim.Native.Nat.{ℕ}
 use Rattle.antenna.specs.Motions.{moves}
 use Rattle.antenna.proofs.Movements.{unowed-owes, unowed-runs}
@@ -12,15 +14,14 @@ use Rattle.record.specs.declared.Link.the-variants.{AddressAssigned, Connected}
 use Rattle.record.specs.declared.Device.{Device}
 use Rattle.record.specs.Changes.{unsaidAt, endedAs}
 use Rattle.poll.specs.Poll.{toTell}
-use Rattle.station.specs.declared.Turn.{Turn}
 use Rattle.station.specs.Turns.{saying}
-use Rattle.link.specs.Frames.{hasAddress}
 use Rattle.states.specs.States.{newSession, begun, released, rejected}
 use Rattle.conduct.specs.Conduct.{after}
-use Rattle.conduct.specs.Endings.{pendingIn, Ends, renews, leaves, miscounts, unknown, assigns}
-use Rattle.conduct.specs.Endings.{Dropped, Survives}
-use Rattle.conduct.proofs.Refusing.{bad-rejected, unknown-rejected, disc-releases}
-use Rattle.conduct.proofs.Answers.{snrm-begins, assignment-ends}
+use Rattle.conduct.specs.Endings.{pendingIn, Ends, renews, leaves, miscounts, unknown, assigns, endedBy}
+use Rattle.conduct.specs.Endings.{Drops, Dropped, Survives}
+use Rattle.conduct.specs.Comes.{left}
+use Rattle.conduct.specs.Comes as come
+use Rattle.conduct.proofs.Comes.{comes-leaves, ends-leaves}
 
 module _ (d : Device) where
   pub ended-drops : (a : ℕ) (l : Link) → pendingIn l ≡ Nothing → Dropped (endedAs d a l)
@@ -73,46 +74,39 @@ module _ (d : Device) where
 
   module _ (f : List ℕ) where
     -- each of them leaves a device whose session has ended
-    pub ends-as : Ends d f → (a : ℕ) × (l : Link) × (pendingIn l ≡ Nothing) × (after d f ≡ endedAs d a l)
-    unfolding begun released rejected saying
-    ends-as (renews s w l) = (
-      d .station .address,
-      Connected newSession,
-      refl,
-      ap (λ (t : Turn). t .device) (snrm-begins d f w (ap hasAddress l)),
-    )
-    ends-as (leaves s w l) = (
-      d .station .address,
-      AddressAssigned,
-      refl,
-      ap (λ (t : Turn). t .device) (disc-releases d f s w l),
-    )
-    ends-as (miscounts s o r w l e b) = (
-      d .station .address,
-      AddressAssigned,
-      refl,
-      ap (λ (t : Turn). t .device) (bad-rejected d f s o r w l e b),
-    )
-    ends-as (unknown s w l) = (
-      d .station .address,
-      AddressAssigned,
-      refl,
-      ap (λ (t : Turn). t .device) (unknown-rejected d f s w l),
-    )
-    ends-as (assigns s a w l) = (
-      a,
-      AddressAssigned,
-      refl,
-      ap (λ (t : Turn). t .device) (assignment-ends d f a (w .everyone) (w .takes)),
-    )
+    pub drops-as : Drops d f → (a : ℕ) × (l : Link) × (pendingIn l ≡ Nothing) × (after d f ≡ endedAs d a l)
+    unfolding endedBy begun released left
+    drops-as (inl (renews s w l)) =
+        (d .station .address, Connected newSession, refl, ends-leaves d f (renews s w l))
+    drops-as (inl (leaves s w l)) = (d .station .address, AddressAssigned, refl, ends-leaves d f (leaves s w l))
+    drops-as (inl (miscounts s o r w l n b)) =
+        (d .station .address, AddressAssigned, refl, ends-leaves d f (miscounts s o r w l n b))
+    drops-as (inl (unknown s w l)) = (d .station .address, AddressAssigned, refl, ends-leaves d f (unknown s w l))
+    drops-as (inl (assigns s a w l)) = (a, AddressAssigned, refl, ends-leaves d f (assigns s a w l))
+    drops-as (inr (inl w)) =
+        (d .station .address, Connected newSession, refl, comes-leaves d f (come.begins (w .own) (w .link)))
+    drops-as (inr (inr (a, w))) = (a, AddressAssigned, refl, comes-leaves d f (come.assigns a w))
 
-    pub ends-drop : Ends d f → Dropped (after d f)
-    ends-drop e = let (a, l, idle, is) = ends-as e in rw is (ended-drops a l idle)
+    pub drops-drop : Drops d f → Dropped (after d f)
+    drops-drop e = let (a, l, idle, is) = drops-as e in rw is (ended-drops a l idle)
 
-    pub ends-survive : Ends d f → Survives d (after d f)
-    ends-survive e = let (a, l, idle, is) = ends-as e in rw is (ended-survives a l)
+    pub drops-survive : Drops d f → Survives d (after d f)
+    drops-survive e = let (a, l, idle, is) = drops-as e in rw is (ended-survives a l)
 
     -- what there was to tell is still to be told
-    pub ends-tell : Ends d f → toTell (after d f .station) (after d f .antenna) ≡ toTell (d .station) (d .antenna)
+    pub drops-tell : Drops d f → toTell (after d f .station) (after d f .antenna) ≡ toTell (d .station) (d .antenna)
     unfolding toTell
-    ends-tell e = let k = ends-survive e in rw (k .subscribed, k .raised, k .told)
+    drops-tell e = let k = drops-survive e in rw (k .subscribed, k .raised, k .told)
+
+    -- so the end of a session
+    pub ends-as : Ends d f → (a : ℕ) × (l : Link) × (pendingIn l ≡ Nothing) × (after d f ≡ endedAs d a l)
+    ends-as e = drops-as (inl e)
+
+    pub ends-drop : Ends d f → Dropped (after d f)
+    ends-drop e = drops-drop (inl e)
+
+    pub ends-survive : Ends d f → Survives d (after d f)
+    ends-survive e = drops-survive (inl e)
+
+    pub ends-tell : Ends d f → toTell (after d f .station) (after d f .antenna) ≡ toTell (d .station) (d .antenna)
+    ends-tell e = drops-tell (inl e)

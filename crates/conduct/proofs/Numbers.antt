@@ -113,9 +113,10 @@ module _ (d : Device) (f : List ℕ) (s t : Session) (here : d .station .link �
     either-way : Either
     unfolding saying released rejected endedAs unsaidAt
     either-way =
-        judged-cases d f Told same-told (λ w e. same-told) (λ a w e l. absurd (assigned-apart l))
-        (λ w h l. absurd (new w)) (λ o w l. same-told) (λ k w e l. absurd (assigned-apart l))
-        (λ k o c w e l. absurd (assigned-apart l)) (λ k n r w l. info-told n r (at w)) (λ k r w l. rr-told r (at w))
+        judged-cases d f Told (λ u. same-told) (λ w e. same-told) (λ a w e l. absurd (assigned-apart l))
+        (λ w e l. absurd (new w)) (λ o w n e. same-told) (λ k w e l. absurd (new w))
+        (λ k w e l. absurd (assigned-apart l)) (λ k o r w e n b l. absurd (assigned-apart l))
+        (λ k w e l. absurd (assigned-apart l)) (λ k n r w l. info-told n r (at w)) (λ k r w l. rr-told r (at w))
         (λ k r w l. rnr-told r (at w)) there
 
     pub r-moves-exactly : t .r ≡ nextOf (s .r) ↔ AnyAccepted d f s

@@ -1,4 +1,5 @@
--- What ends a session by a frame in it: a bad N(R) or an unknown control, which gets FRMR; DISC. Assumes nothing.
+-- What ends a session by a frame in it: a bad N(R) or an unknown control, which gets FRMR; DISC. What is not SNRM gets
+-- DM where there is no session. Assumes nothing.
 use mathlib.Core.Path.{_≡_, _∙_}
 use mathlib.Core.Bool.{false}
 use mathlib.Core.List.{List}
@@ -9,13 +10,15 @@ use lib.ListN.{drop}
 use Rattle.control.specs.declared.Order.{Order}
 use Rattle.control.specs.declared.Order.the-variants.{Xid, Snrm, Disc, Info, Rr, Rnr, Unknown}
 use Rattle.record.specs.declared.Session.{Session}
-use Rattle.record.specs.declared.Link.the-variants.{Connected}
+use Rattle.record.specs.declared.Link.the-variants.{AddressAssigned, Connected}
 use Rattle.record.specs.declared.Device.{Device}
 use Rattle.session.specs.Session.{goodNumber}
 use Rattle.station.specs.Turns.{saying}
-use Rattle.states.specs.States.{released, ua, rejected, infoBy, rrBy, rnrBy, connectedBy}
+use Rattle.states.specs.States.{released, ua, dm, rejected, infoBy, rrBy, rnrBy, connectedBy}
+use Rattle.states.specs.States.{isSnrm, assignedBy, linkedBy}
 use Rattle.link.specs.Link.{judgedFrame}
 use Rattle.link.specs.Frames.{controlOf, Own, numberIn}
+use Rattle.link.proofs.Cases.{own-is}
 use Rattle.conduct.proofs.Settles.{session-is}
 
 pub none-not-some : (r : ℕ) → none ≡ some r → ⊥
@@ -51,3 +54,9 @@ module _ (d : Device) (f : List ℕ) (s : Session) where
   pub disc-releases : Own d f Disc → d .station .link ≡ Connected s → judgedFrame d f ≡ saying (released d) ua
   unfolding connectedBy
   disc-releases w l = session-is d f s Disc w l
+
+-- "AddressAssigned: .. anything else gets DM 0x1F."
+pub other-declined : (d : Device) (f : List ℕ) (o : Order) → Own d f o → isSnrm o ≡ false
+    → d .station .link ≡ AddressAssigned → judgedFrame d f ≡ saying d dm
+unfolding linkedBy assignedBy
+other-declined d f o w e l = own-is d f o w ∙ rw (l, e)

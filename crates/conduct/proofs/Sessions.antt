@@ -64,9 +64,9 @@ module _ (d : Device) (s : Session) (r : ℕ) (l : d .station .link ≡ Connecte
   poll-counted =
       poll-cases (acknowledged d s r) (sessionAfter s r) (λ (t : Turn). Counted t (s .r) (sessionAfter s r .s))
       (λ e. kept-counted _ refl)
-      (λ b e. record { session = _; link = refl; due = r-kept s r; number = refl })
-      (λ e. record { session = _; link = refl; due = r-kept s r; number = refl })
-      (kept-counted _ refl)
+      (λ b p e. record { session = _; link = refl; due = r-kept s r; number = refl })
+      (λ p q e. record { session = _; link = refl; due = r-kept s r; number = refl })
+      (λ p q e. kept-counted _ refl)
 
   module _ (n : ℕ) (m : List ℕ) where
     inform-counted : Counted (informedBy d s n r m) (cond (accepts (sessionAfter s r) n) (nextOf (s .r)) (s .r))

@@ -1,5 +1,5 @@
 -- What a good N(R) leaves as it was: the antenna, the address, the subscription and R; the session after it; and what
--- an I-frame, RR or RNR with a good N(R) comes to. Assumes nothing.
+-- an I-frame, accepted or not, RR or RNR with a good N(R) comes to. Assumes nothing.
 use mathlib.Core.Path.{_≡_, refl, ap, _∙_}
 use mathlib.Core.Bool.{Bool, true, false, cond}
 use mathlib.Core.List.{List}
@@ -17,15 +17,18 @@ use Rattle.record.specs.declared.Link.{Link}
 use Rattle.record.specs.declared.Link.the-variants.{AddressAssigned, Connected}
 use Rattle.record.specs.declared.Device.{Device}
 use Rattle.record.specs.Changes.{unsaidAt}
-use Rattle.session.specs.Session.{pends, acknowledges}
+use Rattle.session.specs.Session.{pends, acknowledges, taken}
 use Rattle.acknowledge.specs.Acknowledge.{emptied, settled, retold, sessionAfter, stationAfter}
 use Rattle.acknowledge.specs.Acknowledge.{acknowledged}
 use Rattle.record.specs.Changes.{deviceOf}
+use Rattle.message.specs.Carried.{carriedOf}
+use Rattle.inform.specs.Inform.{carriedHere, carriedBy, informOf}
 use Rattle.states.specs.States.{informedBy, polledBy, pausedBy}
 use Rattle.states.specs.States.{infoBy, rrBy, rnrBy, connectedBy, linkedBy}
 use Rattle.link.specs.Link.{judgedFrame}
 use Rattle.link.specs.Frames.{controlOf, Own, Numbered}
 use Rattle.link.proofs.Cases.{own-is}
+use Rattle.conduct.specs.Conduct.{Accepted}
 
 -- no number is its own next one
 pub next-apart : (n : ℕ) → nextOf n ≡ n → ⊥
@@ -81,6 +84,14 @@ module _ (d : Device) (s : Session) (r : ℕ) where
   unfolding acknowledged deviceOf stationAfter
   device-kept e = rw e
 
+module _ (d : Device) (s : Session) (r : ℕ) (m : List ℕ) where
+  -- so a message is carried out as by d, but for what is told
+  pub carried-kept : carriedHere (acknowledged d s r) m
+      ≡ carriedOf (d .plate) (d .antenna) (stationAfter (d .station) s r .told) (d .station .subscribed) m
+  unfolding acknowledged deviceOf
+  carried-kept =
+      ap (λ b. carriedOf (d .plate) (d .antenna) (stationAfter (d .station) s r .told) b m) (subscribed-kept d s r)
+
 pub r-kept : (s : Session) (r : ℕ) → sessionAfter s r .r ≡ s .r
 unfolding sessionAfter emptied
 r-kept s r = go (acknowledges s r)
@@ -108,3 +119,9 @@ module _ (d : Device) (f : List ℕ) (s : Session) where
   pub rnr-is : (r : ℕ) → Numbered d f (Rnr r) r s → judgedFrame d f ≡ pausedBy d s r
   unfolding connectedBy rnrBy
   rnr-is r w = session-is (Rnr r) (w .own) (w .link) ∙ rw (w .good)
+
+  pub accepted-is : (n r : ℕ) → Accepted d f s n r
+      → judgedFrame d f
+      ≡ carriedBy (acknowledged d s r) (taken (sessionAfter s r)) (carriedHere (acknowledged d s r) (drop 2 f))
+  unfolding informedBy informOf
+  accepted-is n r w = info-is n r (w .numbered) ∙ rw (w .accepted)

@@ -124,7 +124,8 @@ module _ (d : Device) (s : Session) (w : Within d s) where
   poll-stays : Good (pollOf d s)
   unfolding saying
   poll-stays =
-      poll-cases d s Good (λ e. allowed-within d s w) (λ b e. result-stays b) indication-stays (allowed-within d s w)
+      poll-cases d s Good (λ e. allowed-within d s w) (λ b p e. result-stays b) (λ p q. indication-stays)
+      (λ p q e. allowed-within d s w)
 
   inform-stays : (n : ℕ) (m : List ℕ) → Good (informOf d s n m)
   unfolding saying repliedBy deviceOf heeded answersWith awaiting taken numbersAllowed
@@ -142,12 +143,14 @@ module _ (d : Device) (s : Session) (w : Within d s) where
 pub stays-allowed : (d : Device) (f : List ℕ) → allowedDevice d ≡ true → allowedDevice (after d f) ≡ true
 unfolding saying rejected informedBy polledBy pausedBy
 stays-allowed d f allowed =
-    judged-cases d f Good allowed (λ w e. allowed)
+    judged-cases d f Good (λ u. allowed) (λ w e. allowed)
     (λ a w e. assigned-stays d allowed a (assignment-addressed (identityOf (d .plate)) (drop 2 f) a e))
-    (λ w h. begun-stays d allowed h)
-    (λ o w l. allowed)
+    (λ w l. begun-stays d allowed (ap hasAddress l))
+    (λ o w n l. allowed)
+    (λ s w l. begun-stays d allowed (ap hasAddress l))
     (λ s w l. released-stays d allowed (ap hasAddress l))
-    (λ s o c w l. released-stays d allowed (ap hasAddress l))
+    (λ s o r w l n b. released-stays d allowed (ap hasAddress l))
+    (λ s w l. released-stays d allowed (ap hasAddress l))
     (λ s n r w. inform-stays (acknowledged d s r) (sessionAfter s r) (settled s r (w .link)) n (drop 2 f))
     (λ s r w. poll-stays (acknowledged d s r) (sessionAfter s r) (settled s r (w .link)))
     (λ s r w. allowed-within (acknowledged d s r) (sessionAfter s r) (settled s r (w .link)))

@@ -119,9 +119,10 @@ module _ (d : Device) (f : List ℕ) where
       ⊎ (Indicated d f × (after d f .station .told ≡ d .station .said))))
   unfolding saying endedAs unsaidAt moves begun released rejected
   alarms-cases =
-      judged-cases d f Changes (inr (refl, inl refl)) (λ w e. inr (refl, inl refl)) (λ a w e. inr (refl, inl refl))
-      (λ w e. inr (refl, inl refl)) (λ o w e. inr (refl, inl refl)) (λ s w e. inr (refl, inl refl))
-      (λ s o v w e. inr (refl, inl refl)) (λ s n r. informs s r n) polls pauses
+      judged-cases d f Changes (λ u. inr (refl, inl refl)) (λ w e. inr (refl, inl refl))
+      (λ a w e. inr (refl, inl refl)) (λ w l. inr (refl, inl refl)) (λ o w n l. inr (refl, inl refl))
+      (λ s w l. inr (refl, inl refl)) (λ s w l. inr (refl, inl refl)) (λ s o r w l n b. inr (refl, inl refl))
+      (λ s w l. inr (refl, inl refl)) (λ s n r. informs s r n) polls pauses
 
   -- "clear alarms: raised and told become empty"
   pub clears-both : Clears d f → (after d f .antenna .raised ≡ calm) × (after d f .station .told ≡ calm)

@@ -25,29 +25,33 @@ use Rattle.inform.specs.Inform.{informOf}
 -- the device d in its session s, the acknowledged answer being removed
 module _ (d : Device) (s : Session) (P : Turn → Type 0) where
   module _ (resends : pends (s .pending) ≡ true → P (saying d (resent s)))
-      (results : (b : Bool) → waitingOf (d .antenna .motion) ≡ Waits.Result b → P
+      (results : (b : Bool) → pends (s .pending) ≡ false → waitingOf (d .antenna .motion) ≡ Waits.Result b → P
       (saying (deviceOf d (answersWith (d .station) s (payloadOf (resultOf b))) (moves (d .antenna) Still)) (pend s)))
-      (tells : toTell (d .station) (d .antenna) ≡ true → P
+      (tells : pends (s .pending) ≡ false → waitingOf (d .antenna .motion) ≡ Waits.Nothing
+      → toTell (d .station) (d .antenna) ≡ true → P
       (saying (deviceOf d (indicates (d .station) s (d .antenna .raised)) (d .antenna)) (pend s)))
-      (rests : P (saying d (ready s))) where
+      (rests : pends (s .pending) ≡ false → waitingOf (d .antenna .motion) ≡ Waits.Nothing
+      → toTell (d .station) (d .antenna) ≡ false → P (saying d (ready s))) where
     pub poll-cases : P (pollOf d s)
     unfolding pollOf waitingPoll idlePoll
     poll-cases = go (pends (s .pending)) refl
       where
-        told : (b : Bool) → toTell (d .station) (d .antenna) ≡ b → P
+        told : pends (s .pending) ≡ false → waitingOf (d .antenna .motion) ≡ Waits.Nothing → (b : Bool)
+            → toTell (d .station) (d .antenna) ≡ b → P
             (cond b (saying (deviceOf d (indicates (d .station) s (d .antenna .raised)) (d .antenna)) (pend s))
             (saying d (ready s)))
-        told true e = tells e
-        told false e = rests
+        told p w true e = tells p w e
+        told p w false e = rests p w e
 
-        waits : (w : Waits) → waitingOf (d .antenna .motion) ≡ w → P (waitingPoll d s w)
-        waits Waits.Nothing e = told (toTell (d .station) (d .antenna)) refl
-        waits (Waits.Result b) e = results b e
+        waits : pends (s .pending) ≡ false → (w : Waits) → waitingOf (d .antenna .motion) ≡ w
+            → P (waitingPoll d s w)
+        waits p Waits.Nothing e = told p e (toTell (d .station) (d .antenna)) refl
+        waits p (Waits.Result b) e = results b p e
 
         go : (b : Bool) → pends (s .pending) ≡ b → P
             (cond b (saying d (resent s)) (waitingPoll d s (waitingOf (d .antenna .motion))))
         go true e = resends e
-        go false e = waits (waitingOf (d .antenna .motion)) refl
+        go false e = waits e (waitingOf (d .antenna .motion)) refl
 
   module _ (n : ℕ) (m : List ℕ)
       (none : accepts s n ≡ true → carriedHere d m .reply ≡ Reply.None → P

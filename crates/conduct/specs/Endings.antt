@@ -3,8 +3,8 @@
 --   pendingIn l   == what is pending in the link state l
 --   Assigns d f a == f is an assignment of the address a that d takes
 --   Begins d f    == f is a first SNRM: no session ends by it
---   Ends d f      == f ends the session of d: it is SNRM, DISC, a frame with a bad N(R) or an unknown control, which gets
---                    FRMR, or an assignment that d takes
+--   Ends d f      == f ends the session of d: it is SNRM, DISC, a frame with a bad N(R) or an unknown control, which
+--                    gets FRMR, or an assignment that d takes; endedBy d f e == the device that its case e leaves
 --   Drops d f     == f ends a session, is a first SNRM, or an assignment that d takes, with a session or without
 --   Dropped e     == in the device e nothing is pending and no tilt result is owed
 --   Survives d e  == alarms, what was told, subscription, range, tilt and a running movement of d are in e as well
@@ -27,10 +27,12 @@ use Rattle.record.specs.declared.Link.{Link}
 use Rattle.record.specs.declared.Link.the-variants.{NoAddress, AddressAssigned, Connected}
 use Rattle.record.specs.declared.Device.{Device}
 use Rattle.record.specs.Allowed.{identityOf}
+use Rattle.record.specs.Changes.{endedAs}
 use Rattle.record.specs.Fresh.{calm, noReply}
 use Rattle.session.specs.Session.{pends, goodNumber}
 use Rattle.xid.specs.Meaning.{Takes}
 use Rattle.acknowledge.specs.Acknowledge.{sessionAfter}
+use Rattle.states.specs.States.{begun, released}
 use Rattle.link.specs.Frames.{Own, numberIn, Numbered, Everyone}
 
 abbrev pub pendingIn : Link → Pending
@@ -58,6 +60,15 @@ pub data Ends (d : Device) (f : List ℕ) : Type 0 where
   unknown : (s : Session) → Own d f Unknown → d .station .link ≡ Connected s → Ends d f
   -- "Then any session ends"
   assigns : (s : Session) (a : ℕ) → Assigns d f a → d .station .link ≡ Connected s → Ends d f
+
+-- the device after it: "starts a new session"; "AddressAssigned"; "The link falls to AddressAssigned"; "the address is
+-- taken, the state is AddressAssigned"
+unfoldable pub endedBy : (d : Device) (f : List ℕ) → Ends d f → Device
+endedBy d f (renews s w l) = begun d
+endedBy d f (leaves s w l) = released d
+endedBy d f (miscounts s o r w l n b) = released d
+endedBy d f (unknown s w l) = released d
+endedBy d f (assigns s a w l) = endedAs d a AddressAssigned
 
 abbrev pub Drops : Device → List ℕ → Type 0
 Drops d f = Ends d f ⊎ (Begins d f ⊎ ((a : ℕ) × Assigns d f a))
