@@ -3,43 +3,32 @@
 use mathlib.Core.Path.{_≡_, refl, sym, ap, _∙_}
 use mathlib.Core.Bool.{true, false, not, _&&_}
 use mathlib.Core.List.{List}
-use mathlib.Core.Logic.{_↔_, ⊎-elim}
+use mathlib.Core.Logic.{_↔_}
 use Prim.Native.Nat.{ℕ}
 use borrow.Author.Tests.{not-true}
-use lib.ListN.{drop}
 use Rattle.octets.proofs.Words.{true-not-false}
 use Rattle.identity.proofs.Identities.{and-parts}
 use Rattle.antenna.specs.declared.Motion.{Motion}
 use Rattle.antenna.specs.declared.Motion.the-variants.{Still}
-use Rattle.antenna.specs.declared.Aim.the-variants.{Started}
 use Rattle.antenna.specs.Motions.{runs, started, moves}
 use Rattle.antenna.proofs.Movements.{unowed-runs, idle}
-use Rattle.record.specs.declared.Session.{Session}
 use Rattle.record.specs.declared.Link.the-variants.{Connected}
 use Rattle.record.specs.declared.Device.{Device}
-use Rattle.record.specs.Changes.{endedAs}
-use Rattle.session.specs.Session.{accepts, taken}
+use Rattle.record.specs.Changes.{deviceOf, endedAs}
+use Rattle.session.specs.Session.{taken}
 use Rattle.session.proofs.Numbers.{accepts-exactly}
-use Rattle.inform.specs.Inform.{heeded}
-use Rattle.acknowledge.specs.Acknowledge.{sessionAfter}
-use Rattle.message.specs.Messages.{askedOf}
-use Rattle.message.specs.Carried.{unanswered}
-use Rattle.message.proofs.Moves.{moved-or-not, due-moves}
-use Rattle.station.specs.declared.Turn.{Turn}
-use Rattle.station.specs.Turns.{saying}
-use Rattle.acknowledge.specs.Acknowledge.{acknowledged}
-use Rattle.record.specs.Changes.{deviceOf}
+use Rattle.message.specs.Carried.{quieted}
 use Rattle.station.specs.Turns.{ready}
-use Rattle.inform.specs.Inform.{carriedHere, repliedBy, carriedBy, informOf}
-use Rattle.states.specs.States.{informedBy, polledBy, pausedBy}
-use Rattle.states.specs.States.{begun, released, rejected}
-use Rattle.link.specs.Link.{judgedFrame}
-use Rattle.link.specs.Frames.{Numbered}
-use Rattle.link.proofs.Cases.{judged-cases}
-use Rattle.control.specs.declared.Order.the-variants.{Info}
+use Rattle.acknowledge.specs.Acknowledge.{sessionAfter, acknowledged}
+use Rattle.inform.specs.Inform.{heeded}
+use Rattle.states.specs.States.{begun, released}
 use Rattle.conduct.specs.Conduct.{starts, TiltDue, movedOn, TiltStarted}
-use Rattle.conduct.proofs.Settles.{nothing-pends, r-kept, info-is, antenna-kept, subscribed-kept}
-use Rattle.conduct.proofs.Turns.{poll-cases, inform-cases}
+use Rattle.conduct.specs.Comes.{Comes, unread, scans, assigns, begins, declines, renews, leaves, miscounts}
+use Rattle.conduct.specs.Comes.{unknown, clears, subscribes, answers, murmurs, repeats, resends, delivers}
+use Rattle.conduct.specs.Comes.{indicates, rests, pauses, left, says}
+use Rattle.conduct.specs.Comes as come
+use Rattle.conduct.proofs.Settles.{nothing-pends, r-kept}
+use Rattle.conduct.proofs.Comes.{comes, comes-leaves, comes-says}
 
 -- the motion k runs and m did not
 abbrev Begins : Motion → Motion → Type 0
@@ -57,83 +46,59 @@ stood m e = absurd (true-not-false (sym (and-parts (not (runs m)) false e .1)))
 -- ---- only where a tilt is due
 
 module _ (d : Device) (f : List ℕ) where
-  abbrev Told : Turn → Type 0
-  Told t = Begins (d .antenna .motion) (t .device .antenna .motion) → TiltDue d f
+  -- the motion is as it was, or runs as it did
+  same : (k : Motion) → runs k ≡ runs (d .antenna .motion) → Begins (d .antenna .motion) k → TiltDue d f
+  same k e = not-begun (d .antenna .motion) k e
 
-  -- the motion is as it was
-  same-told : (k : Motion) → runs k ≡ runs (d .antenna .motion) → Begins (d .antenna .motion) k → TiltDue d f
-  same-told k same = not-begun (d .antenna .motion) k same
-
-  poll-told : (s : Session) (r : ℕ) → Told (polledBy d s r)
-  unfolding polledBy saying deviceOf moves acknowledged
-  poll-told s r =
-      poll-cases (acknowledged d s r) (sessionAfter s r) Told (λ e. same-told _ refl)
-      (λ b p e. stood (d .antenna .motion)) (λ p q e. same-told _ refl) (λ p q e. same-told _ refl)
-
-  module _ (s : Session) (n r : ℕ) (w : Numbered d f (Info n r) r s) where
-    carried-told : accepts (sessionAfter s r) n ≡ true
-        → Begins (d .antenna .motion) (carriedHere (acknowledged d s r) (drop 2 f) .antenna .motion) → TiltDue d f
-    unfolding acknowledged deviceOf
-    carried-told a =
-        ⊎-elim
-        (λ due e.
-        record { session = s; ns = n; nr = r; frame = record { numbered = w; accepted = a }; message = due })
-        (λ same. not-begun _ _ (ap runs same))
-        (moved-or-not (d .plate) (d .antenna) _ _ (drop 2 f))
-
-    inform-told : Told (informedBy d s n r (drop 2 f))
-    unfolding informedBy repliedBy saying deviceOf
-    inform-told =
-        inform-cases (acknowledged d s r) (sessionAfter s r) Told n (drop 2 f) (λ a e. carried-told a)
-        (λ a e. carried-told a) (λ e. same-told _ (ap (λ x. runs (x .motion)) (antenna-kept d s r)))
+  due-by : (c : Comes d f) → Begins (d .antenna .motion) (left d f c .antenna .motion) → TiltDue d f
+  unfolding left begun released endedAs moves deviceOf acknowledged quieted
+  due-by (unread w) = same _ refl
+  due-by (scans w a) = same _ refl
+  due-by (assigns a w) = same _ (unowed-runs (d .antenna .motion))
+  due-by (begins w l) = same _ (unowed-runs (d .antenna .motion))
+  due-by (declines o w n l) = same _ refl
+  due-by (renews s w l) = same _ (unowed-runs (d .antenna .motion))
+  due-by (leaves s w l) = same _ (unowed-runs (d .antenna .motion))
+  due-by (miscounts s o r w l n b) = same _ (unowed-runs (d .antenna .motion))
+  due-by (unknown s w l) = same _ (unowed-runs (d .antenna .motion))
+  due-by (come.starts s n r w due) = λ e. record { session = s; ns = n; nr = r; frame = w; message = due }
+  due-by (clears s n r w m) = same _ refl
+  due-by (subscribes s n r w m) = same _ refl
+  due-by (answers s n r b w e) = same _ refl
+  due-by (murmurs s n r w few) = same _ refl
+  due-by (repeats s n r w a) = same _ refl
+  due-by (resends s r w p) = same _ refl
+  due-by (delivers s r b w p q) = stood (d .antenna .motion)
+  due-by (indicates s r w p q t) = same _ refl
+  due-by (rests s r w p q t) = same _ refl
+  due-by (pauses s r w) = same _ refl
 
   starts-only : starts d f ≡ true → TiltDue d f
-  unfolding starts saying begun released endedAs rejected moves pausedBy
-  starts-only =
-      let ended = unowed-runs (d .antenna .motion) in
-      judged-cases d f Told (λ u. same-told _ refl) (λ w e. same-told _ refl) (λ a w e. same-told _ ended)
-      (λ w l. same-told _ ended) (λ o w n l. same-told _ refl) (λ s w l. same-told _ ended) (λ s w l. same-told _ ended)
-      (λ s o r w l n b. same-told _ ended) (λ s w l. same-told _ ended) inform-told (λ s r w. poll-told s r)
-      (λ s r w. same-told _ (ap (λ x. runs (x .motion)) (antenna-kept d s r)))
+  unfolding starts
+  starts-only e = due-by (comes d f) (rw (comes-leaves d f (comes d f)) at e)
 
 -- ---- where a tilt is due
 
 module _ (d : Device) (f : List ℕ) (w : TiltDue d f) where
-  -- the device and its session after the good N(R)
-  abbrev there : Device
-  there = acknowledged d (w .session) (w .nr)
+  abbrev here : Comes d f
+  here = come.starts (w .session) (w .ns) (w .nr) (w .frame) (w .message)
 
-  abbrev settled : Session
-  settled = sessionAfter (w .session) (w .nr)
-
-  due-turn : judgedFrame d f
-      ≡ saying
-      (deviceOf there (heeded (there .station) (taken settled) (there .station .told) (there .station .subscribed))
-      (started (there .antenna) (askedOf (drop 2 f)) Started)) (ready (taken settled))
-  unfolding informedBy informOf carriedBy repliedBy unanswered
-  due-turn =
-      info-is d f (w .session) (w .ns) (w .nr) (w .frame .numbered)
-      ∙ rw (w .frame .accepted)
-      (ap (carriedBy there (taken settled))
-      (due-moves (there .plate) (there .antenna) (there .station .told) (there .station .subscribed) (drop 2 f)
-      (rw (antenna-kept d (w .session) (w .nr)) (w .message))))
-
-  due-session : taken settled ≡ movedOn (w .session) (w .nr)
+  due-session : taken (sessionAfter (w .session) (w .nr)) ≡ movedOn (w .session) (w .nr)
   unfolding taken
   due-session =
+      let settled = sessionAfter (w .session) (w .nr) in
       let none = nothing-pends (settled .pending) (accepts-exactly settled (w .ns) .0 (w .frame .accepted) .0) in
       rw (none, r-kept (w .session) (w .nr))
 
   pub due-moves-on : TiltStarted d f (w .session) (w .nr)
-  unfolding saying acknowledged deviceOf heeded
+  unfolding left says deviceOf heeded started
   due-moves-on =
       record {
-        plate = ap (λ (t : Turn). t .device .plate) due-turn;
-        antenna = ap (λ (t : Turn). t .device .antenna) due-turn;
-        link = ap (λ (t : Turn). t .device .station .link) due-turn ∙ ap Connected due-session;
-        station = ap (λ (t : Turn). t .device .station) due-turn
-            ∙ rw (due-session, subscribed-kept d (w .session) (w .nr));
-        said = ap (λ (t : Turn). t .say) due-turn ∙ ap ready due-session;
+        plate = ap (λ (x : Device). x .plate) (comes-leaves d f here);
+        antenna = ap (λ (x : Device). x .antenna) (comes-leaves d f here);
+        link = ap (λ (x : Device). x .station .link) (comes-leaves d f here) ∙ ap Connected due-session;
+        station = ap (λ (x : Device). x .station) (comes-leaves d f here) ∙ rw due-session;
+        said = comes-says d f here ∙ ap ready due-session;
       }
 
   starts-due : starts d f ≡ true

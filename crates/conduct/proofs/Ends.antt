@@ -1,9 +1,9 @@
 -- A session's end, by SNRM, DISC, FRMR or an assignment, drops the pending answer and a tilt result that is owed;
--- alarms, what was told, subscription, range, tilt and a running movement stay, so no change is lost. A first SNRM and an
--- assignment without a session do the same. Assumes nothing.
+-- alarms, what was told, subscription, range, tilt and a running movement stay, so no change is lost. A first SNRM and
+-- an assignment without a session do the same. Assumes nothing.
 use mathlib.Core.Path.{_≡_, refl}
 use mathlib.Core.List.{List}
-use mathlib.Core.Logic.{_⊎_, inl, inr}
+use mathlib.Core.Logic.{inl, inr}
 use Prim.Native.Nat.{ℕ}
 use Rattle.antenna.specs.Motions.{moves}
 use Rattle.antenna.proofs.Movements.{unowed-owes, unowed-runs}

@@ -1,5 +1,5 @@
 -- An RR gets the indication where nothing pends, no result waits and there is something to tell. Assumes nothing.
-use mathlib.Core.Path.{_≡_, ap, _∙_}
+use mathlib.Core.Path.{_≡_, ap}
 use mathlib.Core.Bool.{true, false}
 use mathlib.Core.List.{List}
 use Prim.Native.Nat.{ℕ}
@@ -15,16 +15,14 @@ use Rattle.station.specs.Station.{awaiting}
 use Rattle.poll.specs.Poll.{indicates, toTell}
 use Rattle.acknowledge.specs.Acknowledge.{sessionAfter, stationAfter}
 use Rattle.station.specs.declared.Turn.{Turn}
-use Rattle.station.specs.Turns.{saying}
+use Rattle.station.specs.Turns.{saying, pend}
 use Rattle.record.specs.Changes.{deviceOf}
-use Rattle.acknowledge.specs.Acknowledge.{acknowledged}
-use Rattle.station.specs.Turns.{pend}
-use Rattle.poll.specs.Poll.{idlePoll, waitingPoll, pollOf}
-use Rattle.states.specs.States.{polledBy}
 use Rattle.link.specs.Link.{judgedFrame}
 use Rattle.link.specs.Frames.{Numbered}
 use Rattle.conduct.specs.Conduct.{after}
-use Rattle.conduct.proofs.Settles.{rr-is}
+use Rattle.conduct.specs.Comes.{left, says}
+use Rattle.conduct.specs.Comes as come
+use Rattle.conduct.proofs.Comes.{comes-so}
 
 module _ (d : Device) (f : List ℕ) (r : ℕ) (s : Session) (w : Numbered d f (Rr r) r s)
     (free : pends (sessionAfter s r .pending) ≡ false) (none : waitingOf (d .antenna .motion) ≡ Nothing)
@@ -33,8 +31,8 @@ module _ (d : Device) (f : List ℕ) (r : ℕ) (s : Session) (w : Numbered d f (
       ≡ saying
       (deviceOf d (indicates (stationAfter (d .station) s r) (sessionAfter s r) (d .antenna .raised)) (d .antenna))
       (pend (sessionAfter s r))
-  unfolding polledBy pollOf waitingPoll idlePoll acknowledged deviceOf
-  indication-sent = rr-is d f s r w ∙ rw (free, none, news)
+  unfolding left says
+  indication-sent = comes-so d f (come.indicates s r w free none news)
 
   -- it pends, it says what is raised, and told is not yet changed by it
   pub indication-pends : (after d f .station .link ≡ Connected (awaiting (sessionAfter s r) Indication))

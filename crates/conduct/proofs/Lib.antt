@@ -10,7 +10,6 @@ pub mod Again
 pub mod Numbers
 pub mod Refusing
 pub mod Answers
-pub mod Alarms
 pub mod Told
 pub mod Indicates
 pub mod Ends

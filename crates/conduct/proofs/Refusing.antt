@@ -3,12 +3,11 @@
 use mathlib.Core.Path.{_≡_, _∙_}
 use mathlib.Core.Bool.{false}
 use mathlib.Core.List.{List}
-use mathlib.Core.Option.{none, some}
+use mathlib.Core.Option.{some}
 use Prim.Native.Nat.{ℕ}
-use native.Mathlib.Omega.{arith}
 use lib.ListN.{drop}
 use Rattle.control.specs.declared.Order.{Order}
-use Rattle.control.specs.declared.Order.the-variants.{Xid, Snrm, Disc, Info, Rr, Rnr, Unknown}
+use Rattle.control.specs.declared.Order.the-variants.{Disc, Unknown}
 use Rattle.record.specs.declared.Session.{Session}
 use Rattle.record.specs.declared.Link.the-variants.{AddressAssigned, Connected}
 use Rattle.record.specs.declared.Device.{Device}
@@ -18,31 +17,20 @@ use Rattle.states.specs.States.{released, ua, dm, rejected, infoBy, rrBy, rnrBy
 use Rattle.states.specs.States.{isSnrm, assignedBy, linkedBy}
 use Rattle.link.specs.Link.{judgedFrame}
 use Rattle.link.specs.Frames.{controlOf, Own, numberIn}
-use Rattle.link.proofs.Cases.{own-is}
+use Rattle.link.proofs.Cases.{own-is, order-cases}
 use Rattle.conduct.proofs.Settles.{session-is}
 
-pub none-not-some : (r : ℕ) → none ≡ some r → ⊥
-none-not-some r e = let z : _≡_ {A = ℕ} 0 1 = cc in omega arith
-
-some-same : (q r : ℕ) → some q ≡ some r → q ≡ r
-some-same q r e = cc
-
 -- "Any other N(R) .. gets FRMR .. 8 for a bad N(R)"
-miscounted : (d : Device) (s : Session) (o : Order) (r c : ℕ) (p : List ℕ) → numberIn o ≡ some r
-    → goodNumber s r ≡ false → connectedBy d s o c p ≡ rejected d s c 8
+miscounted : (d : Device) (s : Session) (r c : ℕ) (p : List ℕ) → goodNumber s r ≡ false → (o : Order)
+    → numberIn o ≡ some r → connectedBy d s o c p ≡ rejected d s c 8
 unfolding connectedBy infoBy rrBy rnrBy
-miscounted d s Xid r c p e b = absurd (none-not-some r e)
-miscounted d s Snrm r c p e b = absurd (none-not-some r e)
-miscounted d s Disc r c p e b = absurd (none-not-some r e)
-miscounted d s (Info n q) r c p e b = rw (some-same q r e, b)
-miscounted d s (Rr q) r c p e b = rw (some-same q r e, b)
-miscounted d s (Rnr q) r c p e b = rw (some-same q r e, b)
-miscounted d s Unknown r c p e b = absurd (none-not-some r e)
+miscounted d s r c p b =
+    order-cases (λ o. connectedBy d s o c p ≡ rejected d s c 8) r (λ n. rw b) (rw b) (rw b)
 
 module _ (d : Device) (f : List ℕ) (s : Session) where
   pub bad-rejected : (o : Order) (r : ℕ) → Own d f o → d .station .link ≡ Connected s → numberIn o ≡ some r
       → goodNumber s r ≡ false → judgedFrame d f ≡ rejected d s (controlOf f) 8
-  bad-rejected o r w l e b = session-is d f s o w l ∙ miscounted d s o r (controlOf f) (drop 2 f) e b
+  bad-rejected o r w l e b = session-is d f s o w l ∙ miscounted d s r (controlOf f) (drop 2 f) b o e
 
   -- "1 for an unknown control"
   pub unknown-rejected : Own d f Unknown → d .station .link ≡ Connected s

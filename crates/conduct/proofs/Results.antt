@@ -1,6 +1,6 @@
 -- A result that waits is sent to the first RR with a good N(R) that leaves nothing pending, and is then the pending
--- answer; every other frame keeps it waiting, unless it ends the session, is a first SNRM or an assignment, which drops
--- it. Assumes nothing.
+-- answer; every other frame keeps it waiting, unless it ends the session, is a first SNRM or an assignment, which
+-- drops it. Assumes nothing.
 use mathlib.Core.Path.{_≡_, refl, sym, ap, _∙_}
 use mathlib.Core.Bool.{Bool, true, false}
 use mathlib.Core.List.{List}

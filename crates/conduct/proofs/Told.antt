@@ -2,13 +2,13 @@
 -- indication is acknowledged, to what it said. Assumes nothing.
 use mathlib.Core.Path.{_≡_, refl, ap, _∙_}
 use mathlib.Core.Bool.{Bool, true, false}
-use mathlib.Core.List.{List, [], _∷_}
+use mathlib.Core.List.{List}
 use mathlib.Core.Logic.{_⊎_, inl, inr, ⊎-elim}
 use mathlib.Core.Option.{some}
 use Prim.Native.Nat.{ℕ}
 use lib.ListN.{drop}
 use Rattle.control.specs.declared.Order.{Order}
-use Rattle.control.specs.declared.Order.the-variants.{Xid, Snrm, Disc, Info, Rr, Rnr, Unknown}
+use Rattle.control.specs.declared.Order.the-variants.{Info, Rr, Rnr}
 use Rattle.antenna.specs.Motions.{moves}
 use Rattle.record.specs.declared.Pending.{Pending}
 use Rattle.record.specs.declared.Pending.the-variants.{Nothing, Answer, Indication}
@@ -21,18 +21,26 @@ use Rattle.session.specs.Session.{acknowledges, accepts}
 use Rattle.acknowledge.specs.Acknowledge.{sessionAfter, stationAfter, settled, retold, toldAfter}
 use Rattle.acknowledge.proofs.Settled.{station-kept, told-said}
 use Rattle.station.specs.declared.Turn.{Turn}
+use Rattle.station.specs.Station.{answersWith}
 use Rattle.station.specs.Turns.{saying}
 use Rattle.record.specs.Changes.{deviceOf}
 use Rattle.acknowledge.specs.Acknowledge.{acknowledged}
+use Rattle.message.specs.Carried.{quieted}
+use Rattle.message.proofs.Moves.{cleared-or-not}
+use Rattle.poll.specs.Poll.{indicates}
+use Rattle.inform.specs.Inform.{heeded, carriedHere, repliedBy}
 use Rattle.states.specs.States.{informedBy, polledBy, pausedBy}
 use Rattle.states.specs.States.{begun, released, rejected}
+use Rattle.link.specs.Link.{judgedFrame}
 use Rattle.link.specs.Frames.{numberIn, Numbered}
-use Rattle.link.proofs.Cases.{judged-cases}
+use Rattle.link.proofs.Cases.{order-cases, judged-cases}
 use Rattle.conduct.specs.Conduct.{after}
 use Rattle.conduct.specs.Alarms.{Clears, Indicated}
+use Rattle.conduct.specs.Comes.{left}
+use Rattle.conduct.specs.Comes as come
 use Rattle.conduct.proofs.Settles.{info-is, rr-is, rnr-is}
-use Rattle.conduct.proofs.Refusing.{none-not-some}
-use Rattle.conduct.proofs.Alarms.{Keeps, poll-keeps, inform-keeps, inform-clears}
+use Rattle.conduct.proofs.Turns.{poll-cases, inform-cases}
+use Rattle.conduct.proofs.Comes.{comes-leaves}
 
 -- ---- a good N(R)
 
@@ -54,23 +62,37 @@ module _ (t : Station) (s : Session) (r : ℕ) where
       go false e = inl (ap (λ (x : Station). x .told) (station-kept t s r e))
 
 module _ (d : Device) (f : List ℕ) where
-  -- what becomes of raised and told in the turn t
-  abbrev Changes : Turn → Type 0
-  Changes t =
+  -- what becomes of raised and told
+  abbrev Changed : Type 0
+  Changed =
       Clears d f
-      ⊎ ((t .device .antenna .raised ≡ d .antenna .raised)
-      × ((t .device .station .told ≡ d .station .told)
-      ⊎ (Indicated d f × (t .device .station .told ≡ d .station .said))))
+      ⊎ ((after d f .antenna .raised ≡ d .antenna .raised)
+      × ((after d f .station .told ≡ d .station .told)
+      ⊎ (Indicated d f × (after d f .station .told ≡ d .station .said))))
+
+  -- the turn t leaves both
+  stay : (t : Turn) → t .device .antenna .raised ≡ d .antenna .raised → t .device .station .told ≡ d .station .told
+      → judgedFrame d f ≡ t → Changed
+  stay t raised told e =
+      inr (
+        ap (λ (x : Turn). x .device .antenna .raised) e ∙ raised,
+        inl (ap (λ (x : Turn). x .device .station .told) e ∙ told),
+      )
+
+  -- raised is as it was, and told as the good N(R) = r of the session s leaves it
+  abbrev Settled : Session → ℕ → Turn → Type 0
+  Settled s r t =
+      (t .device .antenna .raised ≡ d .antenna .raised)
+      × (t .device .station .told ≡ stationAfter (d .station) s r .told)
 
   -- nothing but the acknowledgement changes them
-  settles : (o : Order) (r : ℕ) (s : Session) → numberIn o ≡ some r → Numbered d f o r s → (t : Turn)
-      → Keeps (acknowledged d s r) t → Changes t
-  unfolding acknowledged deviceOf
-  settles o r s number w t k =
-      inr (k .1, ⊎-elim (λ same. inl (k .0 ∙ same)) (λ i. inr (indicated i)) (station-told (d .station) s r))
+  settles : (o : Order) (r : ℕ) (s : Session) → numberIn o ≡ some r → Numbered d f o r s
+      → Settled s r (judgedFrame d f) → Changed
+  settles o r s number w k =
+      inr (k .0, ⊎-elim (λ same. inl (k .1 ∙ same)) (λ i. inr (indicated i)) (station-told (d .station) s r))
     where
       indicated : (s .pending ≡ Indication) × (acknowledges s r ≡ true)
-          → Indicated d f × (t .device .station .told ≡ d .station .said)
+          → Indicated d f × (after d f .station .told ≡ d .station .said)
       indicated i = (
         record {
           session = s;
@@ -81,36 +103,47 @@ module _ (d : Device) (f : List ℕ) where
           pending = i .0;
           removes = i .1;
         },
-        k .0 ∙ told-said (d .station) s r (i .1) (i .0),
+        k .1 ∙ told-said (d .station) s r (i .1) (i .0),
       )
 
   module _ (s : Session) (r : ℕ) where
-    info-keeps : (n : ℕ) → Numbered d f (Info n r) r s
-        → Clears d f ⊎ Keeps (acknowledged d s r) (informedBy d s n r (drop 2 f))
-    unfolding informedBy
-    info-keeps n w =
-        ⊎-elim (λ c. inl (clears c)) inr (inform-keeps (acknowledged d s r) (sessionAfter s r) n (drop 2 f))
+    poll-settles : Settled s r (polledBy d s r)
+    unfolding polledBy saying deviceOf acknowledged answersWith indicates moves
+    poll-settles =
+        poll-cases (acknowledged d s r) (sessionAfter s r) (Settled s r) (λ e. (refl, refl)) (λ b p e. (refl, refl))
+        (λ p q e. (refl, refl)) (λ p q e. (refl, refl))
+
+    pause-settles : Settled s r (pausedBy d s r)
+    unfolding pausedBy saying deviceOf acknowledged
+    pause-settles = (refl, refl)
+
+    info-settles : (n : ℕ) → Numbered d f (Info n r) r s → Clears d f ⊎ Settled s r (informedBy d s n r (drop 2 f))
+    unfolding informedBy repliedBy saying deviceOf acknowledged heeded answersWith
+    info-settles n w =
+        inform-cases (acknowledged d s r) (sessionAfter s r) (λ t. Clears d f ⊎ Settled s r t) n (drop 2 f)
+        (λ a e. carried a) (λ a e. carried a) (λ a. inr (refl, refl))
       where
-        clears : (accepts (sessionAfter s r) n ≡ true) × (drop 2 f ≡ 0x06 ∷ 0 ∷ 0 ∷ []) → Clears d f
-        clears c =
-            record {
-              session = s;
-              ns = n;
-              nr = r;
-              frame = record { numbered = w; accepted = c .0 };
-              message = c .1;
-            }
+        carried : accepts (sessionAfter s r) n ≡ true
+            → Clears d f
+            ⊎ ((carriedHere (acknowledged d s r) (drop 2 f) .antenna .raised ≡ d .antenna .raised)
+            × (carriedHere (acknowledged d s r) (drop 2 f) .told ≡ stationAfter (d .station) s r .told))
+        carried a =
+            ⊎-elim
+            (λ m.
+            inl
+            (record { session = s; ns = n; nr = r; frame = record { numbered = w; accepted = a }; message = m }))
+            inr
+            (cleared-or-not (d .plate) (d .antenna) _ _ (drop 2 f))
 
-    informs : (n : ℕ) → Numbered d f (Info n r) r s → Changes (informedBy d s n r (drop 2 f))
-    informs n w = ⊎-elim inl (settles (Info n r) r s refl w (informedBy d s n r (drop 2 f))) (info-keeps n w)
+  numbered-settles : (o : Order) (r : ℕ) (s : Session) → numberIn o ≡ some r → Numbered d f o r s
+      → Clears d f ⊎ Settled s r (judgedFrame d f)
+  numbered-settles o r s e =
+      order-cases (λ o. Numbered d f o r s → Clears d f ⊎ Settled s r (judgedFrame d f)) r
+      (λ n w. rw (info-is d f s n r w) (info-settles s r n w)) (λ w. rw (rr-is d f s r w) (inr (poll-settles s r)))
+      (λ w. rw (rnr-is d f s r w) (inr (pause-settles s r))) o e
 
-    polls : Numbered d f (Rr r) r s → Changes (polledBy d s r)
-    unfolding polledBy
-    polls w = settles (Rr r) r s refl w (polledBy d s r) (poll-keeps (acknowledged d s r) (sessionAfter s r))
-
-    pauses : Numbered d f (Rnr r) r s → Changes (pausedBy d s r)
-    unfolding pausedBy saying
-    pauses w = settles (Rnr r) r s refl w (pausedBy d s r) (refl, refl)
+  numbered-changes : (o : Order) (r : ℕ) (s : Session) → numberIn o ≡ some r → Numbered d f o r s → Changed
+  numbered-changes o r s e w = ⊎-elim inl (settles o r s e w) (numbered-settles o r s e w)
 
   -- clear alarms; or raised stays, and told does too but where an indication is acknowledged
   pub alarms-cases : Clears d f
@@ -119,23 +152,18 @@ module _ (d : Device) (f : List ℕ) where
       ⊎ (Indicated d f × (after d f .station .told ≡ d .station .said))))
   unfolding saying endedAs unsaidAt moves begun released rejected
   alarms-cases =
-      judged-cases d f Changes (λ u. inr (refl, inl refl)) (λ w e. inr (refl, inl refl))
-      (λ a w e. inr (refl, inl refl)) (λ w l. inr (refl, inl refl)) (λ o w n l. inr (refl, inl refl))
-      (λ s w l. inr (refl, inl refl)) (λ s w l. inr (refl, inl refl)) (λ s o r w l n b. inr (refl, inl refl))
-      (λ s w l. inr (refl, inl refl)) (λ s n r. informs s r n) polls pauses
+      judged-cases d f (λ t. judgedFrame d f ≡ t → Changed) (λ u. stay _ refl refl) (λ w x. stay _ refl refl)
+      (λ a w x. stay _ refl refl) (λ w l. stay _ refl refl) (λ o w n l. stay _ refl refl)
+      (λ s w l. stay _ refl refl) (λ s w l. stay _ refl refl) (λ s o r w l n b. stay _ refl refl)
+      (λ s w l. stay _ refl refl) (λ s n r w e. numbered-changes (Info n r) r s refl w)
+      (λ s r w e. numbered-changes (Rr r) r s refl w) (λ s r w e. numbered-changes (Rnr r) r s refl w) refl
 
   -- "clear alarms: raised and told become empty"
   pub clears-both : Clears d f → (after d f .antenna .raised ≡ calm) × (after d f .station .told ≡ calm)
-  unfolding informedBy
+  unfolding left deviceOf answersWith heeded quieted
   clears-both c =
-      let s = c .session in
-      let e = info-is d f s (c .ns) (c .nr) (c .frame .numbered) in
-      let both =
-      inform-clears (acknowledged d s (c .nr)) (sessionAfter s (c .nr)) (c .ns) (drop 2 f) (c .frame .accepted)
-      (c .message) in (
-        ap (λ (t : Turn). t .device .antenna .raised) e ∙ both .1,
-        ap (λ (t : Turn). t .device .station .told) e ∙ both .0,
-      )
+      let e = comes-leaves d f (come.clears (c .session) (c .ns) (c .nr) (c .frame) (c .message)) in
+      (ap (λ (x : Device). x .antenna .raised) e, ap (λ (x : Device). x .station .told) e)
 
   pub raised-cases : (after d f .antenna .raised ≡ d .antenna .raised)
       ⊎ (Clears d f × (after d f .antenna .raised ≡ calm))
@@ -147,40 +175,9 @@ module _ (d : Device) (f : List ℕ) where
   told-cases =
       ⊎-elim (λ c. inr (inl (c, clears-both c .1))) (λ k. ⊎-elim inl (λ i. inr (inr i)) (k .1)) alarms-cases
 
-  -- after a good N(R) told is as the acknowledgement leaves it, unless alarms are cleared
-  module _ (s : Session) (r : ℕ) (other : Clears d f → ⊥) where
-    info-told : (n q : ℕ) → q ≡ r → Numbered d f (Info n q) r s
-        → after d f .station .told ≡ stationAfter (d .station) s r .told
-    unfolding acknowledged deviceOf
-    info-told n q e w =
-        let v : Numbered d f (Info n r) r s = rw e at w in
-        ap (λ (t : Turn). t .device .station .told) (info-is d f s n r v)
-        ∙ ⊎-elim (λ c. absurd (other c)) (λ k. k .0) (info-keeps s r n v)
-
-    rr-told : (q : ℕ) → q ≡ r → Numbered d f (Rr q) r s
-        → after d f .station .told ≡ stationAfter (d .station) s r .told
-    unfolding polledBy acknowledged deviceOf
-    rr-told q e w =
-        ap (λ (t : Turn). t .device .station .told) (rr-is d f s r (rw e at w))
-        ∙ poll-keeps (acknowledged d s r) (sessionAfter s r) .0
-
-    rnr-told : (q : ℕ) → q ≡ r → Numbered d f (Rnr q) r s
-        → after d f .station .told ≡ stationAfter (d .station) s r .told
-    unfolding pausedBy saying acknowledged deviceOf
-    rnr-told q e w = ap (λ (t : Turn). t .device .station .told) (rnr-is d f s r (rw e at w))
-
-    numbered-told : (o : Order) → numberIn o ≡ some r → Numbered d f o r s
-        → after d f .station .told ≡ stationAfter (d .station) s r .told
-    numbered-told Xid e w = absurd (none-not-some r e)
-    numbered-told Snrm e w = absurd (none-not-some r e)
-    numbered-told Disc e w = absurd (none-not-some r e)
-    numbered-told (Info n q) e w = info-told n q (cc) w
-    numbered-told (Rr q) e w = rr-told q (cc) w
-    numbered-told (Rnr q) e w = rnr-told q (cc) w
-    numbered-told Unknown e w = absurd (none-not-some r e)
-
   -- "Told is updated when the indication is acknowledged, to what it said."
   pub indicated-tells : Indicated d f → (Clears d f → ⊥) → after d f .station .told ≡ d .station .said
   indicated-tells i other =
-      numbered-told (i .session) (i .nr) other (i .order) (i .number) (i .numbered)
-      ∙ told-said (d .station) (i .session) (i .nr) (i .removes) (i .pending)
+      ⊎-elim (λ c. absurd (other c))
+      (λ k. k .1 ∙ told-said (d .station) (i .session) (i .nr) (i .removes) (i .pending))
+      (numbered-settles (i .order) (i .nr) (i .session) (i .number) (i .numbered))

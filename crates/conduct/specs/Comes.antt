@@ -1,5 +1,5 @@
--- What comes of a frame, whole: 01, "The link", case by case. Every frame is one of these to a device, whatever the record
--- (proofs/Comes.antt), and each says which device the frame leaves, and what is said.
+-- What comes of a frame, whole: 01, "The link", case by case. Every frame is one of these to a device, whatever the
+-- record (proofs/Comes.antt), and each says which device the frame leaves, and what is said.
 --   Comes d f    == what the frame f is to the device d
 --   left d f c   == the device after it; says d f c == what it says
 -- Assumes nothing.
@@ -51,13 +51,13 @@ pub data Comes (d : Device) (f : List ℕ) : Type 0 where
   -- "Connected: SNRM gets UA and starts a new session; DISC 0x53 gets UA and AddressAssigned."
   renews : (s : Session) → Own d f Snrm → d .station .link ≡ Connected s → Comes d f
   leaves : (s : Session) → Own d f Disc → d .station .link ≡ Connected s → Comes d f
-  -- "Any other N(R), and any control but XID, SNRM, DISC, I, RR and RNR, gets FRMR .. 8 for a bad N(R) or 1 for an unknown
-  -- control"
+  -- "Any other N(R), and any control but XID, SNRM, DISC, I, RR and RNR, gets FRMR .. 8 for a bad N(R) or 1 for an
+  -- unknown control"
   miscounts : (s : Session) (o : Order) (r : ℕ) → Own d f o → d .station .link ≡ Connected s → numberIn o ≡ some r
       → goodNumber s r ≡ false → Comes d f
   unknown : (s : Session) → Own d f Unknown → d .station .link ≡ Connected s → Comes d f
-  -- "an I-frame with N(S) = R and nothing pending is accepted: R moves on and its message is carried out": a set tilt that
-  -- is due; clear alarms; subscribe; a message that is answered and changes nothing; one "shorter than 3, no answer"
+  -- "an I-frame with N(S) = R and nothing pending is accepted: R moves on and its message is carried out": a set tilt
+  -- that is due; clear alarms; subscribe; a message that is answered and changes nothing; one "shorter than 3, no answer"
   starts : (s : Session) (n r : ℕ) → Accepted d f s n r → Due (d .antenna) (drop 2 f) → Comes d f
   clears : (s : Session) (n r : ℕ) → Accepted d f s n r → drop 2 f ≡ 0x06 ∷ 0 ∷ 0 ∷ [] → Comes d f
   subscribes : (s : Session) (n r : ℕ) → Accepted d f s n r → drop 2 f ≡ 0x12 ∷ 0 ∷ 0 ∷ [] → Comes d f
@@ -68,8 +68,8 @@ pub data Comes (d : Device) (f : List ℕ) : Type 0 where
   murmurs : (s : Session) (n r : ℕ) → Accepted d f s n r → length (drop 2 f) < 3 → Comes d f
   -- "Any other isn't carried out and moves nothing; it gets the pending answer again, else RR with N(R) = R."
   repeats : (s : Session) (n r : ℕ) → Numbered d f (Info n r) r s → accepts (sessionAfter s r) n ≡ false → Comes d f
-  -- "RR gets the pending answer; else a waiting tilt result; else, if subscribed and there is something to tell, an alarm
-  -- indication; else RR."
+  -- "RR gets the pending answer; else a waiting tilt result; else, if subscribed and there is something to tell, an
+  -- alarm indication; else RR."
   resends : (s : Session) (r : ℕ) → Numbered d f (Rr r) r s → pends (sessionAfter s r .pending) ≡ true → Comes d f
   delivers : (s : Session) (r : ℕ) (reached : Bool) → Numbered d f (Rr r) r s
       → pends (sessionAfter s r .pending) ≡ false → waitingOf (d .antenna .motion) ≡ Result reached → Comes d f
@@ -84,8 +84,8 @@ pub data Comes (d : Device) (f : List ℕ) : Type 0 where
 
 -- ---- the device after it
 
--- after an accepted I-frame with N(R) = r: "R moves on", with the antenna n, what was told and the subscription; an answer
--- b becomes pending, too
+-- after an accepted I-frame with N(R) = r: "R moves on", with the antenna n, what was told and the subscription; an
+-- answer b becomes pending, too
 abbrev pub heard : Device → Session → ℕ → Antenna → Alarms → Bool → Device
 heard d s r n told sub =
     deviceOf d (heeded (stationAfter (d .station) s r) (taken (sessionAfter s r)) told sub) n

@@ -29,14 +29,16 @@ pub use Rattle.message.proofs.Moves.{moves-exactly, clear-clears, subscribe-sub
 pub use Rattle.record.proofs.Stays.{event-stays, end-stays, fresh-allowed}
 pub use Rattle.conduct.proofs.Stays.{stays-allowed}
 pub use Rattle.conduct.proofs.Runs.{run-allowed, never-refused, event-never-refused}
--- ---- conduct: a tilt only when due, and never again; R and S; results and alarms; sessions' ends
+-- ---- conduct: what comes of any frame; a tilt only when due, and never again; R and S; results and alarms; sessions' ends
+pub use Rattle.conduct.proofs.Comes.{comes, comes-so, comes-leaves, comes-says, unaccepted-leaves, ends-leaves}
+pub use Rattle.conduct.proofs.Comes.{silence-exactly, silence-keeps as silence-leaves}
 pub use Rattle.conduct.proofs.Due.{starts-exactly, due-moves-on}
 pub use Rattle.conduct.proofs.Again.{accepted-again-after, starts-once}
 pub use Rattle.conduct.proofs.Numbers.{r-moves-exactly, r-stays-exactly, s-moves-exactly, s-stays-exactly}
 pub use Rattle.conduct.proofs.Results.{result-sent, result-pends, result-dropped, result-cases}
 pub use Rattle.conduct.proofs.Told.{raised-cases, told-cases, clears-both, indicated-tells}
 pub use Rattle.conduct.proofs.Indicates.{indication-sent, indication-pends}
-pub use Rattle.conduct.proofs.Ends.{ends-drop, ends-survive, ends-tell}
+pub use Rattle.conduct.proofs.Ends.{ends-drop, ends-survive, ends-tell, drops-drop, drops-survive, drops-tell}
 pub use Rattle.conduct.proofs.Answers.{snrm-answered, scan-answered, assignment-taken, assignment-silent}
 -- ---- the device: one result, its numbers, its frames
 pub use Rattle.device.proofs.Only.{judge-only, hear-only}

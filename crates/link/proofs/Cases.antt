@@ -3,7 +3,7 @@
 use mathlib.Core.Path.{_≡_, refl, ap, _∙_}
 use mathlib.Core.Bool.{Bool, true, false, cond, _||_, or-true}
 use mathlib.Core.List.{List}
-use mathlib.Core.Option.{some}
+use mathlib.Core.Option.{none, some}
 use Prim.Native.Nat.{ℕ, _≤_}
 use borrow.Author.Tests.{ltb-true, ltb-false, lt-ltb, eqb-true, eqb-false, ne-eqb}
 use lib.Dec.{ltb, eqb}
@@ -73,6 +73,23 @@ module _ (d : Device) (f : List ℕ) where
       own-is d f o w ∙ ap (λ (k : Link). linkedBy d k o (controlOf f) (drop 2 f)) l
 
 -- ---- every frame
+
+-- an order with an N(R) is I, RR or RNR
+pub order-cases : (P : Order → Type 0) (r : ℕ) → ((n : ℕ) → P (Info n r)) → P (Rr r) → P (Rnr r)
+    → (o : Order) → numberIn o ≡ some r → P o
+order-cases P r info rr rnr o e = go o e
+  where
+    none-apart : none ≡ some r → ⊥
+    none-apart h = true-not-false (cc)
+
+    go : (o : Order) → numberIn o ≡ some r → P o
+    go Xid e = absurd (none-apart e)
+    go Snrm e = absurd (none-apart e)
+    go Disc e = absurd (none-apart e)
+    go (Info n q) e = let same : q ≡ r = cc in rw same (info n)
+    go (Rr q) e = let same : q ≡ r = cc in rw same rr
+    go (Rnr q) e = let same : q ≡ r = cc in rw same rnr
+    go Unknown e = absurd (none-apart e)
 
 module _ (d : Device) (f : List ℕ) (P : Turn → Type 0)
     (silent : Unread d f → P (mute d))
