@@ -1,7 +1,7 @@
 -- What a frame changes, part by part, and when exactly (`account`). This holds of any record, allowed or not. Assumes
 -- nothing.
 use mathlib.Core.Path.{_≡_, refl, sym, ap, _∙_}
-use mathlib.Core.Bool.{Bool, true}
+use mathlib.Core.Bool.{true}
 use mathlib.Core.List.{List}
 use mathlib.Core.Logic.{_⊎_, inl, inr, ⊎-elim}
 use Prim.Native.Nat.{ℕ}
@@ -20,11 +20,11 @@ use Rattle.poll.specs.Poll as poll
 use Rattle.inform.specs.Inform.{heeded}
 use Rattle.states.specs.States.{newSession, begun, released}
 use Rattle.link.specs.Frames.{Own}
-use Rattle.conduct.specs.Conduct.{after, TiltDue}
+use Rattle.conduct.specs.Conduct.{after}
 use Rattle.conduct.specs.Endings.{Assigns, Ends, Drops}
-use Rattle.conduct.specs.Alarms.{Clears, Subscribes, Indicated}
+use Rattle.conduct.specs.Alarms.{Subscribes}
 use Rattle.conduct.specs.Comes.{Comes, left}
-use Rattle.conduct.specs.Account.{Counted, Delivers, Account}
+use Rattle.conduct.specs.Account.{Counted, Account}
 use Rattle.conduct.proofs.Settles.{address-kept, subscribed-kept, settled-link, assigned-apart}
 use Rattle.conduct.proofs.Numbers.{r-moves-exactly, r-stays-exactly, s-moves-exactly, s-stays-exactly}
 use Rattle.conduct.proofs.Told.{raised-cases, told-cases, clears-both, indicated-tells}
@@ -49,22 +49,23 @@ module _ (d : Device) (f : List ℕ) where
   address-cases : ((a : ℕ) × Assigns d f a) ⊎ (after d f .station .address ≡ d .station .address)
   unfolding deviceOf endedAs unsaidAt acknowledged heeded answersWith poll.indicates
   address-cases =
+      let kept = address-kept d in
       after-cases d f (λ (e : Device). ((a : ℕ) × Assigns d f a) ⊎ (e .station .address ≡ d .station .address))
-      (inr refl) (λ a w. inl (a, w)) (λ w l. inr refl) (λ o r s e w. inr (address-kept d s r))
-      (λ s n r w. inr (address-kept d s r)) (λ w. inr (address-kept d (w .session) (w .nr)))
-      (λ w. inr (address-kept d (w .session) (w .nr))) (λ w. inr (address-kept d (w .session) (w .nr)))
-      (λ w b. inr (address-kept d (w .session) (w .nr)))
-      (λ b w. inr (address-kept d (w .collects .session) (w .collects .nr)))
-      (λ w. inr (address-kept d (w .collects .session) (w .collects .nr)))
+      (inr refl) (λ a w. inl (a, w)) (λ w l. inr refl) (λ o r s e w. inr (kept s r)) (λ s n r w. inr (kept s r))
+      (λ w. inr (kept (w .session) (w .nr))) (λ w. inr (kept (w .session) (w .nr)))
+      (λ w. inr (kept (w .session) (w .nr))) (λ w b. inr (kept (w .session) (w .nr)))
+      (λ b w. inr (kept (w .collects .session) (w .collects .nr)))
+      (λ w. inr (kept (w .collects .session) (w .collects .nr)))
 
   subscribed-cases : Subscribes d f ⊎ (after d f .station .subscribed ≡ d .station .subscribed)
   unfolding deviceOf endedAs unsaidAt acknowledged heeded answersWith poll.indicates
   subscribed-cases =
+      let kept = subscribed-kept d in
       after-cases d f (λ (e : Device). Subscribes d f ⊎ (e .station .subscribed ≡ d .station .subscribed))
-      (inr refl) (λ a w. inr refl) (λ w l. inr refl) (λ o r s e w. inr (subscribed-kept d s r))
+      (inr refl) (λ a w. inr refl) (λ w l. inr refl) (λ o r s e w. inr (kept s r))
       (λ s n r w. inr refl) (λ w. inr refl) (λ w. inr refl) inl (λ w b. inr refl)
-      (λ b w. inr (subscribed-kept d (w .collects .session) (w .collects .nr)))
-      (λ w. inr (subscribed-kept d (w .collects .session) (w .collects .nr)))
+      (λ b w. inr (kept (w .collects .session) (w .collects .nr)))
+      (λ w. inr (kept (w .collects .session) (w .collects .nr)))
 
   assigned : (a : ℕ) → Assigns d f a
       → (after d f .station .address ≡ a) × (after d f .station .link ≡ AddressAssigned)

@@ -1,5 +1,5 @@
--- What a frame leaves of a device is one of eleven things, each with the frame that leaves it (`after-cases`). This holds of
--- any record, allowed or not. Assumes nothing.
+-- What a frame leaves of a device is one of eleven things, each with the frame that leaves it (`after-cases`). This
+-- holds of any record, allowed or not. Assumes nothing.
 use mathlib.Core.Path.{_≡_, refl, ap}
 use mathlib.Core.Bool.{Bool, true}
 use mathlib.Core.List.{List, []}
@@ -87,6 +87,7 @@ module _ (d : Device) (f : List ℕ) where
   abbrev told : Session → ℕ → Alarms
   told s r = there s r .told
 
+  -- the device as it was; a session ended; a good N(R) read, and no more; then what an accepted message or RR adds
   module _ (P : Device → Type 0)
       (same : P d)
       (assigned : (a : ℕ) → Assigns d f a → P (endedAs d a AddressAssigned))

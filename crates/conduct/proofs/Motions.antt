@@ -1,6 +1,6 @@
--- What a frame does to the motion: a tilt that is due starts it, a waiting result that is collected waits no more, an end
--- drops what is owed; and no other frame changes it. So a movement towards t comes to be owed by a frame exactly where the
--- frame asks t and is due. This holds of any record, allowed or not. Assumes nothing.
+-- What a frame does to the motion: a tilt that is due starts it, a waiting result that is collected waits no more, an
+-- end drops what is owed, and no other frame changes it. So a frame makes a movement towards t owed exactly where it is
+-- due and asks t. This holds of any record, allowed or not. Assumes nothing.
 use mathlib.Core.Path.{_≡_, refl, sym, ap, _∙_}
 use mathlib.Core.Bool.{Bool}
 use mathlib.Core.List.{List}
@@ -11,7 +11,7 @@ use lib.ListN.{drop}
 use Rattle.antenna.specs.declared.Angle.{Angle}
 use Rattle.antenna.specs.declared.Motion.{Motion}
 use Rattle.antenna.specs.declared.Motion.the-variants.{Still, Moving, Owing, Stopped}
-use Rattle.antenna.specs.Motions.{owesOf, unowedOf, moves}
+use Rattle.antenna.specs.Motions.{unowedOf, moves}
 use Rattle.antenna.proofs.Movements.{idle}
 use Rattle.record.specs.declared.Device.{Device}
 use Rattle.record.specs.Changes.{deviceOf, endedAs}

@@ -4,12 +4,11 @@ use mathlib.Core.Path.{_≡_, refl, sym, ap, _∙_}
 use mathlib.Core.Bool.{Bool, true, false, cond}
 use mathlib.Core.List.{List}
 use mathlib.Core.Logic.{_↔_, _⊎_, inl, inr, ⊎-elim}
-use mathlib.Core.Option.{none, some}
+use mathlib.Core.Option.{some}
 use Prim.Native.Nat.{ℕ}
-use native.Mathlib.Omega.{arith}
 use Rattle.control.specs.Control.{nextOf}
 use Rattle.control.specs.declared.Order.{Order}
-use Rattle.control.specs.declared.Order.the-variants.{Xid, Snrm, Disc, Info, Rr, Rnr, Unknown}
+use Rattle.control.specs.declared.Order.the-variants.{Snrm, Info, Rr, Rnr}
 use Rattle.record.specs.declared.Session.{Session}
 use Rattle.record.specs.declared.Link.the-variants.{Connected}
 use Rattle.record.specs.declared.Device.{Device}
@@ -23,14 +22,8 @@ use Rattle.link.specs.Link.{judgedFrame}
 use Rattle.link.specs.Frames.{Own, numberIn, Numbered}
 use Rattle.link.proofs.Cases.{judged-cases}
 use Rattle.conduct.specs.Conduct.{after, AnyAccepted, Acknowledging}
-use Rattle.conduct.proofs.Settles.{next-apart, same-session, assigned-apart}
+use Rattle.conduct.proofs.Settles.{next-apart, same-session, assigned-apart, numbered-cases}
 use Rattle.conduct.proofs.Sessions.{Counted, info-counted, rr-counted, rnr-counted}
-
-none-some : {n : ℕ} → none ≡ some n → ⊥
-none-some e = let z : _≡_ {A = ℕ} 0 1 = cc in omega arith
-
-some-same : {m n : ℕ} → some m ≡ some n → m ≡ n
-some-same e = cc
 
 -- S moves on where the number acknowledges, and stays where it does not
 number-moved : (s : Session) (r : ℕ) → acknowledges s r ≡ true → sessionAfter s r .s ≡ nextOf (s .s)
@@ -53,16 +46,11 @@ module _ (d : Device) (f : List ℕ) (s t : Session) (here : d .station .link �
   accepted-moves (n, r, w) = numbers-are (rw (w .accepted) at (info-counted d f s n r (w .numbered))) .0
 
   acknowledged-moves : Acknowledging d f s → t .s ≡ nextOf (s .s)
-  acknowledged-moves w = go (w .order) (w .number) (w .numbered) ∙ number-moved s (w .nr) (w .behind)
-    where
-      go : (o : Order) → numberIn o ≡ some (w .nr) → Numbered d f o (w .nr) s → t .s ≡ sessionAfter s (w .nr) .s
-      go Xid e v = absurd (none-some e)
-      go Snrm e v = absurd (none-some e)
-      go Disc e v = absurd (none-some e)
-      go (Info n r) e v = numbers-are (info-counted d f s n (w .nr) (rw (some-same e) at v)) .1
-      go (Rr r) e v = numbers-are (rr-counted d f s (w .nr) (rw (some-same e) at v)) .1
-      go (Rnr r) e v = numbers-are (rnr-counted d f s (w .nr) (rw (some-same e) at v)) .1
-      go Unknown e v = absurd (none-some e)
+  acknowledged-moves w =
+      numbered-cases d f s (w .nr) (t .s ≡ sessionAfter s (w .nr) .s)
+      (λ n v. numbers-are (info-counted d f s n (w .nr) v) .1) (λ v. numbers-are (rr-counted d f s (w .nr) v) .1)
+      (λ v. numbers-are (rnr-counted d f s (w .nr) v) .1) (w .order) (w .number) (w .numbered)
+      ∙ number-moved s (w .nr) (w .behind)
 
   module _ (new : Own d f Snrm → ⊥) where
     -- what can come of the numbers

@@ -1,10 +1,10 @@
--- What a frame does to what is pending, with its reply and what it said: an answer, a result and an indication that are
--- sent become pending, an acknowledgement and an end remove it, and no other frame changes it. This holds of any record,
--- allowed or not. Assumes nothing.
+-- What a frame does to what is pending, with its reply and what it said: an answer, a result and an indication that
+-- are sent become pending, an acknowledgement and an end remove it, and no other frame changes it. This holds of any
+-- record, allowed or not. Assumes nothing.
 use mathlib.Core.Path.{_≡_, refl, sym, ap, subst, _∙_}
 use mathlib.Core.Bool.{Bool, true, false}
 use mathlib.Core.List.{List}
-use mathlib.Core.Logic.{inl, inr}
+use mathlib.Core.Logic.{inr}
 use mathlib.Core.Option.{some}
 use Prim.Native.Nat.{ℕ}
 use lib.ListN.{drop}
@@ -14,15 +14,14 @@ use Rattle.antenna.specs.declared.Waits.{Waits}
 use Rattle.antenna.specs.declared.Waits.the-variants.{Nothing, Result}
 use Rattle.antenna.specs.Motions.{waitingOf}
 use Rattle.control.specs.declared.Order.{Order}
-use Rattle.control.specs.declared.Order.the-variants.{Xid, Snrm, Disc, Info, Rr, Rnr, Unknown}
+use Rattle.control.specs.declared.Order.the-variants.{Info, Rr, Rnr}
 use Rattle.record.specs.declared.Pending.{Pending}
 use Rattle.record.specs.declared.Pending.the-variants.{Answer, Indication}
 use Rattle.record.specs.declared.Session.{Session}
-use Rattle.record.specs.declared.Link.the-variants.{Connected}
 use Rattle.record.specs.declared.Device.{Device}
 use Rattle.record.specs.Fresh.{calm, noReply}
 use Rattle.record.specs.Changes.{unsaidAt, deviceOf}
-use Rattle.session.specs.Session.{pends, acknowledges, accepts, taken}
+use Rattle.session.specs.Session.{pends, acknowledges, taken}
 use Rattle.payload.specs.Payloads.{payloadOf, resultOf}
 use Rattle.message.specs.declared.Reply.{Reply}
 use Rattle.station.specs.declared.Turn.{Turn}
@@ -36,13 +35,11 @@ use Rattle.inform.specs.Inform.{heeded, carriedHere, repliedBy, carriedBy, info
 use Rattle.states.specs.States.{informedBy}
 use Rattle.link.specs.Link.{judgedFrame}
 use Rattle.link.specs.Frames.{numberIn, Numbered}
-use Rattle.conduct.specs.Conduct.{after, Accepted, Acknowledging, TiltDue}
-use Rattle.conduct.specs.Endings.{pendingIn, Drops, Dropped}
-use Rattle.conduct.specs.Alarms.{Clears, Subscribes}
+use Rattle.conduct.specs.Conduct.{after, Accepted}
+use Rattle.conduct.specs.Endings.{pendingIn, Drops, Dropped, Collects}
 use Rattle.conduct.specs.Comes.{Comes, left, heard}
 use Rattle.conduct.specs.Account.{Answered, Delivers, Tells, Acknowledges}
-use Rattle.conduct.proofs.Settles.{device-kept, info-is}
-use Rattle.conduct.proofs.Refusing.{none-not-some}
+use Rattle.conduct.proofs.Settles.{device-kept, info-is, numbered-cases}
 use Rattle.conduct.proofs.Turns.{inform-cases}
 use Rattle.conduct.proofs.Ends.{ended-drops}
 use Rattle.conduct.proofs.Leaves.{after-left, after-cases, drops-as, clears-answered, subscribes-answered}
@@ -97,7 +94,7 @@ module _ (d : Device) (f : List ℕ) where
         (pendingIn (e .station .link) ≡ Pending.Nothing) × (e .station .reply ≡ noReply) × (e .station .said ≡ calm)
 
     module _ (s : Session) (r : ℕ) (removes : acknowledges s r ≡ true) where
-      -- nothing is left of it, where the antenna n is as the frame leaves it
+      -- nothing is left of it, whatever else the message changes
       heard-empty : (n : Antenna) (told : Alarms) (sub : Bool) → Empty (heard d s r n told sub)
       unfolding deviceOf heeded taken sessionAfter stationAfter emptied settled unsaidAt
       heard-empty n told sub = rw removes (refl, refl, refl)
@@ -125,36 +122,27 @@ module _ (d : Device) (f : List ℕ) where
           free : pends (sessionAfter s r .pending) ≡ false
           free = rw (session-moved (d .station) s r removes .1)
 
+          collects : Collects d f
+          collects = record { session = s; nr = r; numbered = w; free = free }
+
           rests : (b : Bool) → toTell (stationAfter (d .station) s r) (d .antenna) ≡ b
               → waitingOf (d .antenna .motion) ≡ Nothing → Empty (after d f)
-          rests true t e =
-              absurd
-              (untold
-              (record { collects = record { session = s; nr = r; numbered = w; free = free }; idle = e; news = t }))
+          rests true t e = absurd (untold (record { collects = collects; idle = e; news = t }))
           rests false t e = rw (after-left d f (Comes.rests s r w free e t)) settled-empty
 
           waits : (q : Waits) → waitingOf (d .antenna .motion) ≡ q → Empty (after d f)
-          waits (Result b) e =
-              absurd
-              (undelivered b
-              (record { collects = record { session = s; nr = r; numbered = w; free = free }; waits = e }))
+          waits (Result b) e = absurd (undelivered b (record { collects = collects; waits = e }))
           waits Nothing e = rests (toTell (stationAfter (d .station) s r) (d .antenna)) refl e
 
       rnr-empty : Numbered d f (Rnr r) r s → Empty (after d f)
       unfolding left
       rnr-empty w = rw (after-left d f (Comes.pauses s r w)) settled-empty
 
-      numbered-empty : (o : Order) → numberIn o ≡ some r → Numbered d f o r s → Empty (after d f)
-      numbered-empty Xid e w = absurd (none-not-some r e)
-      numbered-empty Snrm e w = absurd (none-not-some r e)
-      numbered-empty Disc e w = absurd (none-not-some r e)
-      numbered-empty (Info n q) e w = let same : q ≡ r = cc in info-empty n (rw same at w)
-      numbered-empty (Rr q) e w = let same : q ≡ r = cc in rr-empty (rw same at w)
-      numbered-empty (Rnr q) e w = let same : q ≡ r = cc in rnr-empty (rw same at w)
-      numbered-empty Unknown e w = absurd (none-not-some r e)
-
     pub removed-empty : Acknowledges d f → Empty (after d f)
-    removed-empty (s, w) = numbered-empty s (w .nr) (w .behind) (w .order) (w .number) (w .numbered)
+    removed-empty (s, w) =
+        let r = w .nr in
+        numbered-cases d f s r (Empty (after d f)) (info-empty s r (w .behind)) (rr-empty s r (w .behind))
+        (rnr-empty s r (w .behind)) (w .order) (w .number) (w .numbered)
 
     -- ---- kept
 

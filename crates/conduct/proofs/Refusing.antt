@@ -2,9 +2,8 @@
 use mathlib.Core.Path.{_≡_, _∙_}
 use mathlib.Core.Bool.{false}
 use mathlib.Core.List.{List}
-use mathlib.Core.Option.{none, some}
+use mathlib.Core.Option.{some}
 use Prim.Native.Nat.{ℕ}
-use native.Mathlib.Omega.{arith}
 use lib.ListN.{drop}
 use Rattle.control.specs.declared.Order.{Order}
 use Rattle.control.specs.declared.Order.the-variants.{Xid, Snrm, Disc, Info, Rr, Rnr, Unknown}
@@ -16,13 +15,7 @@ use Rattle.station.specs.Turns.{saying}
 use Rattle.states.specs.States.{released, ua, rejected, infoBy, rrBy, rnrBy, connectedBy}
 use Rattle.link.specs.Link.{judgedFrame}
 use Rattle.link.specs.Frames.{controlOf, Own, numberIn}
-use Rattle.conduct.proofs.Settles.{session-is}
-
-pub none-not-some : (r : ℕ) → none ≡ some r → ⊥
-none-not-some r e = let z : _≡_ {A = ℕ} 0 1 = cc in omega arith
-
-some-same : (q r : ℕ) → some q ≡ some r → q ≡ r
-some-same q r e = cc
+use Rattle.conduct.proofs.Settles.{none-not-some, some-same, session-is}
 
 -- "Any other N(R) .. gets FRMR .. 8 for a bad N(R)"
 miscounted : (d : Device) (s : Session) (o : Order) (r c : ℕ) (p : List ℕ) → numberIn o ≡ some r

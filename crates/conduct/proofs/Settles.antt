@@ -1,15 +1,16 @@
 -- What a good N(R) leaves as it was: the antenna, the address, the subscription and R; the session after it; and what
--- an I-frame, RR or RNR with a good N(R) comes to. Assumes nothing.
+-- an I-frame, RR or RNR with a good N(R) comes to, which are all the frames that have one. Assumes nothing.
 use mathlib.Core.Path.{_≡_, refl, ap, _∙_}
 use mathlib.Core.Bool.{Bool, true, false, cond}
 use mathlib.Core.List.{List}
+use mathlib.Core.Option.{none, some}
 use Prim.Native.Nat.{ℕ}
 use native.Mathlib.Omega.{arith}
 use lib.ListN.{drop}
 use Rattle.octets.proofs.Words.{true-not-false}
 use Rattle.control.specs.Control.{nextOf}
 use Rattle.control.specs.declared.Order.{Order}
-use Rattle.control.specs.declared.Order.the-variants.{Info, Rr, Rnr}
+use Rattle.control.specs.declared.Order.the-variants.{Xid, Snrm, Disc, Info, Rr, Rnr, Unknown}
 use Rattle.record.specs.declared.Pending.{Pending}
 use Rattle.record.specs.declared.Pending.the-variants.{Nothing, Answer, Indication}
 use Rattle.record.specs.declared.Session.{Session}
@@ -24,7 +25,7 @@ use Rattle.record.specs.Changes.{deviceOf}
 use Rattle.states.specs.States.{informedBy, polledBy, pausedBy}
 use Rattle.states.specs.States.{infoBy, rrBy, rnrBy, connectedBy, linkedBy}
 use Rattle.link.specs.Link.{judgedFrame}
-use Rattle.link.specs.Frames.{controlOf, Own, Numbered}
+use Rattle.link.specs.Frames.{controlOf, Own, numberIn, Numbered}
 use Rattle.link.proofs.Cases.{own-is}
 
 -- no number is its own next one
@@ -38,6 +39,12 @@ same-session e = cc
 
 pub assigned-apart : {s : Session} → AddressAssigned ≡ Connected s → ⊥
 assigned-apart e = let z : _≡_ {A = ℕ} 0 1 = cc in omega arith
+
+pub none-not-some : (r : ℕ) → none ≡ some r → ⊥
+none-not-some r e = let z : _≡_ {A = ℕ} 0 1 = cc in omega arith
+
+pub some-same : (q r : ℕ) → some q ≡ some r → q ≡ r
+some-same q r e = cc
 
 -- what is not pending is nothing
 pub nothing-pends : (p : Pending) → pends p ≡ false → p ≡ Nothing
@@ -108,3 +115,15 @@ module _ (d : Device) (f : List ℕ) (s : Session) where
   pub rnr-is : (r : ℕ) → Numbered d f (Rnr r) r s → judgedFrame d f ≡ pausedBy d s r
   unfolding connectedBy rnrBy
   rnr-is r w = session-is (Rnr r) (w .own) (w .link) ∙ rw (w .good)
+
+-- a frame with an N(R) is I, RR or RNR
+module _ (d : Device) (f : List ℕ) (s : Session) (r : ℕ) (A : Type 0) (info : (n : ℕ) → Numbered d f (Info n r) r s → A)
+    (rr : Numbered d f (Rr r) r s → A) (rnr : Numbered d f (Rnr r) r s → A) where
+  pub numbered-cases : (o : Order) → numberIn o ≡ some r → Numbered d f o r s → A
+  numbered-cases Xid e w = absurd (none-not-some r e)
+  numbered-cases Snrm e w = absurd (none-not-some r e)
+  numbered-cases Disc e w = absurd (none-not-some r e)
+  numbered-cases (Info n q) e w = info n (rw (some-same q r e) at w)
+  numbered-cases (Rr q) e w = rr (rw (some-same q r e) at w)
+  numbered-cases (Rnr q) e w = rnr (rw (some-same q r e) at w)
+  numbered-cases Unknown e w = absurd (none-not-some r e)

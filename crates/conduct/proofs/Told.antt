@@ -8,7 +8,7 @@ use mathlib.Core.Option.{some}
 use Prim.Native.Nat.{ℕ}
 use lib.ListN.{drop}
 use Rattle.control.specs.declared.Order.{Order}
-use Rattle.control.specs.declared.Order.the-variants.{Xid, Snrm, Disc, Info, Rr, Rnr, Unknown}
+use Rattle.control.specs.declared.Order.the-variants.{Info, Rr, Rnr}
 use Rattle.antenna.specs.Motions.{moves}
 use Rattle.record.specs.declared.Pending.{Pending}
 use Rattle.record.specs.declared.Pending.the-variants.{Nothing, Answer, Indication}
@@ -30,8 +30,7 @@ use Rattle.link.specs.Frames.{numberIn, Numbered}
 use Rattle.link.proofs.Cases.{judged-cases}
 use Rattle.conduct.specs.Conduct.{after}
 use Rattle.conduct.specs.Alarms.{Clears, Indicated}
-use Rattle.conduct.proofs.Settles.{info-is, rr-is, rnr-is}
-use Rattle.conduct.proofs.Refusing.{none-not-some}
+use Rattle.conduct.proofs.Settles.{info-is, rr-is, rnr-is, numbered-cases}
 use Rattle.conduct.proofs.Alarms.{Keeps, poll-keeps, inform-keeps, inform-clears}
 
 -- ---- a good N(R)
@@ -148,35 +147,27 @@ module _ (d : Device) (f : List ℕ) where
 
   -- after a good N(R) told is as the acknowledgement leaves it, unless alarms are cleared
   module _ (s : Session) (r : ℕ) (other : Clears d f → ⊥) where
-    info-told : (n q : ℕ) → q ≡ r → Numbered d f (Info n q) r s
-        → after d f .station .told ≡ stationAfter (d .station) s r .told
-    unfolding acknowledged deviceOf
-    info-told n q e w =
-        let v : Numbered d f (Info n r) r s = rw e at w in
-        ap (λ (t : Turn). t .device .station .told) (info-is d f s n r v)
-        ∙ ⊎-elim (λ c. absurd (other c)) (λ k. k .0) (info-keeps s r n v)
+    abbrev Settled : Type 0
+    Settled = after d f .station .told ≡ stationAfter (d .station) s r .told
 
-    rr-told : (q : ℕ) → q ≡ r → Numbered d f (Rr q) r s
-        → after d f .station .told ≡ stationAfter (d .station) s r .told
+    info-told : (n : ℕ) → Numbered d f (Info n r) r s → Settled
+    unfolding acknowledged deviceOf
+    info-told n w =
+        ap (λ (t : Turn). t .device .station .told) (info-is d f s n r w)
+        ∙ ⊎-elim (λ c. absurd (other c)) (λ k. k .0) (info-keeps s r n w)
+
+    rr-told : Numbered d f (Rr r) r s → Settled
     unfolding polledBy acknowledged deviceOf
-    rr-told q e w =
-        ap (λ (t : Turn). t .device .station .told) (rr-is d f s r (rw e at w))
+    rr-told w =
+        ap (λ (t : Turn). t .device .station .told) (rr-is d f s r w)
         ∙ poll-keeps (acknowledged d s r) (sessionAfter s r) .0
 
-    rnr-told : (q : ℕ) → q ≡ r → Numbered d f (Rnr q) r s
-        → after d f .station .told ≡ stationAfter (d .station) s r .told
+    rnr-told : Numbered d f (Rnr r) r s → Settled
     unfolding pausedBy saying acknowledged deviceOf
-    rnr-told q e w = ap (λ (t : Turn). t .device .station .told) (rnr-is d f s r (rw e at w))
+    rnr-told w = ap (λ (t : Turn). t .device .station .told) (rnr-is d f s r w)
 
-    numbered-told : (o : Order) → numberIn o ≡ some r → Numbered d f o r s
-        → after d f .station .told ≡ stationAfter (d .station) s r .told
-    numbered-told Xid e w = absurd (none-not-some r e)
-    numbered-told Snrm e w = absurd (none-not-some r e)
-    numbered-told Disc e w = absurd (none-not-some r e)
-    numbered-told (Info n q) e w = info-told n q (cc) w
-    numbered-told (Rr q) e w = rr-told q (cc) w
-    numbered-told (Rnr q) e w = rnr-told q (cc) w
-    numbered-told Unknown e w = absurd (none-not-some r e)
+    numbered-told : (o : Order) → numberIn o ≡ some r → Numbered d f o r s → Settled
+    numbered-told = numbered-cases d f s r Settled info-told rr-told rnr-told
 
   -- "Told is updated when the indication is acknowledged, to what it said."
   pub indicated-tells : Indicated d f → (Clears d f → ⊥) → after d f .station .told ≡ d .station .said
