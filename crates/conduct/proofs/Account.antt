@@ -133,11 +133,15 @@ module _ (d : Device) (f : List ℕ) where
             unacknowledged = s-stays-exactly d f s t here there new .1;
           }
 
-      session-kept : Drops d f ⊎ ((after d f .station .link ≡ d .station .link) ⊎ Goes (after d f))
+      goes-on : Drops d f ⊎ ((after d f .station .link ≡ d .station .link) ⊎ Goes (after d f))
           → (t : Session) × (after d f .station .link ≡ Connected t) × Counted d f s t
-      session-kept (inl w) = absurd (lasts (drops-end w))
-      session-kept (inr (inl same)) = (s, same ∙ here, counted s (same ∙ here))
-      session-kept (inr (inr (k, t, was, is))) = (t, is, counted t is)
+      goes-on (inl w) = absurd (lasts (drops-end w))
+      goes-on (inr (inl same)) = (s, same ∙ here, counted s (same ∙ here))
+      goes-on (inr (inr (k, t, was, is))) = (t, is, counted t is)
+
+      -- a session that does not end goes on, and its numbers are known
+      pub session-kept : (t : Session) × (after d f .station .link ≡ Connected t) × Counted d f s t
+      session-kept = goes-on link-cases
 
   link-kept : ((s : Session) → d .station .link ≡ Connected s → ⊥) → (Drops d f → ⊥)
       → after d f .station .link ≡ d .station .link
@@ -161,7 +165,7 @@ module _ (d : Device) (f : List ℕ) where
         link-begun = λ w. begun-link (Comes.begins (w .own) (w .link)) refl;
         link-renewed = λ s l w. begun-link (Comes.renews s w l) refl;
         link-ended = ended-link;
-        link-counted = λ s l lasts. session-kept s l lasts link-cases;
+        link-counted = session-kept;
         link-kept = link-kept;
         raised-cleared = λ w. clears-both d f w .0;
         raised-kept = λ not. ⊎-elim (λ same. same) (λ w. absurd (not (w .0))) (raised-cases d f);
