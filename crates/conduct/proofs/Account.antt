@@ -187,7 +187,7 @@ module _ (d : Device) (f : List ℕ) where
         answered = answered-pends d f;
         delivered = delivered-pends d f;
         told-of = tells-pends d f;
-        removed = λ w unanswered undelivered untold undropped. removed-empty d f unanswered undelivered untold w;
+        removed = λ w unanswered undelivered untold. removed-empty d f unanswered undelivered untold w;
         pending-kept = λ unacknowledged unanswered undelivered untold.
             pending-kept d f unanswered undelivered untold unacknowledged;
       }

@@ -52,7 +52,8 @@ module _ (d : Device) (f : List ℕ) where
 
   pub answered-pends : (w : Answered d f) → (pendingIn (after d f .station .link) ≡ Answer)
       × (after d f .station .reply ≡ carriedHere (acknowledged d (w .session) (w .nr)) (drop 2 f) .payload)
-  unfolding informedBy informOf carriedBy repliedBy saying deviceOf answersWith awaiting
+      × (after d f .station .said ≡ stationAfter (d .station) (w .session) (w .nr) .said)
+  unfolding informedBy informOf carriedBy repliedBy saying acknowledged deviceOf answersWith awaiting heeded
   answered-pends w =
       let s = w .session in
       let e = acknowledged d s (w .nr) in
@@ -61,10 +62,12 @@ module _ (d : Device) (f : List ℕ) where
       info-is d f s (w .ns) (w .nr) (w .frame .numbered) ∙ rw (w .frame .accepted, w .answers) in (
         ap (λ (t : Turn). pendingIn (t .device .station .link)) is,
         ap (λ (t : Turn). t .device .station .reply) is,
+        ap (λ (t : Turn). t .device .station .said) is,
       )
 
-  pub delivered-pends : (reached : Bool) → Delivers d f reached → (pendingIn (after d f .station .link) ≡ Answer)
+  pub delivered-pends : (reached : Bool) (w : Delivers d f reached) → (pendingIn (after d f .station .link) ≡ Answer)
       × (after d f .station .reply ≡ payloadOf (resultOf reached))
+      × (after d f .station .said ≡ stationAfter (d .station) (w .collects .session) (w .collects .nr) .said)
   unfolding left deviceOf answersWith awaiting
   delivered-pends reached w =
       let c = w .collects in
@@ -72,10 +75,12 @@ module _ (d : Device) (f : List ℕ) where
       after-left d f (Comes.delivers (c .session) (c .nr) reached (c .numbered) (c .free) (w .waits)) in (
         ap (λ (e : Device). pendingIn (e .station .link)) is,
         ap (λ (e : Device). e .station .reply) is,
+        ap (λ (e : Device). e .station .said) is,
       )
 
-  pub tells-pends : Tells d f → (pendingIn (after d f .station .link) ≡ Indication)
+  pub tells-pends : (w : Tells d f) → (pendingIn (after d f .station .link) ≡ Indication)
       × (after d f .station .said ≡ d .antenna .raised)
+      × (after d f .station .reply ≡ stationAfter (d .station) (w .collects .session) (w .collects .nr) .reply)
   unfolding left deviceOf poll.indicates awaiting
   tells-pends w =
       let c = w .collects in
@@ -83,6 +88,7 @@ module _ (d : Device) (f : List ℕ) where
       after-left d f (Comes.indicates (c .session) (c .nr) (c .numbered) (c .free) (w .idle) (w .news)) in (
         ap (λ (e : Device). pendingIn (e .station .link)) is,
         ap (λ (e : Device). e .station .said) is,
+        ap (λ (e : Device). e .station .reply) is,
       )
 
   module _ (unanswered : Answered d f → ⊥) (undelivered : (reached : Bool) → Delivers d f reached → ⊥)
