@@ -15,3 +15,7 @@ pub mod Indicates
 pub mod Ends
 pub mod Results
 pub mod Comes
+pub mod Leaves
+pub mod Motions
+pub mod Pends
+pub mod Account

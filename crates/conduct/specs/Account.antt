@@ -8,30 +8,29 @@
 --   Account d f     == what f changes of d
 -- Assumes nothing.
 use mathlib.Core.Path.{_≡_}
-use mathlib.Core.Bool.{Bool, true, false}
-use mathlib.Core.List.{List, [], _∷_}
+use mathlib.Core.Bool.{Bool, true}
+use mathlib.Core.List.{List}
 use Prim.Native.Nat.{ℕ}
 use lib.ListN.{drop}
 use Rattle.antenna.specs.declared.Motion.the-variants.{Still, Owing}
 use Rattle.antenna.specs.declared.Waits.the-variants.{Nothing, Result}
 use Rattle.antenna.specs.Motions.{waitingOf, unowedOf}
 use Rattle.control.specs.Control.{nextOf}
-use Rattle.control.specs.declared.Order.the-variants.{Snrm, Rr}
+use Rattle.control.specs.declared.Order.the-variants.{Snrm}
 use Rattle.record.specs.declared.Pending.{Pending}
 use Rattle.record.specs.declared.Pending.the-variants.{Answer, Indication}
 use Rattle.record.specs.declared.Session.{Session}
 use Rattle.record.specs.declared.Link.the-variants.{AddressAssigned, Connected}
 use Rattle.record.specs.declared.Device.{Device}
 use Rattle.record.specs.Fresh.{calm, noReply}
-use Rattle.session.specs.Session.{pends}
 use Rattle.payload.specs.Payloads.{payloadOf, resultOf}
 use Rattle.message.specs.Messages.{askedOf}
 use Rattle.message.specs.declared.Reply.{Reply}
-use Rattle.acknowledge.specs.Acknowledge.{sessionAfter, stationAfter, acknowledged}
+use Rattle.acknowledge.specs.Acknowledge.{stationAfter, acknowledged}
 use Rattle.poll.specs.Poll.{toTell}
 use Rattle.inform.specs.Inform.{carriedHere}
 use Rattle.states.specs.States.{newSession}
-use Rattle.link.specs.Frames.{Own, Numbered}
+use Rattle.link.specs.Frames.{Own}
 use Rattle.conduct.specs.Conduct.{after, Accepted, AnyAccepted, Acknowledging, TiltDue}
 use Rattle.conduct.specs.Endings.{pendingIn, Assigns, Begins, Ends, Drops, Dropped, Collects}
 use Rattle.conduct.specs.Alarms.{Clears, Subscribes, Indicated}
@@ -108,13 +107,16 @@ pub record Account (d : Device) (f : List ℕ) : Type 0 where
   -- an answer, a result and an indication that are sent become pending
   pub answered : (w : Answered d f) → (pendingIn (after d f .station .link) ≡ Answer)
       × (after d f .station .reply ≡ carriedHere (acknowledged d (w .session) (w .nr)) (drop 2 f) .payload)
-  pub delivered : (reached : Bool) → Delivers d f reached → (pendingIn (after d f .station .link) ≡ Answer)
+      × (after d f .station .said ≡ stationAfter (d .station) (w .session) (w .nr) .said)
+  pub delivered : (reached : Bool) (w : Delivers d f reached) → (pendingIn (after d f .station .link) ≡ Answer)
       × (after d f .station .reply ≡ payloadOf (resultOf reached))
-  pub told-of : Tells d f → (pendingIn (after d f .station .link) ≡ Indication)
+      × (after d f .station .said ≡ stationAfter (d .station) (w .collects .session) (w .collects .nr) .said)
+  pub told-of : (w : Tells d f) → (pendingIn (after d f .station .link) ≡ Indication)
       × (after d f .station .said ≡ d .antenna .raised)
+      × (after d f .station .reply ≡ stationAfter (d .station) (w .collects .session) (w .collects .nr) .reply)
   -- an acknowledgement removes it, where nothing else is sent; and in no other way does it change
   pub removed : Acknowledges d f → (Answered d f → ⊥) → ((reached : Bool) → Delivers d f reached → ⊥)
-      → (Tells d f → ⊥) → (Drops d f → ⊥)
+      → (Tells d f → ⊥)
       → (pendingIn (after d f .station .link) ≡ Pending.Nothing) × (after d f .station .reply ≡ noReply)
       × (after d f .station .said ≡ calm)
   pub pending-kept : (Acknowledges d f → ⊥) → (Answered d f → ⊥) → ((reached : Bool) → Delivers d f reached → ⊥)
