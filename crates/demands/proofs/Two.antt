@@ -1,8 +1,8 @@
 -- Demand 2. "Frames, link states, address matching and commands do what document 01 says. A frame that we write reads
 -- back as what was put in. A tilt command is carried out only when its number is the next one due."
 -- The first sentence is the promises: each function is proved to give what its definition says, and the definitions
--- are the sentences of 01, each beside its words (specs/ of frame, record, session, station, xid, message, turn, link,
--- speech, device). Here stand the other two, and what shuts out a device that is always silent and a decoder that
+-- are the sentences of 01, each beside its words (specs/ of `frame`, `record`, `session`, `station`, `xid`,
+-- `message`, `poll`, `inform`, `states`, `link`, `speech`, `device`). Here stand the other two, and what shuts out a device that is always silent and a decoder that
 -- refuses everything. Proved by citation. Assumes nothing.
 use mathlib.Core.Path.{_≡_, refl, ap, _∙_}
 use mathlib.Core.Bool.{true, false}
