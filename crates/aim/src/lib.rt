@@ -1,7 +1,7 @@
 // A tilt asked of a drive: whether it is in range, and what becomes of it. The definitions and the laws are those of
 // `antenna`. Assumes nothing of its caller.
-// Headline: a movement starts only where nothing moves or waits and the tilt asked is in range (antenna's
-// proofs/Movements.antt).
+// Headline: a movement starts only where nothing moves or waits and the tilt asked is in range
+// (antenna/proofs/Movements.antt).
 ghost use mathlib.Core.Path.{_≡_};
 ghost use Rattle.antenna.specs.Angles.{atMost};
 ghost use Rattle.antenna.specs.Motions.{inRange, aimOf, started};

@@ -1,5 +1,5 @@
--- Rows of octets compared. The same row, a row under a mask and a padded identity: specs/Identity.antt and
--- specs/Bits.antt of `identity`.
+-- Rows of octets compared. The same row, a row under a mask and a padded identity: identity/specs/Identity.antt
+-- and identity/specs/Bits.antt.
 --   rightmost k s == the k right-most octets of s
 --   endsWith s t  == t isn't longer than s and equals its right-most octets
 -- Assumes nothing.

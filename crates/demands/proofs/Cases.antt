@@ -56,7 +56,7 @@ use Rattle.inform.specs.Inform.{repliedBy, carriedBy, informOf}
 use Rattle.states.specs.States.{informedBy, polledBy}
 use Rattle.states.specs.States.{begun, released, rejected, infoBy, rrBy, connectedBy, isSnrm, assignedBy, linkedBy}
 use Rattle.link.specs.Link.{quiet, ownBy, xidBy, everyoneBy, isOwn, addressedBy, controlledBy, judgedFrame, frameMost}
-use Rattle.conduct.specs.Conduct.{Meeting, frame, event, meets, run, starts}
+use Rattle.conduct.specs.Conduct.{after, Meeting, frame, event, meets, run}
 use Rattle.speech.specs.Speech.{pendingOctets, linkOctets, isSilent, controlBy, payloadBy, frameBy}
 use Rattle.device.specs.Judge.{reacts, judgeRows, judged, sizeOf, toldOf, frameAt, bufferAfter}
 
@@ -87,22 +87,29 @@ heard (i ∷ ids) p = answersScan i (maskOf p) (octetsOf p) || heard ids p
 pub data Row : Type 0 where
   -- with these identities on the cable and this limit, the scan ends so, after so many probes
   ends : List (List ℕ) → ℕ → State → ℕ → Row
-  -- at this tilt, after these frames and events, this frame gets this answer, or silence
-  gets : ℤ → List Meeting → List ℕ → Option (List ℕ) → Row
-  -- at this tilt, after these frames and events, this frame starts no movement
-  rests : ℤ → List Meeting → List ℕ → Row
+  -- at this tilt, after these frames and events, this frame gets this answer
+  gets : ℤ → List Meeting → List ℕ → List ℕ → Row
+  -- .. gets silence, and the device is as it was
+  silent : ℤ → List Meeting → List ℕ → Row
+  -- .. is not carried out: the device is as it was, with its movement
+  idle : ℤ → List Meeting → List ℕ → Row
 
 -- an answer buffer of 76 octets
 abbrev pub buffer : List ℕ
 buffer = replicate frameMost 0
 
+-- the device d says x of the frame f, into that buffer
+abbrev pub Answers : Device → List ℕ → Option (List ℕ) → Type 0
+Answers d f x =
+    let r = judged d f frameMost in (toldOf r ≡ gives (sizeOf x)) × (bufferAfter r buffer ≡ frameAt x buffer)
+
 unfoldable pub Holds : Row → Type 0
 Holds (ends ids limit state count) =
     let last = scan.driven (heard ids) limit (scan.fresh limit) in (last .state ≡ state) × (last .count ≡ count)
-Holds (gets t ms f x) =
-    let r = judged (run (assigned t) ms) f frameMost in
-    (toldOf r ≡ gives (sizeOf x)) × (bufferAfter r buffer ≡ frameAt x buffer)
-Holds (rests t ms f) = starts (run (assigned t) ms) f ≡ false
+Holds (gets t ms f x) = Answers (run (assigned t) ms) f (some x)
+Holds (silent t ms f) =
+    Answers (run (assigned t) ms) f none × (after (run (assigned t) ms) f ≡ run (assigned t) ms)
+Holds (idle t ms f) = after (run (assigned t) ms) f ≡ run (assigned t) ms
 
 unfoldable pub All : List Row → Type 0
 All [] = Unit {0}
@@ -134,25 +141,25 @@ starred =
     ∷ ends (ka ∷ []) 305 Complete 305
     ∷ ends (ka ∷ []) 304 Limit 304
     -- "After SNRM, I-frame 0x10 with 33 02 00 32 00: RR 0x31. Sent again: 0x31, no second movement."
-    ∷ gets (pos 0) (snrm ∷ []) set-50 (some (7 ∷ 0x31 ∷ []))
-    ∷ gets (pos 0) (snrm ∷ frame set-50 ∷ []) set-50 (some (7 ∷ 0x31 ∷ []))
-    ∷ rests (pos 0) (snrm ∷ frame set-50 ∷ []) set-50
+    ∷ gets (pos 0) (snrm ∷ []) set-50 (7 ∷ 0x31 ∷ [])
+    ∷ gets (pos 0) (snrm ∷ frame set-50 ∷ []) set-50 (7 ∷ 0x31 ∷ [])
+    ∷ idle (pos 0) (snrm ∷ frame set-50 ∷ []) set-50
     -- "Stopped at 50, then RR 0x11 from the master: I-frame 0x30 with 33 01 00 00."
-    ∷ gets (pos 0) (snrm ∷ frame set-50 ∷ stopped (pos 50) ∷ []) rr
-    (some (7 ∷ 0x30 ∷ 0x33 ∷ 0x01 ∷ 0x00 ∷ 0x00 ∷ []))
+    ∷ gets (pos 0) (snrm ∷ frame set-50 ∷ frame set-50 ∷ stopped (pos 50) ∷ []) rr
+    (7 ∷ 0x30 ∷ 0x33 ∷ 0x01 ∷ 0x00 ∷ 0x00 ∷ [])
     -- "Stopped at 49: 33 02 00 0B 02."
-    ∷ gets (pos 0) (snrm ∷ frame set-50 ∷ stopped (pos 49) ∷ []) rr
-    (some (7 ∷ 0x30 ∷ 0x33 ∷ 0x02 ∷ 0x00 ∷ 0x0B ∷ 0x02 ∷ []))
+    ∷ gets (pos 0) (snrm ∷ frame set-50 ∷ frame set-50 ∷ stopped (pos 49) ∷ []) rr
+    (7 ∷ 0x30 ∷ 0x33 ∷ 0x02 ∷ 0x00 ∷ 0x0B ∷ 0x02 ∷ [])
     -- "Tilt -15: get tilt gives 34 03 00 00 F1 FF."
     ∷ gets (negsuc 14) (snrm ∷ []) (7 ∷ 0x10 ∷ 0x34 ∷ 0x00 ∷ 0x00 ∷ [])
-    (some (7 ∷ 0x30 ∷ 0x34 ∷ 0x03 ∷ 0x00 ∷ 0x00 ∷ 0xF1 ∷ 0xFF ∷ []))
+    (7 ∷ 0x30 ∷ 0x34 ∷ 0x03 ∷ 0x00 ∷ 0x00 ∷ 0xF1 ∷ 0xFF ∷ [])
     -- "After SNRM, RR 0x71: FRMR payload 71 00 08."
-    ∷ gets (pos 0) (snrm ∷ []) (7 ∷ 0x71 ∷ []) (some (7 ∷ 0x97 ∷ 0x71 ∷ 0x00 ∷ 0x08 ∷ []))
+    ∷ gets (pos 0) (snrm ∷ []) (7 ∷ 0x71 ∷ []) (7 ∷ 0x97 ∷ 0x71 ∷ 0x00 ∷ 0x08 ∷ [])
     -- "Assignment with address value 0 or 255: silence."
-    ∷ gets (pos 0) [] (0xFF ∷ 0xBF ∷ 0x81 ∷ 0xF0 ∷ 3 ∷ 2 ∷ 1 ∷ 0 ∷ []) none
-    ∷ gets (pos 0) [] (0xFF ∷ 0xBF ∷ 0x81 ∷ 0xF0 ∷ 3 ∷ 2 ∷ 1 ∷ 255 ∷ []) none
+    ∷ silent (pos 0) [] (0xFF ∷ 0xBF ∷ 0x81 ∷ 0xF0 ∷ 3 ∷ 2 ∷ 1 ∷ 0 ∷ [])
+    ∷ silent (pos 0) [] (0xFF ∷ 0xBF ∷ 0x81 ∷ 0xF0 ∷ 3 ∷ 2 ∷ 1 ∷ 255 ∷ [])
     -- "Scan value with a bit outside its mask: silence."
-    ∷ gets (pos 0) [] (0xFF ∷ 0xBF ∷ 0x81 ∷ 0xF0 ∷ 6 ∷ 1 ∷ 1 ∷ 0x4B ∷ 3 ∷ 1 ∷ 0x0F ∷ []) none
+    ∷ silent (pos 0) [] (0xFF ∷ 0xBF ∷ 0x81 ∷ 0xF0 ∷ 6 ∷ 1 ∷ 1 ∷ 0x4B ∷ 3 ∷ 1 ∷ 0x0F ∷ [])
     ∷ []
 
 -- ---- the statement
@@ -163,7 +170,7 @@ _also_ a b = (a, b)
 
 pub starred-hold : All starred
 unfolding All Holds heard scan.driven scan.fresh scan.ended scan.over scan.reported standsAt step stepIn noted listing
-    goOn next carry zeroHalf named word packed rowsOf flat phaseOf stateOf starts fresh assigned run meets judged
+    goOn next carry zeroHalf named word packed rowsOf flat phaseOf stateOf fresh assigned run meets judged
     judgeRows judgedFrame controlledBy addressedBy isOwn everyoneBy xidBy ownBy quiet linkedBy isSnrm assignedBy connectedBy
     rrBy infoBy rejected released begun pollOf waitingPoll informedBy informOf carriedBy repliedBy polledBy saying
     deviceOf acknowledged sessionAfter stationAfter resent awaiting answersWith heeded pends acknowledges goodNumber
@@ -179,5 +186,5 @@ unfolding All Holds heard scan.driven scan.fresh scan.ended scan.over scan.repor
     controlBy payloadBy frameBy reacts sizeOf toldOf frameAt bufferAfter
 starred-hold =
     (refl, refl) also (refl, refl) also (refl, refl) also (refl, refl) also (refl, refl) also (refl, refl) also refl
-    also (refl, refl) also (refl, refl) also (refl, refl) also (refl, refl) also (refl, refl) also (refl, refl)
-    also (refl, refl) also tt
+    also (refl, refl) also (refl, refl) also (refl, refl) also (refl, refl) also ((refl, refl), refl)
+    also ((refl, refl), refl) also ((refl, refl), refl) also tt

@@ -1,8 +1,10 @@
 -- Demand 1. "Any octets, from any master or from noise, get a defined answer: a frame, silence, or a numbered refusal.
 -- Nothing relies on the caller having checked. A refusal changes no device, no scan and no octet of the caller's
 -- buffers."
--- No public function has a `requires`: what follows is of any octets, any record of a device and of a scan, any lent
--- buffer, and of every result that a promise allows. Proved by citation. Assumes nothing.
+-- Of every public function that can refuse, what a caller learns of its promise, as the source states it (`Learnt`, with the
+-- arguments a, the result r and the exits s in the order of the parameters), is what this page says of it: for any
+-- octets, any record of a device and of a scan, any lent buffer. That nothing is asked of the caller stands beside it.
+-- Proved by citation. Assumes nothing.
 use mathlib.Core.Path.{_≡_, refl, sym, ap, _∙_}
 use mathlib.Core.Bool.{Bool, true, false}
 use mathlib.Core.List.{List, [], _∷_}
@@ -10,11 +12,31 @@ use mathlib.Core.Logic.{_↔_, Iff·trans, _⊎_}
 use Prim.Native.Nat.{ℕ, _<_, _≤_}
 use lib.ListN.{length, getD}
 use Rattle.octets.specs.Octets.{holds, _atStartOf_}
-use Rattle.refusal.specs.Answer.{Answer, gives, refuses, Hands, Changes}
+use Rattle.refusal.specs.Answer.{Answer, gives, refuses, handedOut, answerOf, counted, outAfter, Hands, Changes}
+use Rattle.refusal.specs.Numbers.{numberOf}
 use Rattle.refusal.specs.declared.Refusal.{Refusal}
-use Rattle.refusal.specs.declared.Handed as handed
-use Rattle.refusal.specs.declared.Outcome as outcome
-use Rattle.refusal.proofs.Answers.{refusal-told, unchange-told}
+use Rattle.refusal.specs.declared.Handed.{Handed}
+use Rattle.refusal.specs.declared.Outcome.{Outcome}
+use Rattle.refusal.proofs.Answers.{gives-not-refuses, gives-same, refusal-told, change-told, unchange-told}
+use Rattle.refusal.proofs.hand_out.Reads as hand-out-reads
+use denote.Ref.{now}
+use Rattle.capi.proofs.Tells.{Tells, decode-tells, write-tells}
+use Rattle.capi.proofs.gorittaem_decode.Reads as c-decode-reads
+use Rattle.capi.proofs.gorittaem_write.Reads as c-write-reads
+use Rattle.frame.proofs.decode.Reads as decode-reads
+use Rattle.writer.proofs.write.Reads as write-reads
+use Rattle.scan.proofs.probe.Reads as probe-reads
+use Rattle.scanner.proofs.report.Reads as report-reads
+use Rattle.fresh.proofs.fresh.Reads as fresh-reads
+use Rattle.event.proofs.happen.Reads as happen-reads
+use Rattle.motor.proofs.stopped.Reads as stopped-reads
+use Rattle.alarms.proofs.alarmed.Reads as alarmed-reads
+use Rattle.device.proofs.judge.Reads as judge-reads
+use Rattle.device.proofs.hear.Reads as hear-reads
+use Rattle.drives.proofs.obey.Reads as obey-reads
+use Rattle.drives.specs.Drives.{After, replyOf}
+use Rattle.drives.proofs.Keeps.{isNo, no-keeps}
+use Rattle.antenna.specs.Events.{stoppedAt, alarmedOf}
 use Rattle.frame.specs.Line.{broken, plain}
 use Rattle.frame.specs.Decode.{body, rightCheck, decoded}
 use Rattle.frame.specs.Write.{lineOf, written}
@@ -40,7 +62,28 @@ use Rattle.device.proofs.Exact.{judge-6, judge-5, judge-answer, hear-4, hear-1,
 use Rattle.device.proofs.Exact.{hear-answer, refused-keeps, silence-keeps, frame-tells}
 use Rattle.device.proofs.Fits.{answer-fits}
 
--- ---- "a defined answer: a frame, silence, or a numbered refusal"
+-- ---- the three ways
+
+-- octets handed out, as the answer x has them, at the start of the lent output o, which is o' afterwards; or the number
+-- of x, and the output as it was
+pub data Hands-out (x : Answer (List ℕ)) (o : List ℕ) (r : Handed) (o' : List ℕ) : Type 0 where
+  handed : (b : List ℕ) → x ≡ gives b → r ≡ Handed.Octets (length b) → o' ≡ b atStartOf o → Hands-out x o r o'
+  refusal : (k : Refusal) → x ≡ refuses (numberOf k) → r ≡ Handed.Refused k → o' ≡ o → Hands-out x o r o'
+
+hands-out : {o o' : List ℕ} (x : Answer (List ℕ)) (r : Handed) → Hands x o r o' → Hands-out x o r o'
+unfolding answerOf counted outAfter
+hands-out (gives b) (Handed.Octets n) h = handed b refl (ap Handed.Octets (gives-same (h .answer))) (h .octets)
+hands-out (refuses k) (Handed.Octets n) h = absurd (gives-not-refuses (h .answer))
+hands-out x (Handed.Refused k) h = let (number, same) = refusal-told x h in refusal k number refl same
+
+-- a state changed, as the answer x has it; or the number of x, and the state s as it was
+pub data Changes-to {S : Type 0} (x : Answer S) (s : S) (r : Outcome) (s' : S) : Type 0 where
+  done : x ≡ gives s' → r ≡ Outcome.Done → Changes-to x s r s'
+  refusal : (k : Refusal) → x ≡ refuses (numberOf k) → r ≡ Outcome.Refused k → s' ≡ s → Changes-to x s r s'
+
+changes-to : {S : Type 0} {s s' : S} (x : Answer S) (r : Outcome) → Changes x s r s' → Changes-to x s r s'
+changes-to x Outcome.Done c = done (change-told x c) refl
+changes-to x (Outcome.Refused k) c = let (number, same) = unchange-told x c in refusal k number refl same
 
 -- what becomes of the device d and of the answer buffer o: r and o'
 pub data Defined (d : Device) (o : List ℕ) (r : Judged) (o' : List ℕ) : Type 0 where
@@ -69,60 +112,86 @@ defined x d f o {r} {o'} came w = go (r .said) refl
         (address ∙ there ∙ sym (ap (λ (b : Device). b .station .address) device)) octets
     go (Refused k) e = let (number, device, octets) = refused-keeps x k e w in refusal k e device octets
 
-module _ (d : Device) (octets o : List ℕ) {r : Judged} {o' : List ℕ} where
-  -- octets from between two flags
-  pub hear-defined : Judges (heard d octets (length o)) d o r o' → Defined d o r o'
-  hear-defined =
-      defined (heard d octets (length o)) d (body (plain octets)) o
-      (λ y e. let g = hear-answer d octets (length o) y .0 e in (g .1, g .3))
+-- ---- of each public function that can refuse: "a defined answer", and "A refusal changes no device, no scan and no octet
+-- of the caller's buffers"
 
-  -- octets that are taken for a decoded frame
-  pub judge-defined : Judges (judged d octets (length o)) d o r o' → Defined d o r o'
-  judge-defined =
-      defined (judged d octets (length o)) d octets o
-      (λ y e. let g = judge-answer d octets (length o) y .0 e in (g .0, g .2))
+-- octets from between two flags, heard by a device; octets that are taken for a decoded frame
+pub hear-defined : (κs : _) (a : _) (r : _) (s : _) → hear-reads.Learnt κs a r s
+    → Defined (a .0) (now (a .1 .1 .0)) r (now (s .1 .1 .0))
+hear-defined κs a r s =
+    let line = now (a .1 .0) in
+    let room = length (now (a .1 .1 .0)) in
+    defined (heard (a .0) line room) (a .0) (body (plain line)) (now (a .1 .1 .0))
+    (λ y e. let g = hear-answer (a .0) line room y .0 e in (g .1, g .3))
 
--- the decoder alone: address, control and payload, or one of its numbers
-pub decode-defined : (s : List ℕ) (room : ℕ) → (decoded 78 s room ≡ gives (body (plain s)))
-    ⊎ ((k : ℕ) × (holds k (4 ∷ 1 ∷ 2 ∷ 3 ∷ 5 ∷ []) ≡ true) × (decoded 78 s room ≡ refuses k))
-decode-defined s room = decode-all 78 s room
+pub judge-defined : (κs : _) (a : _) (r : _) (s : _) → judge-reads.Learnt κs a r s
+    → Defined (a .0) (now (a .1 .1 .0)) r (now (s .1 .1 .0))
+judge-defined κs a r s =
+    let f = now (a .1 .0) in
+    let room = length (now (a .1 .1 .0)) in
+    defined (judged (a .0) f room) (a .0) f (now (a .1 .1 .0))
+    (λ y e. let g = judge-answer (a .0) f room y .0 e in (g .0, g .2))
 
--- ---- "A refusal changes no device, no scan and no octet of the caller's buffers"
+-- the codec
+pub decode-answers : (κs : _) (a : _) (r : _) (s : _) → decode-reads.Learnt κs a r s
+    → Hands-out (decoded 78 (now (a .0)) (length (now (a .1 .0)))) (now (a .1 .0)) r (now (s .1 .0))
+decode-answers κs a r s = hands-out _ r
 
-module _ {k : Refusal} where
-  pub decode-refused : (s o : List ℕ) {o' : List ℕ} → Hands (decoded 78 s (length o)) o (handed.Handed.Refused k) o'
-      → o' ≡ o
-  decode-refused s o w = refusal-told _ w .1
+pub write-answers : (κs : _) (a : _) (r : _) (s : _) → write-reads.Learnt κs a r s
+    → Hands-out (written 78 (a .0) (a .1 .0) (now (a .1 .1 .0)) (length (now (a .1 .1 .1 .0)))) (now (a .1 .1 .1 .0)) r
+    (now (s .1 .1 .1 .0))
+write-answers κs a r s = hands-out _ r
 
-  pub write-refused : (a c : ℕ) (p o : List ℕ) {o' : List ℕ}
-      → Hands (written 78 a c p (length o)) o (handed.Handed.Refused k) o' → o' ≡ o
-  write-refused a c p o w = refusal-told _ w .1
+pub hand-out-answers : (κs : _) (a : _) (r : _) (s : _) → hand-out-reads.Learnt κs a r s
+    → Hands-out (handedOut (now (a .0)) (length (now (a .1 .0)))) (now (a .1 .0)) r (now (s .1 .0))
+hand-out-answers κs a r s = hands-out _ r
 
-  pub judge-refused : (d : Device) (f o : List ℕ) {r : Judged} {o' : List ℕ} → r .said ≡ Refused k
-      → Judges (judged d f (length o)) d o r o' → (r .device ≡ d) × (o' ≡ o)
-  judge-refused d f o e w = let (number, device, octets) = refused-keeps _ k e w in (device, octets)
+-- the codec, to a program in C: the number tells the answer
+pub c-decode-answers : (κs : _) (a : _) (r : _) (s : _) → c-decode-reads.Learnt κs a r s
+    → Tells (decoded 78 (now (a .0)) (length (now (a .1 .0)))) (now (a .1 .0)) r (now (s .1 .0))
+c-decode-answers κs a r s = decode-tells (now (a .0)) (length (now (a .1 .0)))
 
-  pub hear-refused : (d : Device) (line o : List ℕ) {r : Judged} {o' : List ℕ} → r .said ≡ Refused k
-      → Judges (heard d line (length o)) d o r o' → (r .device ≡ d) × (o' ≡ o)
-  hear-refused d line o e w = let (number, device, octets) = refused-keeps _ k e w in (device, octets)
+pub c-write-answers : (κs : _) (a : _) (r : _) (s : _) → c-write-reads.Learnt κs a r s
+    → Tells (written 78 (a .0) (a .1 .0) (now (a .1 .1 .0)) (length (now (a .1 .1 .1 .0)))) (now (a .1 .1 .1 .0)) r
+    (now (s .1 .1 .1 .0))
+c-write-answers κs a r s = write-tells (a .0) (a .1 .0) (now (a .1 .1 .0)) (length (now (a .1 .1 .1 .0)))
 
-  pub event-refused : (d : Device) (e : Event) {d' : Device}
-      → Changes (happened d e) d (outcome.Outcome.Refused k) d' → d' ≡ d
-  event-refused d e w = unchange-told _ w .1
+-- a scan: asking changes nothing in it, so it is not handed back
+pub probe-answers : (κs : _) (a : _) (r : _) (s : _) → probe-reads.Learnt κs a r s
+    → Hands-out (probed (a .0) (length (now (a .1 .0)))) (now (a .1 .0)) r (now (s .1 .0))
+probe-answers κs a r s = hands-out _ r
 
-  -- there is no device yet: a constant record stands beside the number
-  pub fresh-refused : (i p h s : List ℕ) (w : Span) {d : Device}
-      → Changes (freshOf i p h s w) blankDevice (outcome.Outcome.Refused k) d → d ≡ blankDevice
-  fresh-refused i p h s w c = unchange-told _ c .1
+pub report-answers : (κs : _) (a : _) (r : _) (s : _) → report-reads.Learnt κs a r s
+    → Changes-to (reported (a .0) (a .1 .0)) (a .0) (r .outcome) (r .scan)
+report-answers κs a r s = changes-to _ (r .outcome)
 
-  -- the scan is not handed back: asking changes nothing in it
-  pub probe-refused : (s : Scan) (o : List ℕ) {o' : List ℕ}
-      → Hands (probed s (length o)) o (handed.Handed.Refused k) o' → o' ≡ o
-  probe-refused s o w = refusal-told _ w .1
+-- a device: a fresh one (there is none before it: a constant record stands beside the number), and what happens to it
+pub fresh-answers : (κs : _) (a : _) (r : _) (s : _) → fresh-reads.Learnt κs a r s
+    → Changes-to (freshOf (now (a .0)) (now (a .1 .0)) (now (a .1 .1 .0)) (now (a .1 .1 .1 .0)) (a .1 .1 .1 .1 .0))
+    blankDevice (r .outcome) (r .device)
+fresh-answers κs a r s = changes-to _ (r .outcome)
 
-  pub report-refused : (s : Scan) (a : Bool) {t : Scan}
-      → Changes (reported s a) s (outcome.Outcome.Refused k) t → t ≡ s
-  report-refused s a w = unchange-told _ w .1
+pub happen-answers : (κs : _) (a : _) (r : _) (s : _) → happen-reads.Learnt κs a r s
+    → Changes-to (happened (a .0) (a .1 .0)) (a .0) (r .outcome) (r .device)
+happen-answers κs a r s = changes-to _ (r .outcome)
+
+-- what happens to one drive
+pub stopped-answers : (κs : _) (a : _) (r : _) (s : _) → stopped-reads.Learnt κs a r s
+    → Changes-to (stoppedAt (a .0) (a .1 .0)) (a .0) (r .outcome) (r .antenna)
+stopped-answers κs a r s = changes-to _ (r .outcome)
+
+pub alarmed-answers : (κs : _) (a : _) (r : _) (s : _) → alarmed-reads.Learnt κs a r s
+    → Changes-to (alarmedOf (a .0) (a .1 .0) (a .1 .1 .0)) (a .0) (r .outcome) (r .antenna)
+alarmed-answers κs a r s = changes-to _ (r .outcome)
+
+-- a command to a row of devices: a "no" leaves the row and every lent octet as they were
+pub obey-keeps : (κs : _) (a : _) (r : _) (s : _) → obey-reads.Learnt κs a r s → isNo (replyOf (r .answer)) ≡ true
+    → (r .row ≡ a .0) × (now (s .1 .1 .1 .1 .0) ≡ now (a .1 .1 .1 .1 .0))
+obey-keeps κs a r s w said =
+    let kept =
+    no-keeps (a .0) (now (a .1 .1 .1 .1 .0)) (a .1 .0) (a .1 .1 .0) (now (a .1 .1 .1 .0))
+    (sym (ap (λ (x : After). isNo (x .reply)) (w .after)) ∙ said) in
+    (ap (λ (x : After). x .row) (w .after) ∙ kept .0, w .lent ∙ kept .1)
 
 -- ---- which number, "each exactly then", in the order of 01: "The decoder tests 4, 1, 2, 3, 5"
 

@@ -1,10 +1,10 @@
 -- Demand 2. "Frames, link states, address matching and commands do what document 01 says. A frame that we write reads
 -- back as what was put in. A tilt command is carried out only when its number is the next one due."
 -- The first sentence is the promises: each function is proved to give what its definition says, and the definitions
--- are the sentences of 01, each beside its words (specs/ of frame, record, session, station, xid, message, turn, link,
--- speech, device). Here stand the other two, and what shuts out a device that is always silent and a decoder that
+-- are the sentences of 01, each beside its words (specs/ of `frame`, `record`, `session`, `station`, `xid`,
+-- `message`, `poll`, `inform`, `states`, `link`, `speech`, `device`). Here stand the other two, and what shuts out a device that is always silent and a decoder that
 -- refuses everything. Proved by citation. Assumes nothing.
-use mathlib.Core.Path.{_≡_, ap, _∙_}
+use mathlib.Core.Path.{_≡_, refl, ap, _∙_}
 use mathlib.Core.Bool.{true, false}
 use mathlib.Core.List.{List, [], _∷_}
 use mathlib.Core.Logic.{_↔_}
@@ -12,13 +12,18 @@ use mathlib.Core.Option.{some}
 use Prim.Native.Nat.{ℕ, _+_, _≤_}
 use native.Mathlib.Omega.{arith}
 use lib.ListN.{length, take, drop}
-use Rattle.octets.specs.Octets.{Octets}
-use Rattle.refusal.specs.Answer.{gives, Hands}
+use Rattle.octets.specs.Octets.{Octets, _atStartOf_}
+use Rattle.refusal.specs.Answer.{gives, outAfter}
 use Rattle.refusal.specs.declared.Handed.{Handed}
-use Rattle.refusal.proofs.Answers.{in-room}
+use Rattle.refusal.proofs.Answers.{in-room, handed, octets-told, hands-is}
+use Rattle.refusal.proofs.Only.{hands-only}
+use denote.Ref.{now}
+use Rattle.frame.proofs.decode.Reads as decode-reads
+use Rattle.writer.proofs.write.Reads as write-reads
 use Rattle.frame.specs.Line.{Needed, inside}
 use Rattle.frame.specs.Decode.{decoded}
 use Rattle.frame.specs.Write.{lineOf, written}
+use Rattle.frame.proofs.Exact.{write-line}
 use Rattle.frame.proofs.Lengths.{write-fits}
 use Rattle.frame.proofs.Trip.{trip, round-trip}
 use Rattle.frame.proofs.Unique.{unique}
@@ -54,13 +59,23 @@ use Rattle.device.proofs.Fits.{address-fits}
 
 -- ---- "A frame that we write reads back as what was put in"
 
--- of the code: whatever `write` gave for an address, a control and a payload of at most 74 octets, `decode` gives those
-pub written-reads-back : (a c : ℕ) (p : List ℕ) (o o' u u' : List ℕ) {n : ℕ} {r : Handed}
-    → Octets (a ∷ c ∷ p) → length p ≤ 74 → length p + 2 ≤ length u
-    → Hands (written 78 a c p (length o)) o (Handed.Octets n) o'
-    → Hands (decoded 78 (inside (take n o')) (length u)) u r u'
-    → Hands (gives (a ∷ c ∷ p)) u r u'
-written-reads-back = round-trip
+-- of the code: whatever `write` hands out for an address, a control and a payload, `decode` gives those for what lies
+-- between its flags, into any output that has room for them. Of both, all that is used is what their callers learn.
+pub written-reads-back : (κs : _) (a : _) (n : ℕ) (s : _) (κs' : _) (a' : _) (r : _) (s' : _)
+    → write-reads.Learnt κs a (Handed.Octets n) s → decode-reads.Learnt κs' a' r s'
+    → Octets (a .0 ∷ a .1 .0 ∷ now (a .1 .1 .0)) → now (a' .0) ≡ inside (take n (now (s .1 .1 .1 .0)))
+    → length (now (a .1 .1 .0)) + 2 ≤ length (now (a' .1 .0))
+    → (r ≡ Handed.Octets (length (now (a .1 .1 .0)) + 2))
+    × (now (s' .1 .0) ≡ (a .0 ∷ a .1 .0 ∷ now (a .1 .1 .0)) atStartOf now (a' .1 .0))
+unfolding outAfter
+written-reads-back κs a n s κs' a' r s' w v os e h =
+    let fits = write-line 78 (a .0) (a .1 .0) (now (a .1 .1 .0)) _ _ .0 (octets-told _ w .0) .0 in
+    let u = now (a' .1 .0) in
+    let back =
+    round-trip (a .0) (a .1 .0) (now (a .1 .1 .0)) _ _ _ _ os fits h w
+    (hands-is (ap (λ (l : List ℕ). decoded 78 l (length u)) e) v) in
+    let out = hands-only back (handed (a .0 ∷ a .1 .0 ∷ now (a .1 .1 .0)) refl (omega arith) refl) in
+    (out .0 ∙ ap Handed.Octets (omega arith), back .octets)
 
 -- another line may decode alike, but only by needless escapes
 pub one-line : (room : ℕ) (s b : List ℕ) → Octets s → Needed s → decoded 78 s room ≡ gives b → s ≡ inside (lineOf b)

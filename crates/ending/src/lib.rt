@@ -1,6 +1,6 @@
 // What a session's end leaves of a device. The definitions and the laws are those of `record`.
 // Assumes nothing of its caller: any record of the type may be handed in.
-// Headline: an allowed record stays allowed at a session's end (record's proofs/Stays.antt).
+// Headline: an allowed record stays allowed at a session's end (record/proofs/Stays.antt).
 ghost use mathlib.Core.Path.{_≡_};
 ghost use Rattle.record.specs.Fresh.{calm, noReply};
 ghost use Rattle.record.specs.Changes.{unsaidAt, endedAs};

@@ -1,7 +1,7 @@
 // What happens to a device: the motor stopped, an alarm rose, an alarm fell. The definitions and the laws are those of
 // `record`. Assumes nothing of its caller: any record of the type may be handed in.
-// Headline: an allowed record stays allowed under every event; 6 and 8 are given exactly when 01 says (record's
-// proofs/Stays.antt, Only.antt).
+// Headline: an allowed record stays allowed under every event; 6 and 8 are given exactly when 01 says
+// (record/proofs/Stays.antt, record/proofs/Only.antt).
 ghost use Rattle.refusal.specs.Answer.{Changes};
 ghost use Rattle.record.specs.Changes.{antennaHappened, happened};
 use antenna::Antenna;

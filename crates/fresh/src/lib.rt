@@ -1,7 +1,7 @@
 // A fresh device: its data judged, its texts laid into a plate, its station empty, its antenna still. The definitions
 // and the laws are those of `record`. Assumes nothing of its caller.
-// Headline: a fresh device is allowed, and 6 is given exactly where its data is not (record's proofs/Stays.antt,
-// Only.antt).
+// Headline: a fresh device is allowed, and 6 is given exactly where its data is not (record/proofs/Stays.antt,
+// record/proofs/Only.antt).
 ghost use mathlib.Core.Path.{_≡_};
 ghost use mathlib.Core.Bool.{true};
 ghost use Prim.Native.Nat.{_≤_};

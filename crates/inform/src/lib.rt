@@ -1,6 +1,6 @@
 // An I-frame in a session.
 // Headline: a message is carried out only where its number is the next one due and nothing is pending, and R then moves
-// on by one (proofs/Due.antt of conduct). Assumes nothing of its caller.
+// on by one (conduct/proofs/Due.antt). Assumes nothing of its caller.
 ghost use mathlib.Core.Path.{_≡_};
 ghost use Rattle.session.specs.Session.{accepts, taken};
 ghost use Rattle.inform.specs.Inform.{heedOf, carriedHere, repliedBy, carriedBy, informOf};

@@ -1,6 +1,6 @@
 // The link: what a decoded frame does to a device, and what the device says; the octets of that are laid out above.
-// Headline: a frame starts a movement exactly if it is a set tilt that is the next one due (proofs/Due.antt of conduct);
-// an allowed device stays allowed (proofs/Stays.antt of conduct). Assumes nothing of its caller.
+// Headline: a frame starts a movement exactly if it is a set tilt that is the next one due (conduct/proofs/Due.antt);
+// an allowed device stays allowed (conduct/proofs/Stays.antt). Assumes nothing of its caller.
 ghost use mathlib.Core.Path.{_≡_};
 ghost use Rattle.station.specs.Turns.{saying};
 ghost use Rattle.link.specs.Link.{quiet, ownBy, xidBy, everyoneBy, isOwn, addressedBy, controlledBy};

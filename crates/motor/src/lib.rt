@@ -1,6 +1,6 @@
 // A drive's motor stops. The definitions and the laws are those of `antenna`. Assumes nothing of its caller.
 // Headline: a stop makes a result that waits exactly where one was owed, and a success exactly if it is at the tilt asked
-// (antenna's proofs/Movements.antt).
+// (antenna/proofs/Movements.antt).
 ghost use mathlib.Core.Path.{_≡_};
 ghost use Rattle.refusal.specs.Answer.{Changes};
 ghost use Rattle.antenna.specs.Angles.{atMost, sameAs};

@@ -1,5 +1,5 @@
 // A session's numbers: what is pending, and which N(R) acknowledges it. Assumes nothing of its caller: any numbers.
-// Headline: R moves only where an I-frame is accepted, S only where an answer is acknowledged (proofs/Numbers.antt).
+// Headline: R moves only where an I-frame is accepted, S only where an answer is acknowledged (conduct/proofs/Numbers.antt).
 ghost use mathlib.Core.Path.{_≡_};
 ghost use Rattle.session.specs.Session.{pends, acknowledges};
 use record::Pending;

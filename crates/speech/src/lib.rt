@@ -1,5 +1,5 @@
 // What a device says, as the octets of a frame: address, control, payload.
-// Headline: an answer has at most 76 octets and carries the device's address (proofs/Lengths.antt).
+// Headline: an answer has at most 76 octets and carries the device's address (device/proofs/Fits.antt).
 // Assumes nothing of its caller.
 ghost use mathlib.Core.Path.{_≡_};
 ghost use mathlib.Core.List.{[], _∷_};
