@@ -32,6 +32,8 @@ pub use Rattle.conduct.proofs.Runs.{run-allowed, never-refused, event-never-ref
 -- ---- conduct: what comes of any frame; a tilt only when due, and never again; R and S; results and alarms; sessions' ends
 pub use Rattle.conduct.proofs.Comes.{comes, comes-so, comes-leaves, comes-says, unaccepted-leaves, ends-leaves}
 pub use Rattle.conduct.proofs.Comes.{silence-exactly, silence-keeps as silence-leaves}
+pub use Rattle.conduct.proofs.Account.{account, session-kept}
+pub use Rattle.conduct.proofs.Motions.{owing-exactly, motion-cases}
 pub use Rattle.conduct.proofs.Due.{starts-exactly, due-moves-on}
 pub use Rattle.conduct.proofs.Again.{accepted-again-after, starts-once}
 pub use Rattle.conduct.proofs.Numbers.{r-moves-exactly, r-stays-exactly, s-moves-exactly, s-stays-exactly}
@@ -51,8 +53,11 @@ pub use Rattle.bus.proofs.Needs.{installed-exactly}
 pub use Rattle.bus.proofs.Job.{scan-installed, job-done}
 pub use Rattle.bus.proofs.Examples.{condition-needed, longer-later}
 -- ---- the demands
-pub use Rattle.demands.proofs.One.{hear-defined, judge-defined}
-pub use Rattle.demands.proofs.Two.{written-reads-back, written-heard, tilt-exactly, tilt-number, tilt-once}
+pub use Rattle.demands.proofs.One.{hear-defined, judge-defined, decode-answers, write-answers, hand-out-answers}
+pub use Rattle.demands.proofs.One.{c-decode-answers, c-write-answers, probe-answers, report-answers, fresh-answers}
+pub use Rattle.demands.proofs.One.{happen-answers, stopped-answers, alarmed-answers, obey-keeps}
+pub use Rattle.demands.proofs.Two.{written-reads-back, written-heard, tilt-exactly, tilt-owed, tilt-number, tilt-once}
+pub use Rattle.demands.proofs.Two.{not-accepted, some-case, each-case, changes, silent-same}
 pub use Rattle.demands.proofs.Two.{snrm-heard, never-unallowed}
 pub use Rattle.demands.proofs.Three.{complete-exactly, complete-count, complete-lists, never-more, probes-sent}
 pub use Rattle.demands.proofs.Cable.{heard-when, whole-row, installer}

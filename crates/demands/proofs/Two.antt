@@ -35,18 +35,27 @@ use Rattle.record.specs.declared.Device.{Device}
 use Rattle.record.specs.declared.Event.{Event}
 use Rattle.record.specs.Allowed.{allowedDevice}
 use Rattle.record.specs.Changes.{unsaidAt, endedAs}
-use Rattle.session.specs.Session.{goodNumber}
+use Rattle.session.specs.Session.{goodNumber, accepts}
 use Rattle.session.proofs.Numbers.{accepts-exactly}
-use Rattle.acknowledge.specs.Acknowledge.{sessionAfter}
-use Rattle.message.specs.Messages.{Due}
+use Rattle.acknowledge.specs.Acknowledge.{sessionAfter, acknowledged}
+use Rattle.message.specs.Messages.{askedOf, Due}
 use Rattle.xid.specs.Meaning.{Answers, Takes}
 use Rattle.xid.specs.Match.{readOf}
 use Rattle.xid.specs.declared.Xid.the-variants as xid
 use Rattle.xid.proofs.Exactly.{scan-exactly, assignment-exactly}
 use Rattle.station.specs.Turns.{saying}
 use Rattle.states.specs.States.{begun, newSession}
-use Rattle.link.specs.Frames.{controlOf, hasAddress}
+use Rattle.link.specs.Frames.{controlOf, hasAddress, Numbered}
 use Rattle.conduct.specs.Conduct.{after, starts, TiltDue, TiltStarted, occurAll, Meeting, run}
+use Rattle.conduct.specs.Comes.{Comes, left, says}
+use Rattle.conduct.specs.Account.{Account}
+use Rattle.conduct.proofs.Comes.{comes, comes-so, silence-keeps, unaccepted-leaves}
+use Rattle.conduct.proofs.Motions.{owing-exactly}
+use Rattle.conduct.proofs.Account.{account}
+use Rattle.station.specs.declared.Say.{Say}
+use Rattle.antenna.specs.declared.Angle.{Angle}
+use Rattle.antenna.specs.declared.Motion.the-variants.{Owing}
+use Rattle.link.specs.Link.{judgedFrame}
 use Rattle.conduct.proofs.Settles.{r-kept}
 use Rattle.conduct.proofs.Runs.{run-allowed}
 use Rattle.conduct.proofs.Due.{starts-exactly, due-moves-on}
@@ -119,6 +128,17 @@ module _ (d : Device) (f : List ℕ) where
         w .message,
       )
 
+  -- over the motion: after a frame a movement towards t is owed and was not before exactly if the frame is such a one and
+  -- asks t. So no other frame starts a movement, and none aims a running one anew.
+  pub tilt-owed : (t : Angle) → (after d f .antenna .motion ≡ Owing t) × (d .antenna .motion ≡ Owing t → ⊥)
+      ↔ TiltDue d f × (askedOf (drop 2 f) ≡ t)
+  tilt-owed = owing-exactly d f
+
+  -- "Any other isn't carried out and moves nothing": what it acknowledges is removed, and nothing else changes
+  pub not-accepted : (s : Session) (n r : ℕ) → Numbered d f (Info n r) r s → accepts (sessionAfter s r) n ≡ false
+      → after d f ≡ acknowledged d s r
+  not-accepted = unaccepted-leaves d f
+
   -- R has moved on, RR is said, and the rest of the device is as it was
   pub tilt-started : (w : TiltDue d f) → TiltStarted d f (w .session) (w .nr)
   tilt-started = due-moves-on d f
@@ -126,6 +146,24 @@ module _ (d : Device) (f : List ℕ) where
   -- the same frame again, whatever events come between, starts none
   pub tilt-once : (es : List Event) → starts d f ≡ true → starts (occurAll (after d f) es) f ≡ false
   tilt-once es = starts-once d f es
+
+-- ---- "link states .. and commands": what a frame may change, whole
+
+module _ (d : Device) (f : List ℕ) where
+  -- every frame is one of the cases of 01's section "The link" to a device, and leaves and says what its case has
+  pub some-case : Comes d f
+  some-case = comes d f
+
+  pub each-case : (c : Comes d f) → judgedFrame d f ≡ saying (left d f c) (says d f c)
+  each-case = comes-so d f
+
+  -- part by part: when exactly address, link state, R and S, alarms, subscription, motion and what is pending change
+  pub changes : Account d f
+  changes = account d f
+
+  -- silence changes no device
+  pub silent-same : judgedFrame d f .say ≡ Say.Silence → after d f ≡ d
+  silent-same = silence-keeps d f
 
 -- ---- "address matching"
 
