@@ -16,6 +16,7 @@ use Rattle.scan.specs.Record.{room, stateOf, beginningOf}
 use Rattle.scan.specs.Scan.{fresh, ended, probeOf, probed, driven}
 use Rattle.whole_scan.specs.Demand.{AnyScan, AnyScans}
 use Rattle.scan.proofs.Probes.{probed-open}
+use Rattle.whole_scan.proofs.Exactly.{new-driven-exactly}
 use Rattle.whole_scan.proofs.Drives.{Driven, drives-new}
 use Rattle.whole_scan.proofs.Ends.{full-of, limit-of, complete-of, doubtful-of, ended-of}
 use Rattle.whole_scan.proofs.Ends.{count-is, state-is, beginning-is, list-is, asks-open}
@@ -48,6 +49,7 @@ module _ (limit : ℕ) (heard : Bits → Bool) where
       let d = after limit in
       let x = (walk limit) .phase in
       record {
+        exactly = new-driven-exactly heard limit;
         count = count-is d ∙ any .count;
         list = list-is d ∙ any .list
             ∙ ap (λ (n : ℕ). map octetsOf (take room (hits (take n ms)))) (sym (count-is d));
