@@ -48,7 +48,7 @@ module _ (ds : List Device) (c : Cabled ds) (limit : ℕ) where
   abbrev asks : List Bits
   asks = beginningsOf (order (heardOn ds) depth [])
 
-  -- a line goes out at the turn i exactly if i is below the count: it is the i-th beginning's; at any other turn none does
+  -- a turn gives a probe exactly if fewer than `count` went before it, and then the one of the next beginning
   pub turn-gives : (i : ℕ) → i < count
       → probed (probesAsked i (started limit ds) .scan) 47 ≡ gives (probeOf (getD asks i []))
   turn-gives i h =

@@ -4,7 +4,7 @@
 --   oneProbe b       == one probe: the scanner gives it, the master writes it, all devices hear it, and whether one
 --                       answered is reported to the scan; a scan that gives no probe asks none
 --   probesAsked n b  == n probes, one after the other
---   linesSent n b    == the lines that the master writes in n such turns; linesBy x == the line of the probe that x gives
+--   linesSent n b    == the lines that go out in these n turns; linesBy x == the line of the probe that x gives
 --   started limit ds == a new scan with the limit, on the cable of ds; scanned limit ds == the same, run to its end
 -- Assumes nothing.
 use mathlib.Core.List.{List, [], _∷_, _++_}

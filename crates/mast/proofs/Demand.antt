@@ -40,7 +40,7 @@ module _ (row : Row) (limit : ℕ) (c : Cabled (onCable row)) where
   unfolding swept sweptBy
   sweep-row = scan-row (onCable row) c limit
 
-  -- and what holds by any answers at all: exactly so many probes as are counted, their order, and that none is sent twice
+  -- and what holds by any answers at all: exactly as many probes as it counts, their order, and none twice
   pub sweep-any : AnyScan limit (heardOn (onCable row)) (swept row limit .scan)
       (λ i. probesAsked i (started limit (onCable row)) .scan) (order (heardOn (onCable row)) depth [])
   unfolding swept sweptBy

@@ -33,7 +33,9 @@ module _ {A : Type 0} (name : Bits → A) (d cap : ℕ) where
 
   -- a walk that has ended takes no answer; one that has not counts it
   abbrev Takes : Walk A → Bool → Type 0
-  Takes s a = (Ended (s .phase) × (take-in s a ≡ s)) ⊎ ((Ended (s .phase) → ⊥) × ((take-in s a) .count ≡ suc (s .count)))
+  Takes s a =
+      (Ended (s .phase) × (take-in s a ≡ s))
+      ⊎ ((Ended (s .phase) → ⊥) × ((take-in s a) .count ≡ suc (s .count)))
 
   takes : (s : Walk A) (a : Bool) → Takes s a
   unfolding step stepIn
