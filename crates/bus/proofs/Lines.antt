@@ -1,11 +1,11 @@
 -- How many lines a scan of the row sends: in the first `limit` turns, and in any number from there on, as many as it
 -- counts, the lines of the first so many beginnings of the order. Assumes nothing.
 use mathlib.Core.Path.{_≡_, refl, ap, _∙_}
-use mathlib.Core.List.{List, [], _∷_, _++_, map}
+use mathlib.Core.List.{List, [], _∷_, map}
 use Prim.Native.Nat.{ℕ, zero, suc, _≤_, _<_}
 use native.Mathlib.Omega.{arith}
 use lib.ListN.{length, take, getD, length-map, length-take}
-use Rattle.refusal.specs.Answer.{Answer, gives, refuses}
+use Rattle.refusal.specs.Answer.{gives, refuses}
 use Rattle.refusal.proofs.Answers.{in-room}
 use Rattle.identity.specs.Bits.{Bits}
 use Rattle.identity.specs.Identity.{depth}

@@ -1,5 +1,5 @@
--- As many probes as are counted are asked, and no other: a scan counts each answer that it takes, and from its end on it
--- stays, whatever the answers. Assumes nothing.
+-- As many probes as are counted are asked, and no other: a scan counts each answer that it takes, and it stays from its
+-- end on, whatever the answers. Assumes nothing.
 use mathlib.Core.Path.{_≡_, refl, sym, ap, _∙_, subst}
 use mathlib.Core.Bool.{Bool, true, false, true≢false}
 use mathlib.Core.List.{List, [], _∷_}

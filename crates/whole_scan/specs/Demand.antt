@@ -62,7 +62,8 @@ pub record AnyScan (limit : ℕ) (heard : Bits → Bool) (last : Scan) (after : 
       ↔ ((length (hits ms) ≤ room) × (length ms ≤ limit) × Doubt heard depth [])
   pub completes : (last .state ≡ Complete)
       ↔ ((length (hits ms) ≤ room) × (length ms ≤ limit) × (Doubt heard depth [] → ⊥))
-  -- what `probe` writes after i answers is the probe of the i-th beginning of the order, and no beginning comes twice
+  -- after i answers the scan stands at the i-th beginning of the order, `probe` writes its probe, and none comes twice
+  pub asked : (i : ℕ) → i < last .count → beginningOf (after i) ≡ getD (beginningsOf ms) i []
   pub sent : (i : ℕ) → i < last .count → (lent : ℕ)
       → probed (after i) lent ≡ handedOut (probeOf (getD (beginningsOf ms) i [])) lent
   pub once : Different (beginningsOf ms)
