@@ -66,7 +66,8 @@ module _ (limit : ℕ) (ids : List (List ℕ)) (heard : Bits → Bool) (b : Octe
   abbrev probes : List Mark
   probes = order heard depth []
 
-  -- ---- "a scan run to its end": `limit` reports reach it, and there is one (`runs-exactly`, Runs.antt)
+  -- ---- "a scan run to its end": `limit` reports reach it. There is one, and no other: what comes of i answers is
+  -- `driven heard i (fresh limit)` (`runs-exactly`, Runs.antt)
 
   pub run-reaches : (n : ℕ) (s : Scan) → Runs heard limit n s → limit ≤ n → ended (s .state) ≡ true
   run-reaches = runs-end heard limit
@@ -151,14 +152,16 @@ module _ (limit : ℕ) (ids : List (List ℕ)) (heard : Bits → Bool) (b : Octe
     probes-refused i s runs h o o' r p =
         probe-is (runs-exactly heard limit i s .0 runs) (any-run .exactly .refused i h (length o)) p
 
-    -- ---- "At "limit" the scan names the next probe's beginning, at "full" the 33rd identity."
+    -- ---- "limit" and "full"
 
+    -- "as "limit" when limit probes are answered and more remain", and "Full beats limit"
     pub limit-exactly : (last .state ≡ Limit) ↔ (limit < place 32 probes)
     limit-exactly = any-run .limits
 
     pub limit-count : last .state ≡ Limit → last .count ≡ limit
     limit-count = whole-run .2 .limit-count
 
+    -- "At "limit" the scan names the next probe's beginning"
     pub limit-names : last .state ≡ Limit → beginningOf last ≡ getD (beginningsOf probes) limit []
     limit-names = whole-run .2 .limit-names
 
@@ -179,15 +182,17 @@ module _ (limit : ℕ) (ids : List (List ℕ)) (heard : Bits → Bool) (b : Octe
           one-order listed all (w .ascending) ascending (λ x. Iff·trans (w .members x) (members x .1, members x .0)) in
           (shorter, subst (λ (xs : List (List ℕ)). BusScan limit ids last probes xs shorter) same w)
 
+      -- "It then lists each identity once, ascending", as one list
       pub complete-list : last .state ≡ Complete → listOf last ≡ all
       complete-list = all-run .1 .complete-list
 
-      -- "the list is then exactly the present identities below that, filled with zeros"
-      pub limit-list : last .state ≡ Limit → listOf last ≡ those (λ x. lower x (octetsOf (beginningOf last))) all
-      limit-list = all-run .1 .limit-list
-
+      -- "at "full" the 33rd identity"
       pub full-names : last .state ≡ Full → octetsOf (beginningOf last) ≡ getD all 32 []
       full-names = all-run .1 .full-names
+
+      -- "the list is then exactly the present identities below that, filled with zeros": at "limit", and at "full"
+      pub limit-list : last .state ≡ Limit → listOf last ≡ those (λ x. lower x (octetsOf (beginningOf last))) all
+      limit-list = all-run .1 .limit-list
 
       pub full-list : last .state ≡ Full → listOf last ≡ those (λ x. lower x (octetsOf (beginningOf last))) all
       full-list = all-run .1 .full-list
