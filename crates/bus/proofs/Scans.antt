@@ -112,7 +112,7 @@ module _ (ds : List Device) (c : Cabled ds) where
               (λ (s : Scan). BusScan limit (map paddedIn ds) s (order (heardOn ds) depth []) all shorter) scan-is w,
         )
 
-    -- and what holds by any answers at all: the count, the order of the probes, and that none is sent twice
+    -- and what holds by any answers at all: exactly as many probes as it counts, their order, and none twice
     pub scan-any : AnyScan limit (heardOn ds) (scanned limit ds .scan)
         (λ i. probesAsked i (started limit ds) .scan) (order (heardOn ds) depth [])
     scan-any =

@@ -4,9 +4,10 @@
 --   oneProbe b       == one probe: the scanner gives it, the master writes it, all devices hear it, and whether one
 --                       answered is reported to the scan; a scan that gives no probe asks none
 --   probesAsked n b  == n probes, one after the other
+--   linesSent n b    == the lines that go out in these n turns; linesBy x == the line of the probe that x gives
 --   started limit ds == a new scan with the limit, on the cable of ds; scanned limit ds == the same, run to its end
 -- Assumes nothing.
-use mathlib.Core.List.{List}
+use mathlib.Core.List.{List, [], _∷_, _++_}
 use Prim.Native.Nat.{ℕ, zero, suc}
 use Rattle.refusal.specs.Answer.{Answer, gives, refuses, stateAfter}
 use Rattle.record.specs.declared.Device.{Device}
@@ -33,6 +34,15 @@ oneProbe b = oneProbeBy b (probed (b .scan) 47)
 unfoldable pub probesAsked : ℕ → Bus → Bus
 probesAsked zero b = b
 probesAsked (suc n) b = probesAsked n (oneProbe b)
+
+-- 01: "A probe is the XID scan"; each that is given goes out as one line, and a refusal as none
+unfoldable pub linesBy : Answer (List ℕ) → List (List ℕ)
+linesBy (refuses k) = []
+linesBy (gives f) = lineFor f ∷ []
+
+unfoldable pub linesSent : ℕ → Bus → List (List ℕ)
+linesSent zero b = []
+linesSent (suc n) b = linesBy (probed (b .scan) 47) ++ linesSent n (oneProbe b)
 
 abbrev pub started : ℕ → List Device → Bus
 started limit ds = record { scan = fresh limit; devices = ds }

@@ -18,6 +18,7 @@ pub use Rattle.walk.proofs.Begins.{shorter-number}
 pub use Rattle.whole_scan.proofs.Demand.{demand3-octets, demand3-identities}
 pub use Rattle.whole_scan.proofs.AnyScans.{any-scans}
 pub use Rattle.whole_scan.proofs.Run.{run-ends}
+pub use Rattle.whole_scan.proofs.Exactly.{run-exactly, new-run-exactly}
 -- ---- XID: which payloads are scans and assignments, and whom they mean; the scanner's probe is a scan
 pub use Rattle.params.proofs.Exact.{params-exactly, one-reading}
 pub use Rattle.xid.proofs.Exactly.{scan-exactly, assignment-exactly, never-both, address-edge}
@@ -49,6 +50,7 @@ pub use Rattle.device.proofs.Fits.{answer-fits}
 -- ---- the whole bus: hearing, demand 3 with no premise, the installer's job and when it can be done
 pub use Rattle.bus.proofs.Heard.{heard-exactly, heard-unchanged}
 pub use Rattle.bus.proofs.Scans.{scan-row, scan-any, scan-complete, scan-unchanged}
+pub use Rattle.bus.proofs.Lines.{turn-gives, turn-refused, scan-lines, scan-lines-number}
 pub use Rattle.bus.proofs.Needs.{installed-exactly}
 pub use Rattle.bus.proofs.Job.{scan-installed, job-done}
 pub use Rattle.bus.proofs.Examples.{condition-needed, longer-later}
@@ -59,11 +61,17 @@ pub use Rattle.demands.proofs.One.{happen-answers, stopped-answers, ala
 pub use Rattle.demands.proofs.Two.{written-reads-back, written-heard, tilt-exactly, tilt-owed, tilt-number, tilt-once}
 pub use Rattle.demands.proofs.Two.{not-accepted, some-case, each-case, changes, silent-same}
 pub use Rattle.demands.proofs.Two.{snrm-heard, never-unallowed}
+pub use Rattle.demands.proofs.Runs.{runs-exactly, runs-by-exactly, run-ended, runs-end, probe-gives}
 pub use Rattle.demands.proofs.Three.{complete-exactly, complete-count, complete-lists, never-more, probes-sent}
+pub use Rattle.demands.proofs.Three.{complete-probes, count-probes, count-stays, probes-asked, probes-refused}
+pub use Rattle.demands.proofs.Three.{limit-exactly, limit-count, limit-names, limit-list}
+pub use Rattle.demands.proofs.Three.{full-exactly, full-count, full-names, full-list}
+pub use Rattle.demands.proofs.Three.{any-probes, any-stays, any-refused}
 pub use Rattle.demands.proofs.Cable.{heard-when, whole-row, installer}
+pub use Rattle.demands.proofs.Cable.{row-lines, row-lines-number, complete-lines}
 pub use Rattle.demands.proofs.Cases.{starred-hold}
 -- ---- and of a scan of a row of devices, in code
-pub use Rattle.mast.proofs.Demand.{sweep-unchanged, sweep-row, sweep-any, sweep-complete}
+pub use Rattle.mast.proofs.Demand.{sweep-unchanged, sweep-row, sweep-any, sweep-lines-number, sweep-complete}
 -- ---- commands to such a row: one result, and a "no" changes nothing
 pub use Rattle.drives.proofs.Only.{obey-only}
 pub use Rattle.drives.proofs.Keeps.{no-keeps}

@@ -1,19 +1,22 @@
 -- What a walk comes to by any answers at all, from the three ways in which it can end. Assumes nothing.
-use mathlib.Core.Path.{_≡_, refl, sym, ap, _∙_}
+use mathlib.Core.Path.{_≡_, refl, sym, ap, _∙_, subst}
 use mathlib.Core.Bool.{Bool, true, false, cond, true≢false}
 use mathlib.Core.List.{List, [], _∷_, _++_, append-assoc, map}
 use Prim.Native.Nat.{ℕ, suc, _+_, _≤_, _<_, min}
 use native.Mathlib.Omega.{arith}
+use borrow.Author.Tests.{ltb-true, ltb-false}
+use lib.Dec.{ltb}
 use lib.ListN.{length, take, getD, length-append}
 use lib.Seq.{take-all, take-at}
 use Rattle.identity.specs.Bits.{Bits}
 use Rattle.walk.specs.Probes.{Mark, hit, beginningsOf, hits, place, Doubt}
 use Rattle.walk.specs.Machine.{Phase, asking, complete, doubtful, limited, full, Ended, Walk, start, run}
-use Rattle.walk.specs.Demand.{AnyEnd, AnyAnswers}
+use Rattle.walk.specs.Demand.{Asks, AnyEnd, AnyAnswers}
 use Rattle.walk.proofs.Play.{ended, phase-is}
 use Rattle.walk.proofs.Doubts.{doubts, doubts-in, doubts-out}
 use Rattle.walk.proofs.Places.{hits-append, hits-more, place-hit, place-late, place-all, asked-at, heard-at}
 use Rattle.walk.proofs.Endings.{last, probes, Ending, all-asked, at-limit, at-full, ending}
+use Rattle.walk.proofs.Stops.{stops}
 use Rattle.walk.proofs.Sent.{asks-next}
 use Rattle.walk.proofs.Once.{asked-once}
 
@@ -151,8 +154,26 @@ module _ {A : Type 0} (name : Bits → A) (d cap limit : ℕ) (heard : Bits → 
       by-flag true e = absurd (f (doubts-in heard d [] e))
       by-flag false e = e
 
+  asks : Ending name d cap limit heard → (i : ℕ) → i < end .count
+      → Asks (getD (beginningsOf ms) i []) (run name d cap heard i (start limit))
+  asks at i h = asks-next name d cap heard i limit (omega (arith, count at)) (omega (arith, count at))
+
+  -- as many answers as are counted, and no more, are taken
+  stands : Ending name d cap limit heard → (i : ℕ) → end .count ≤ i → run name d cap heard i (start limit) ≡ end
+  stands at i h = stops name d cap heard limit i (start limit) (over at) (omega arith)
+
+  ended-late : Ending name d cap limit heard → (i : ℕ) → Ended ((run name d cap heard i (start limit)) .phase)
+      → end .count ≤ i
+  ended-late at i h = by-test (ltb i (end .count)) refl
+    where
+      by-test : (t : Bool) → ltb i (end .count) ≡ t → end .count ≤ i
+      by-test true e = let (q, w, g) = asks at i (ltb-true i (end .count) e) in absurd (subst Ended g h)
+      by-test false e = ltb-false i (end .count) e
+
   any-end : AnyEnd name d cap limit heard end (λ i. run name d cap heard i (start limit)) ms
   any-end = record {
+    ended-from = λ i. (ended-late at i, λ h. subst (λ (s : Walk A). Ended (s .phase)) (sym (stands at i h)) (over at));
+    stays = stands at;
     count = count at;
     list = found at;
     ended = over at;
@@ -166,7 +187,7 @@ module _ {A : Type 0} (name : Bits → A) (d cap limit : ℕ) (heard : Bits → 
       λ h. let ((x, y), g) = is-whole at false h in (x, y, λ k. true≢false (sym (doubts-out heard d [] k) ∙ g)),
       λ (x, y, k). whole-is at false (x, y) (no-doubt k),
     );
-    sent = λ i h. asks-next name d cap heard i limit (omega (arith, count at)) (omega (arith, count at));
+    sent = asks at;
     once = asked-once heard d [];
   }
     where

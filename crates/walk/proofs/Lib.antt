@@ -1,6 +1,7 @@
 -- The laws of the walk that the scanner cites.
 pub mod Halves
 pub mod Play
+pub mod Stops
 pub mod Feed
 pub mod Doubts
 pub mod Through

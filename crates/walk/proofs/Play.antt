@@ -42,7 +42,7 @@ module _ {A : Type 0} (name : Bits → A) (depth cap : ℕ) where
     abbrev go : ℕ → Walk A → Walk A
     go n s = run name depth cap heard n s
 
-    stays : (n : ℕ) (s : Walk A) → step name depth cap s (heard (named (s .phase))) ≡ s → go n s ≡ s
+    pub stays : (n : ℕ) (s : Walk A) → step name depth cap s (heard (named (s .phase))) ≡ s → go n s ≡ s
     unfolding run
     stays zero s e = refl
     stays (suc n) s e = ap (go n) e ∙ stays n s e

@@ -40,7 +40,11 @@ Asks p s = (quiet : Bool) × (doubt : Bool) × (s .phase ≡ asking p quiet doub
 -- `last` is the walk at its end, `after i` the walk after i answers, ms the order of the probes
 module _ {A : Type 0} (name : Bits → A) (d cap limit : ℕ) where
   pub record AnyEnd (heard : Bits → Bool) (last : Walk A) (after : ℕ → Walk A) (ms : List Mark) : Type 0 where
-    -- "The count is the number of probes answered": as many as the limit lets, up to the 33rd identity's
+    -- "The count is the number of probes answered": after i answers the walk has ended exactly if i is not below it,
+    -- and from there on it stays
+    pub ended-from : (i : ℕ) → Ended ((after i) .phase) ↔ (last .count ≤ i)
+    pub stays : (i : ℕ) → last .count ≤ i → after i ≡ last
+    -- as many as the limit lets, up to the 33rd identity's
     pub count : last .count ≡ min limit (place cap ms)
     pub list : last .listed ≡ map name (take cap (hits (take (last .count) ms)))
     pub ended : Ended (last .phase)

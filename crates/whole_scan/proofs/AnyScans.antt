@@ -14,11 +14,13 @@ use Rattle.walk.specs.Demand.{AnyEnd}
 use Rattle.walk.proofs.Answers.{any-answers}
 use Rattle.scan.specs.Record.{room, stateOf, beginningOf}
 use Rattle.scan.specs.Scan.{fresh, ended, probeOf, probed, driven}
+use Rattle.scan.specs.declared.Scan.{Scan}
 use Rattle.whole_scan.specs.Demand.{AnyScan, AnyScans}
 use Rattle.scan.proofs.Probes.{probed-open}
+use Rattle.whole_scan.proofs.Exactly.{new-driven-exactly}
 use Rattle.whole_scan.proofs.Drives.{Driven, drives-new}
 use Rattle.whole_scan.proofs.Ends.{full-of, limit-of, complete-of, doubtful-of, ended-of}
-use Rattle.whole_scan.proofs.Ends.{count-is, state-is, beginning-is, list-is, asks-open}
+use Rattle.whole_scan.proofs.Ends.{count-is, state-is, beginning-is, list-is}
 
 module _ (limit : ℕ) (heard : Bits → Bool) where
   abbrev walk : ℕ → Walk (List ℕ)
@@ -33,14 +35,19 @@ module _ (limit : ℕ) (heard : Bits → Bool) where
   any : AnyEnd octetsOf depth room limit heard (walk limit) walk ms
   any = any-answers (List ℕ) octetsOf depth room limit heard
 
-  sent : (i : ℕ) → i < (driven heard limit (fresh limit)) .count → (lent : ℕ)
-      → probed (driven heard i (fresh limit)) lent ≡ handedOut (probeOf (getD (beginningsOf ms) i [])) lent
+  abbrev end : Scan
+  end = driven heard limit (fresh limit)
+
+  asked : (i : ℕ) → i < end .count → beginningOf (driven heard i (fresh limit)) ≡ getD (beginningsOf ms) i []
   unfolding order named
+  asked i h =
+      let (q, w, e) = any .sent i (omega (arith, count-is (after limit))) in beginning-is (after i) ∙ ap named e
+
+  sent : (i : ℕ) → i < end .count → (lent : ℕ)
+      → probed (driven heard i (fresh limit)) lent ≡ handedOut (probeOf (getD (beginningsOf ms) i [])) lent
   sent i h lent =
-      let (q, w, e) = any .sent i (omega (arith, count-is (after limit))) in
-      let p : getD (beginningsOf ms) i [] ≡ beginningOf (driven heard i (fresh limit)) =
-      sym (beginning-is (after i) ∙ ap named e) in
-      sym (probed-open (driven heard i (fresh limit)) lent (asks-open (after i) e) (ap probeOf p))
+      sym (probed-open (driven heard i (fresh limit)) lent (new-driven-exactly heard limit .asks i .1 h)
+      (ap probeOf (sym (asked i h))))
 
   any-scan : AnyScan limit heard (driven heard limit (fresh limit)) (λ i. driven heard i (fresh limit)) ms
   unfolding stateOf
@@ -48,6 +55,7 @@ module _ (limit : ℕ) (heard : Bits → Bool) where
       let d = after limit in
       let x = (walk limit) .phase in
       record {
+        exactly = new-driven-exactly heard limit;
         count = count-is d ∙ any .count;
         list = list-is d ∙ any .list
             ∙ ap (λ (n : ℕ). map octetsOf (take room (hits (take n ms)))) (sym (count-is d));
@@ -70,6 +78,7 @@ module _ (limit : ℕ) (heard : Bits → Bool) where
           λ h. any .completes .0 (complete-of x (sym (state-is d) ∙ h)),
           λ a. state-is d ∙ ap stateOf (any .completes .1 a),
         );
+        asked = asked;
         sent = sent;
         once = any .once;
       }

@@ -1,20 +1,17 @@
 -- What a record tells of the walk that it stands for: its count, state, beginning and list. Assumes nothing.
-use mathlib.Core.Path.{_≡_, refl, sym, ap, _∙_, subst}
-use mathlib.Core.Bool.{Bool, true, false}
+use mathlib.Core.Path.{_≡_, refl, sym, ap, _∙_}
+use mathlib.Core.Bool.{true}
 use mathlib.Core.List.{List}
 use Prim.Native.Nat.{ℕ}
 use lib.ListN.{length, drop}
 use lib.Seq.{take-append-seam}
-use Rattle.identity.specs.Bits.{Bits}
 use Rattle.walk.specs.Machine.{Phase, asking, complete, doubtful, limited, full, Ended, named, Walk}
-use Rattle.scan.specs.Record.{flat, phaseOf, stateOf, beginningOf, listOf, recordOf}
-use Rattle.scan.specs.Scan.{ended, over}
+use Rattle.scan.specs.Record.{flat, phaseOf, stateOf, beginningOf, listOf}
+use Rattle.scan.specs.Scan.{ended}
 use Rattle.scan.specs.declared.Scan.{Scan}
 use Rattle.scan.specs.declared.State.{State}
 use Rattle.scan.specs.declared.State.the-variants.{Complete, Doubtful, Limit, Full}
-use Rattle.scan.proofs.Overs.{open-over}
 use Rattle.scan.proofs.Rows.{rows-flat}
-use Rattle.whole_scan.proofs.Bounded.{Counts}
 use Rattle.whole_scan.proofs.Drives.{Driven, phase-back}
 
 -- a phase by its state and the beginning that it names
@@ -60,17 +57,3 @@ module _ {r : Scan} {v : Walk (List ℕ)} (d : Driven r v) where
   pub list-is : listOf r ≡ v .listed
   list-is =
       ap listOf (d .is) ∙ rows-flat (v .listed) (drop (length (flat (v .listed))) (d .base .list)) (d .wide)
-
-  -- where the walk asks, the record takes a probe and an answer
-  pub asks-open : {p : Bits} {q w : Bool} → v .phase ≡ asking p q w → over r ≡ false
-  unfolding ended stateOf named
-  asks-open {p} {q} {w} e =
-      let asks : ended (stateOf (v .phase)) ≡ false = rw e in
-      rw (d .is)
-      (open-over (recordOf (d .base) v)
-      (record {
-        asks = asks;
-        counts = subst (Counts (v .limit) (v .count)) e (d .bounded .counts);
-        lists = d .bounded .lists;
-        begins = d .bounded .begins;
-      }))

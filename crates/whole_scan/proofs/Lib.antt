@@ -2,8 +2,9 @@
 pub mod Bounded
 pub mod Drives
 pub mod Ends
-pub mod AnyScans
 pub mod Run
+pub mod Exactly
+pub mod AnyScans
 pub mod Buses
 pub mod Demand
 pub mod Cases

@@ -61,7 +61,14 @@ ended-or-open s v b = go (v .phase) refl
     go (limited p) e = inl (rw e)
     go (full p) e = inl (rw e)
 
-noted-count : (s : Scan) (q w a : Bool)
+-- an answer that is taken
+pub taken : (s : Scan) (a : Bool) → Open s
+    → (q : Bool) × (w : Bool) × (stateAfter (reported s a) s ≡ notedIn s q w a)
+taken s a o =
+    let (q, w, f) = flags (s .state) (o .asks) in
+    (q, w, report-steps s a (open-over s o) ∙ sym (noted-step s a f))
+
+pub noted-count : (s : Scan) (q w a : Bool)
     → ((notedIn s q w a) .limit ≡ s .limit) × ((notedIn s q w a) .count ≡ suc (s .count))
 unfolding noted listing
 noted-count s q w false = (refl, refl)
@@ -87,11 +94,9 @@ runs-out : (answers : List Bool) (s : Scan) → Open s → s .limit ≡ s .count
 unfolding reportedAll
 runs-out [] s o e = absurd (omega (arith, o .counts))
 runs-out (a ∷ answers) s o e =
-    let (q, w, f) = flags (s .state) (o .asks) in
+    let (q, w, next) = taken s a o in
     let t : Scan = notedIn s q w a in
     let (l, c) = noted-count s q w a in
-    let next : stateAfter (reported s a) s ≡ t =
-    report-steps s a (open-over s o) ∙ sym (noted-step s a f) in
     let fits =
     noted-bounded (s .limit) (s .count) (listOf s) (beginningOf s) q w a
     (omega (arith, length-rows (s .listed) (s .list), o .lists))

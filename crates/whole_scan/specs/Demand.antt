@@ -2,8 +2,11 @@
 --   OctetBus ids heard    == demand 3's premises: padded identities, no two alike, and a probe is heard exactly when
 --                            one of them, masked as a scan masks it, equals what the probe asks for
 --   IdentityBus ids heard == the same of allowed identities, not padded
+--   AsksExactly n         == a scan asks n probes more and then none: it takes n answers, and stays
 --   AnyScan               == what a scan comes to by any answers at all; BusScan == what it comes to on a bus
 --   RunsOut               == from any record that is not refused, limit - count answers reach an end
+--   RunsExactly           == from any record, by any answers: as many probes as are counted, and no other
+--   NewRunsExactly        == the same of a new scan: exactly `count` probes
 -- `last` is the scan at its end, `after i` the scan after i answers, ms the order of the probes. Assumes nothing.
 use mathlib.Core.Path.{_≡_}
 use mathlib.Core.Bool.{Bool, true, false}
@@ -12,7 +15,7 @@ use mathlib.Core.Logic.{_↔_, _⊎_}
 use Prim.Native.Nat.{ℕ, _+_, _*_, _-_, _≤_, _<_, min}
 use lib.ListN.{length, take, getD}
 use Rattle.octets.specs.Octets.{Octets}
-use Rattle.refusal.specs.Answer.{handedOut}
+use Rattle.refusal.specs.Answer.{refuses, handedOut}
 use Rattle.identity.specs.Bits.{Bits, bitsOf, masked}
 use Rattle.identity.specs.Identity.{width, depth, allowedIdentity, padded, octetsOf, maskOf, answersScan}
 use Rattle.identity.specs.Order.{lower, those, Ascending, Different}
@@ -35,8 +38,17 @@ pub record IdentityBus (ids : List (List ℕ)) (heard : Bits → Bool) : Type 0 
   pub right : (p : Bits) → length p ≤ depth
       → (heard p ≡ true) ↔ ((i : List ℕ) × List·Memᴰ i ids × (answersScan i (maskOf p) (octetsOf p) ≡ true))
 
+-- "with exactly that many probes": after i answers the scan takes a probe and an answer exactly if i < n; from there on
+-- a probe is refused with 7, and the record stays
+pub record AsksExactly (n : ℕ) (last : Scan) (after : ℕ → Scan) : Type 0 where
+  pub asks : (i : ℕ) → (over (after i) ≡ false) ↔ (i < n)
+  pub refused : (i : ℕ) → n ≤ i → (lent : ℕ) → probed (after i) lent ≡ refuses 7
+  pub stays : (i : ℕ) → n ≤ i → after i ≡ last
+
 pub record AnyScan (limit : ℕ) (heard : Bits → Bool) (last : Scan) (after : ℕ → Scan) (ms : List Mark) : Type 0 where
-  -- the probes answered: as many as the limit lets, up to the 33rd identity's
+  -- "The count is the number of probes answered", and no other is asked
+  pub exactly : AsksExactly (last .count) last after
+  -- as many as the limit lets, up to the 33rd identity's
   pub count : last .count ≡ min limit (place room ms)
   pub list : listOf last ≡ map octetsOf (take room (hits (take (last .count) ms)))
   pub ends : ended (last .state) ≡ true
@@ -50,7 +62,8 @@ pub record AnyScan (limit : ℕ) (heard : Bits → Bool) (last : Scan) (after : 
       ↔ ((length (hits ms) ≤ room) × (length ms ≤ limit) × Doubt heard depth [])
   pub completes : (last .state ≡ Complete)
       ↔ ((length (hits ms) ≤ room) × (length ms ≤ limit) × (Doubt heard depth [] → ⊥))
-  -- what `probe` writes after i answers is the probe of the i-th beginning of the order, and no beginning comes twice
+  -- after i answers the scan stands at the i-th beginning of the order, `probe` writes its probe, and none comes twice
+  pub asked : (i : ℕ) → i < last .count → beginningOf (after i) ≡ getD (beginningsOf ms) i []
   pub sent : (i : ℕ) → i < last .count → (lent : ℕ)
       → probed (after i) lent ≡ handedOut (probeOf (getD (beginningsOf ms) i [])) lent
   pub once : Different (beginningsOf ms)
@@ -104,3 +117,16 @@ abbrev pub RunsOut : Type 0
 RunsOut =
     (s : Scan) (answers : List Bool) → over s ≡ false → length answers ≡ s .limit - s .count
     → ended ((reportedAll s answers) .state) ≡ true
+
+-- `n` are the probes asked from here on, whatever the answers to them
+abbrev pub RunsExactly : Type 0
+RunsExactly =
+    (s : Scan) (answers : List Bool) → s .limit - s .count ≤ length answers
+    → (n : ℕ) × ((reportedAll s answers) .count ≡ s .count + n)
+    × AsksExactly n (reportedAll s answers) (λ i. reportedAll s (take i answers))
+
+abbrev pub NewRunsExactly : Type 0
+NewRunsExactly =
+    (limit : ℕ) (answers : List Bool) → limit ≤ length answers
+    → AsksExactly ((reportedAll (fresh limit) answers) .count) (reportedAll (fresh limit) answers)
+    (λ i. reportedAll (fresh limit) (take i answers))
