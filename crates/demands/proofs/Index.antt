@@ -2,7 +2,7 @@
 -- says each in a sentence, and those of a line of the bench script, which stand in script/proofs. Assumes nothing.
 
 -- ---- numbers for "no": the first row that holds, both ways; one result for each promise
-pub use Rattle.refusal.proofs.Exactly.{exactly, exactly-given, answered-all}
+pub use Rattle.refusal.proofs.Exactly.{exactly, exactly-tests, exactly-given, answered-all}
 pub use Rattle.refusal.proofs.Only.{number-apart, hands-only, changes-only}
 -- ---- the frame check: every entry of the table, and the good-frame residue
 pub use Rattle.fcs.proofs.Rule.{rule}
