@@ -12,7 +12,7 @@ use lib.Dec.{eqb}
 use Rattle.octets.specs.Octets.{holds}
 use Rattle.octets.proofs.Words.{true-not-false}
 use Rattle.refusal.specs.Answer.{gives, refuses, Row, _when_, answered, Given, Clear, numbersOf}
-use Rattle.refusal.specs.Answer.{roomRow, handedOut}
+use Rattle.refusal.specs.Answer.{shorter, handedOut}
 use Rattle.refusal.proofs.Answers.{gives-not-refuses, refuses-same, gives-same}
 
 cond-same : (t b : Bool) → cond t b b ≡ b
@@ -102,4 +102,4 @@ module _ {A : Type 0} where
 -- octets that are handed out are those that were to be
 pub handed-out-told : (b : List ℕ) (room : ℕ) {d : List ℕ} → handedOut b room ≡ gives d → b ≡ d
 unfolding handedOut
-handed-out-told b room {d} e = exactly-given (roomRow b room ∷ []) b d .0 e .1
+handed-out-told b room {d} e = exactly-given (5 when shorter room b ∷ []) b d .0 e .1

@@ -6,6 +6,7 @@
 --   Given k rows      == a row of the number k holds, and none before it
 --   Clear rows        == no row holds
 --   numbersOf rows    == the numbers that the rows have
+--   shorter room b    == a lent output of so many octets is shorter than the octets b
 --   handedOut b room  == the octets b, into a lent output of so many octets
 --   Hands x o r o'    == the code's answer r, and the output o' that was o, are the answer x
 --   Changes x s r s'  == the code's outcome r, and the state s' that was s, are the answer x
@@ -51,12 +52,13 @@ unfoldable pub numbersOf : List Row → List ℕ
 numbersOf [] = []
 numbersOf (n when t ∷ rows) = n ∷ numbersOf rows
 
--- 01: "refusal 5 if it is shorter than they are"
-abbrev pub roomRow : List ℕ → ℕ → Row
-roomRow b room = 5 when ltb room (length b)
+-- 01: "if it is shorter than they are": a lent output of so many octets than the octets b
+abbrev pub shorter : ℕ → List ℕ → Bool
+shorter room b = ltb room (length b)
 
+-- 01: "refusal 5 if it is shorter than they are"
 unfoldable pub handedOut : List ℕ → ℕ → Answer (List ℕ)
-handedOut b room = answered (roomRow b room ∷ []) b
+handedOut b room = answered (5 when shorter room b ∷ []) b
 
 -- the paper's number, or how many octets, for each case of the code's answer
 unfoldable pub answerOf : Handed → Answer ℕ

@@ -9,7 +9,7 @@ use borrow.Author.Tests.{lt-ltb, ltb-true, ltb-false, not-true}
 use lib.Dec.{ltb}
 use Rattle.identity.specs.Identity.{depth, octetsOf}
 use Rattle.octets.specs.Octets.{holds}
-use Rattle.refusal.specs.Answer.{refuses, Row, _when_, roomRow, numbersOf}
+use Rattle.refusal.specs.Answer.{refuses, Row, _when_, shorter, numbersOf}
 use Rattle.refusal.proofs.Exactly.{TestsFor, exactly-tests}
 use Rattle.walk.specs.Machine.{step}
 use Rattle.walk.proofs.Doubts.{or-parts}
@@ -57,7 +57,7 @@ report-seven s heard = exactly-tests 7 (7 when over s ∷ []) (recordOf s (step 
 
 module _ (s : Scan) (lent : ℕ) where
   rows : List Row
-  rows = 7 when over s ∷ roomRow (probeOf (beginningOf s)) lent ∷ []
+  rows = 7 when over s ∷ 5 when shorter lent (probeOf (beginningOf s)) ∷ []
 
   pub probe-seven : (probed s lent ≡ refuses 7) ↔ (over s ≡ true)
   unfolding probed rows TestsFor numbersOf holds
