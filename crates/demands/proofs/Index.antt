@@ -7,7 +7,8 @@ pub use Rattle.refusal.proofs.Only.{number-apart, hands-only, changes-only}
 -- ---- the frame check: every entry of the table, and the good-frame residue
 pub use Rattle.fcs.proofs.Rule.{rule}
 pub use Rattle.fcs.proofs.Residue.{residue-good, residue-exactly}
--- ---- the codec: the round trip, the only line without needless escapes, how long a line is
+-- ---- the codec: a right check, the round trip, the only line without needless escapes, how long a line is
+pub use Rattle.frame.proofs.Checks.{check-exactly}
 pub use Rattle.frame.proofs.Trip.{trip, round-trip}
 pub use Rattle.frame.proofs.Unique.{unique, needed-onLine}
 pub use Rattle.frame.proofs.Lengths.{line-158, flag-at-ends, write-fits, write-one-less}
