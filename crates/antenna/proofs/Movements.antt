@@ -1,5 +1,5 @@
 -- What starts a movement and what makes a result that waits. Assumes nothing.
-use mathlib.Core.Path.{_≡_, refl, sym}
+use mathlib.Core.Path.{_≡_, refl, sym, ap, _∙_}
 use mathlib.Core.Bool.{Bool, true, false, cond}
 use mathlib.Core.Logic.{_↔_}
 use Prim.Native.Nat.{ℕ}
@@ -13,6 +13,7 @@ use Rattle.antenna.specs.declared.Aim.the-variants.{Busy, Outside, Start
 use Rattle.antenna.specs.Angles.{sameAs}
 use Rattle.antenna.specs.Motions.{inRange, busyOf, owesOf, waitingOf, unowedOf, moves, aimOf, started, runs}
 use Rattle.antenna.specs.Events.{restedOf, withAlarm}
+use Rattle.antenna.proofs.Angles.{same-exactly}
 
 busy-not-started : Busy ≡ Started → ⊥
 busy-not-started e = true-not-false (cc)
@@ -31,11 +32,20 @@ module _ (n : Antenna) (t : Angle) where
       go false true e = (refl, refl)
       go false false e = absurd (outside-not-started e)
 
+result-same : (a b : Bool) → Result a ≡ Result b → b ≡ a
+result-same a b e = cc
+
 -- a result waits after a stop exactly where one was owed for a running movement, or waited before; and it is success
 -- exactly if the stop is at the tilt asked
 pub stop-owing : (asked t : Angle) → waitingOf (restedOf (Owing asked) t) ≡ Result (sameAs asked t)
 unfolding restedOf waitingOf
 stop-owing asked t = refl
+
+pub stop-reached : (asked t : Angle) → waitingOf (restedOf (Owing asked) t) ≡ Result true ↔ asked ≡ t
+stop-reached asked t = (
+  λ e. same-exactly asked t .0 (result-same true (sameAs asked t) (sym e ∙ stop-owing asked t)),
+  λ e. stop-owing asked t ∙ ap Result (same-exactly asked t .1 e),
+)
 
 pub stop-moving : (t : Angle) → waitingOf (restedOf Moving t) ≡ Nothing
 unfolding restedOf waitingOf
@@ -70,9 +80,6 @@ idle Still e = refl
 idle Moving e = absurd (true-not-false e)
 idle (Owing asked) e = absurd (true-not-false e)
 idle (Stopped reached) e = absurd (true-not-false e)
-
-result-same : (a b : Bool) → Result a ≡ Result b → b ≡ a
-result-same a b e = cc
 
 nothing-not-result : (r : Bool) → Nothing ≡ Result r → ⊥
 nothing-not-result r e = true-not-false (cc)

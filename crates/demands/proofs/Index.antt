@@ -26,6 +26,8 @@ pub use Rattle.xid.proofs.Probe.{probe-scan, probe-read}
 -- ---- messages: each return code exactly when; set tilt alone starts a movement
 pub use Rattle.message.proofs.Exact.{given-24, given-25, given-19, given-05, given-13, given-none}
 pub use Rattle.message.proofs.Moves.{moves-exactly, clear-clears, subscribe-subscribes}
+-- ---- tilts: the same exactly if equal
+pub use Rattle.antenna.proofs.Angles.{same-exactly}
 -- ---- what is allowed stays so, and no run from a fresh device meets refusal 6
 pub use Rattle.record.proofs.Stays.{event-stays, end-stays, fresh-allowed}
 pub use Rattle.conduct.proofs.Stays.{stays-allowed}
