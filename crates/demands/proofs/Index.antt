@@ -26,6 +26,8 @@ pub use Rattle.xid.proofs.Probe.{probe-scan, probe-read}
 -- ---- messages: each return code exactly when; set tilt alone starts a movement
 pub use Rattle.message.proofs.Exact.{given-24, given-25, given-19, given-05, given-13, given-none}
 pub use Rattle.message.proofs.Moves.{moves-exactly, clear-clears, subscribe-subscribes}
+-- ---- controls: each read as the order that has it
+pub use Rattle.control.proofs.Named.{asked-exactly}
 -- ---- tilts: the same exactly if equal
 pub use Rattle.antenna.proofs.Angles.{same-exactly}
 -- ---- what is allowed stays so, and no run from a fresh device meets refusal 6
