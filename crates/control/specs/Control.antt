@@ -1,6 +1,6 @@
 -- Control octets. 01, "The link".
 --   polled c   == "Control octets below have the poll bit set"
---   askedBy c  == what the control octet c, its poll bit set, asks; of an octet whose poll bit is clear it means nothing
+--   askedBy c  == what the control octet c, its poll bit set, asks; of one whose poll bit is clear it means nothing
 --   nextOf n   == the number after n: "Numbers run 0 to 7 and round"
 --   infoOf s r, rrOf r, rnrOf r == the controls of an I-frame, of RR and of RNR, by their numbers N(S) and N(R)
 --   controlFor o == the paper's control octet of the order o, for each case; UpTo7 o == the numbers of o are 0 to 7

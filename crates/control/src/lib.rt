@@ -41,7 +41,7 @@ fn numbered(control: u8) -> Order
     Order::Unknown
 }
 
-// What a control octet with its poll bit set asks. Of one whose poll bit is clear the answer means nothing: `polls` tells.
+// What a control octet with its poll bit set asks; of one whose poll bit is clear it means nothing, and `polls` tells.
 pub fn asked(control: u8) -> Order
     ensures { λ r. ⌜ r ≡ askedBy control ⌝ }
 {

@@ -11,7 +11,7 @@ pub use Rattle.fcs.proofs.Residue.{residue-good, residue-exactly}
 pub use Rattle.frame.proofs.Checks.{check-exactly}
 pub use Rattle.frame.proofs.Trip.{trip, round-trip}
 pub use Rattle.frame.proofs.Unique.{unique, needed-onLine}
-pub use Rattle.frame.proofs.Lengths.{line-158, flag-at-ends, write-fits, write-one-less}
+pub use Rattle.frame.proofs.Lengths.{line-most, flag-at-ends, write-fits, write-one-less}
 -- ---- demand 3: in bits over depth, cap, limit and starting beginning; in octets, of the code's record
 pub use Rattle.walk.proofs.Demand.{demand3}
 pub use Rattle.walk.proofs.Answers.{any-answers}

@@ -60,7 +60,7 @@ pub written-reads-back : (a c : ℕ) (p : List ℕ) (o o' u u' : List ℕ) {n : 
     → Hands (written 78 a c p (length o)) o (Handed.Octets n) o'
     → Hands (decoded 78 (inside (take n o')) (length u)) u r u'
     → Hands (gives (a ∷ c ∷ p)) u r u'
-written-reads-back = round-trip
+written-reads-back a c p o o' u u' os h = round-trip 78 a c p o o' u u' os (omega arith) h
 
 -- another line may decode alike, but only by needless escapes
 pub one-line : (room : ℕ) (s b : List ℕ) → Octets s → Needed s → decoded 78 s room ≡ gives b → s ≡ inside (lineOf b)

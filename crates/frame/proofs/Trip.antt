@@ -79,20 +79,20 @@ module _ (b : List ℕ) (os : Octets b) (N room : ℕ) (two : 2 ≤ length b) (f
       (right-withCheck b os))
       ∙ ap (λ (d : List ℕ). handedOut d room) (body-withCheck b)
 
--- The same of the code: any answer and output that `write` may give, and then any that `decode` may give to what lies
--- between the flags of what was written.
-pub round-trip : (a c : ℕ) (p : List ℕ) (o o' u u' : List ℕ) {n : ℕ} {r : Handed}
-    → Octets (a ∷ c ∷ p) → length p ≤ 74 → length p + 2 ≤ length u
-    → Hands (written 78 a c p (length o)) o (Handed·Octets n) o'
-    → Hands (decoded 78 (inside (take n o')) (length u)) u r u'
+-- The same of the promises, of which the code's are those at 78: any answer and output that `write` may give, and then
+-- any that `decode` may give to what lies between the flags of what was written.
+pub round-trip : (N a c : ℕ) (p : List ℕ) (o o' u u' : List ℕ) {n : ℕ} {r : Handed}
+    → Octets (a ∷ c ∷ p) → 4 ≤ N → length p ≤ N - 4 → length p + 2 ≤ length u
+    → Hands (written N a c p (length o)) o (Handed·Octets n) o'
+    → Hands (decoded N (inside (take n o')) (length u)) u r u'
     → Hands (gives (a ∷ c ∷ p)) u r u'
-round-trip a c p o o' u u' {n} os h k w d =
+round-trip N a c p o o' u u' {n} os m h k w d =
     let b : List ℕ = a ∷ c ∷ p in
     let out : handedOut (lineOf b) (length o) ≡ gives (take n o') =
-    sym (payload-fits 78 a c p (length o) h) ∙ octets-told (written 78 a c p (length o)) w .0 in
+    sym (payload-fits N a c p (length o) h) ∙ octets-told (written N a c p (length o)) w .0 in
     let line : inside (take n o') ≡ inside (lineOf b) = ap inside (sym (handed-out-told (lineOf b) (length o) out)) in
     hands-is
-    (ap (λ (s : List ℕ). decoded 78 s (length u)) line
-    ∙ trip b os 78 (length u) (omega arith) (omega arith)
+    (ap (λ (s : List ℕ). decoded N s (length u)) line
+    ∙ trip b os N (length u) (omega arith) (omega arith)
     ∙ in-room b (length u) (omega arith))
     d
