@@ -4,9 +4,9 @@ use mathlib.Core.Bool.{Bool}
 use Rattle.octets.proofs.Only.{only}
 use Rattle.antenna.specs.declared.Angle.{Angle}
 use Rattle.antenna.specs.declared.Antenna.{Antenna}
-use Rattle.antenna.specs.declared.Aim.{Aim}
-use Rattle.antenna.specs.Motions.{inRange, aimOf, started}
-use mathlib.Core.Path.{ap₂}
+use Rattle.antenna.specs.declared.Aimed.{Aimed}
+use Rattle.antenna.specs.Motions.{inRange, aimedAt, Aims}
+use Rattle.antenna.proofs.Aims.{aims-only}
 use Rattle.octets.proofs.Only.{AsksNothing, Settles}
 use Rattle.aim.proofs.in_range.Reads as in-range-reads
 use Rattle.aim.proofs.aim_at.Reads as aim-at-reads
@@ -14,17 +14,15 @@ use Rattle.aim.proofs.aim_at.Reads as aim-at-reads
 pub in-range-only : (n : Antenna) (t : Angle) {r q : Bool} → r ≡ inRange n t → q ≡ inRange n t → r ≡ q
 in-range-only n t = only
 
-pub aim-at-only : (n : Antenna) (t : Angle) {a b : Aim} {p q : Antenna}
-    → (a ≡ aimOf n t) × (p ≡ started n t (aimOf n t)) → (b ≡ aimOf n t) × (q ≡ started n t (aimOf n t))
-    → (a ≡ b) × (p ≡ q)
-aim-at-only n t x y = (only (x .0) (y .0), only (x .1) (y .1))
+pub aim-at-only : (n : Antenna) (t : Angle) {r q : Aimed}
+    → Aims (aimedAt n t) n r → Aims (aimedAt n t) n q → r ≡ q
+aim-at-only n t = aims-only
 
 pub in-range-tied : Settles in-range-reads.Learnt
 in-range-tied κs a r q s t = only
 
 pub aim-at-tied : Settles aim-at-reads.Learnt
-aim-at-tied κs a r q s t x y =
-    ap₂ (λ (m : Aim) (n : Antenna). record { aim = m; antenna = n }) (only (x .0) (y .0)) (only (x .1) (y .1))
+aim-at-tied κs a r q s t = aims-only
 
 pub in-range-asks : AsksNothing in-range-reads.Asked
 in-range-asks κs a = tt

@@ -4,7 +4,7 @@
 // (antenna/proofs/Movements.antt).
 ghost use mathlib.Core.Path.{_≡_};
 ghost use Rattle.antenna.specs.Angles.{atMost};
-ghost use Rattle.antenna.specs.Motions.{inRange, aimOf, started};
+ghost use Rattle.antenna.specs.Motions.{inRange, aimedAt, Aims};
 use antenna::Aim;
 use antenna::Aimed;
 use antenna::Angle;
@@ -32,7 +32,7 @@ pub fn in_range(antenna: Antenna, t: Angle) -> bool
 
 // A tilt is asked: busy comes before the range.
 pub fn aim_at(antenna: Antenna, t: Angle) -> Aimed
-    ensures { λ r. ⌜ (r .aim ≡ aimOf antenna t) × (r .antenna ≡ started antenna t (aimOf antenna t)) ⌝ }
+    ensures { λ r. ⌜ Aims (aimedAt antenna t) antenna r ⌝ }
 {
     let motion = antenna.motion;
     if antenna::busy(motion) {

@@ -1,4 +1,6 @@
 -- The laws of a drive that the layers above cite.
+pub mod Aims
+pub mod Angles
 pub mod Flags
 pub mod Happenings
 pub mod Movements

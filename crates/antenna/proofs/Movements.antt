@@ -1,41 +1,62 @@
 -- What starts a movement and what makes a result that waits. Assumes nothing.
-use mathlib.Core.Path.{_≡_, refl, sym}
-use mathlib.Core.Bool.{Bool, true, false, cond}
-use mathlib.Core.Logic.{_↔_}
+use mathlib.Core.Path.{_≡_, refl, sym, ap, _∙_}
+use mathlib.Core.Bool.{Bool, true, false, not}
+use mathlib.Core.Logic.{_↔_, Iff·trans}
 use Prim.Native.Nat.{ℕ}
+use borrow.Author.Tests.{not-true, not-false}
+use Rattle.octets.specs.Octets.{holds}
 use Rattle.octets.proofs.Words.{true-not-false}
+use Rattle.refusal.specs.Answer.{gives, refuses, Clear, numbersOf}
+use Rattle.refusal.proofs.Exactly.{TestsFor, exactly-tests, exactly-given}
 use Rattle.antenna.specs.declared.Angle.{Angle}
 use Rattle.antenna.specs.declared.Antenna.{Antenna}
 use Rattle.antenna.specs.declared.Motion.{Motion}
 use Rattle.antenna.specs.declared.Motion.the-variants.{Still, Moving, Owing, Stopped}
 use Rattle.antenna.specs.declared.Waits.the-variants.{Nothing, Result}
-use Rattle.antenna.specs.declared.Aim.the-variants.{Busy, Outside, Started}
+use Rattle.antenna.specs.declared.Aim.the-variants.{Started}
 use Rattle.antenna.specs.Angles.{sameAs}
-use Rattle.antenna.specs.Motions.{inRange, busyOf, owesOf, waitingOf, unowedOf, moves, aimOf, started, runs}
+use Rattle.antenna.specs.Motions.{inRange, busyOf, owesOf, waitingOf, unowedOf, moves, driveRows, aimedAt}
+use Rattle.antenna.specs.Motions.{started, runs}
 use Rattle.antenna.specs.Events.{restedOf, withAlarm}
+use Rattle.antenna.proofs.Angles.{same-exactly}
 
-busy-not-started : Busy ≡ Started → ⊥
-busy-not-started e = true-not-false (cc)
-
-outside-not-started : Outside ≡ Started → ⊥
-outside-not-started e = true-not-false (cc)
-
--- a movement starts exactly where nothing moves or waits and the tilt asked is in range
 module _ (n : Antenna) (t : Angle) where
-  pub starts : aimOf n t ≡ Started ↔ (busyOf (n .motion) ≡ false) × (inRange n t ≡ true)
-  unfolding aimOf
-  starts = (go (busyOf (n .motion)) (inRange n t), λ w. rw (w .0, w .1))
-    where
-      go : (b r : Bool) → cond b Busy (cond r Started Outside) ≡ Started → (b ≡ false) × (r ≡ true)
-      go true r e = absurd (busy-not-started e)
-      go false true e = (refl, refl)
-      go false false e = absurd (outside-not-started e)
+  by-rows : (k : ℕ) → aimedAt n t ≡ refuses k ↔ TestsFor k (driveRows (busyOf (n .motion)) (not (inRange n t)))
+  unfolding aimedAt
+  by-rows k = exactly-tests k _ (moves n (Owing t))
+
+  -- "busy, 0x05"
+  pub aim-05 : aimedAt n t ≡ refuses 0x05 ↔ busyOf (n .motion) ≡ true
+  unfolding TestsFor numbersOf holds
+  aim-05 = by-rows 0x05
+
+  -- "out of range, 0x13"
+  pub aim-13 : aimedAt n t ≡ refuses 0x13 ↔ (busyOf (n .motion) ≡ false) × (inRange n t ≡ false)
+  unfolding TestsFor numbersOf holds
+  aim-13 = Iff·trans (by-rows 0x13) (λ g. (g .0, not-true _ (g .1)), λ w. (w .0, ap not (w .1)))
+
+  -- a movement starts exactly where nothing moves or waits and the tilt asked is in range
+  pub starts : (m : Antenna) → aimedAt n t ≡ gives m
+      ↔ (busyOf (n .motion) ≡ false) × (inRange n t ≡ true) × (moves n (Owing t) ≡ m)
+  unfolding aimedAt Clear
+  starts m =
+      Iff·trans (exactly-given _ (moves n (Owing t)) m)
+      (λ g. (g .0 .0, not-false _ (g .0 .1 .0), g .1), λ w. ((w .0, (ap not (w .1), tt)), w .2))
+
+result-same : (a b : Bool) → Result a ≡ Result b → b ≡ a
+result-same a b e = cc
 
 -- a result waits after a stop exactly where one was owed for a running movement, or waited before; and it is success
 -- exactly if the stop is at the tilt asked
 pub stop-owing : (asked t : Angle) → waitingOf (restedOf (Owing asked) t) ≡ Result (sameAs asked t)
 unfolding restedOf waitingOf
 stop-owing asked t = refl
+
+pub stop-reached : (asked t : Angle) → waitingOf (restedOf (Owing asked) t) ≡ Result true ↔ asked ≡ t
+stop-reached asked t = (
+  λ e. same-exactly asked t .0 (result-same true (sameAs asked t) (sym e ∙ stop-owing asked t)),
+  λ e. stop-owing asked t ∙ ap Result (same-exactly asked t .1 e),
+)
 
 pub stop-moving : (t : Angle) → waitingOf (restedOf Moving t) ≡ Nothing
 unfolding restedOf waitingOf
@@ -70,9 +91,6 @@ idle Still e = refl
 idle Moving e = absurd (true-not-false e)
 idle (Owing asked) e = absurd (true-not-false e)
 idle (Stopped reached) e = absurd (true-not-false e)
-
-result-same : (a b : Bool) → Result a ≡ Result b → b ≡ a
-result-same a b e = cc
 
 nothing-not-result : (r : Bool) → Nothing ≡ Result r → ⊥
 nothing-not-result r e = true-not-false (cc)

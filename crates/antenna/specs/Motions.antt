@@ -6,9 +6,19 @@
 --   waitingOf m    == the result that waits, if one does
 --   unowedOf m     == m with what is owed dropped
 --   moves n m      == the antenna n with the motion m
---   aimOf n t      == what becomes of the tilt t that is asked; started n t a == the antenna then
+--   driveRows busy outside == the drive's checks of a message, in their order, by what the two tests say
+--   aimedAt n t    == the answer to the tilt t that is asked: the antenna with a movement that owes a result
+--   aimNumber a    == the paper's return code, or none, for each case of the code's answer
+--   Aims x n r     == the code's answer r for the antenna n, its case and its antenna, is the answer x
+--   started n t a  == the antenna after the case a of the answer
+--   returnCode w   == the paper's return code of a result that waits, for each case; none where none waits
 -- Assumes nothing.
-use mathlib.Core.Bool.{Bool, true, false, cond, _&&_}
+use mathlib.Core.Path.{_≡_}
+use mathlib.Core.Bool.{Bool, true, false, cond, not, _&&_}
+use mathlib.Core.List.{List, [], _∷_}
+use mathlib.Core.Option.{Option, none, some}
+use Prim.Native.Nat.{ℕ}
+use Rattle.refusal.specs.Answer.{Answer, gives, refuses, Row, _when_, answered, settled, stateAfter}
 use Rattle.antenna.specs.declared.Angle.{Angle}
 use Rattle.antenna.specs.declared.Antenna.{Antenna}
 use Rattle.antenna.specs.declared.Motion.{Motion}
@@ -17,6 +27,7 @@ use Rattle.antenna.specs.declared.Waits.{Waits}
 use Rattle.antenna.specs.declared.Waits.the-variants.{Nothing, Result}
 use Rattle.antenna.specs.declared.Aim.{Aim}
 use Rattle.antenna.specs.declared.Aim.the-variants.{Busy, Outside, Started}
+use Rattle.antenna.specs.declared.Aimed.{Aimed}
 use Rattle.antenna.specs.Angles.{atMost}
 
 unfoldable pub inRange : Antenna → Angle → Bool
@@ -58,10 +69,32 @@ unfoldable pub moves : Antenna → Motion → Antenna
 moves n m = record { lowest = n .lowest; highest = n .highest; tilt = n .tilt; motion = m; raised = n .raised }
 
 -- "busy, 0x05; out of range, 0x13"
-unfoldable pub aimOf : Antenna → Angle → Aim
-aimOf n t = cond (busyOf (n .motion)) Busy (cond (inRange n t) Started Outside)
+abbrev pub driveRows : Bool → Bool → List Row
+driveRows busy outside = 0x05 when busy ∷ 0x13 when outside ∷ []
+
+unfoldable pub aimedAt : Antenna → Angle → Answer Antenna
+aimedAt n t = answered (driveRows (busyOf (n .motion)) (not (inRange n t))) (moves n (Owing t))
+
+-- a movement that starts has no return code yet: "sent when the movement ends"
+unfoldable pub aimNumber : Aim → Answer (Unit {0})
+aimNumber Busy = refuses 0x05
+aimNumber Outside = refuses 0x13
+aimNumber Started = gives tt
+
+-- as `Changes` of refusal/specs/Answer, with the return code for the code's answer
+pub record Aims (right : Answer Antenna) (n : Antenna) (r : Aimed) : Type 0 where
+  pub aim : aimNumber (r .aim) ≡ settled right
+  pub antenna : r .antenna ≡ stateAfter right n
 
 unfoldable pub started : Antenna → Angle → Aim → Antenna
 started n t Busy = n
 started n t Outside = n
 started n t Started = moves n (Owing t)
+
+-- "success exactly if t is the tilt asked, else failure 0x02"; success is 0x00
+abbrev pub resultCode : Bool → ℕ
+resultCode reached = cond reached 0x00 0x02
+
+unfoldable pub returnCode : Waits → Option ℕ
+returnCode Nothing = none
+returnCode (Result reached) = some (resultCode reached)

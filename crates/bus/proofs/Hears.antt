@@ -15,7 +15,7 @@ use Rattle.refusal.proofs.Answers.{in-room}
 use Rattle.frame.specs.Line.{inside}
 use Rattle.frame.specs.Decode.{decoded}
 use Rattle.frame.specs.Write.{lineOf}
-use Rattle.frame.proofs.Lengths.{line-158, write-fits}
+use Rattle.frame.proofs.Lengths.{line-most, write-fits}
 use Rattle.frame.proofs.Trip.{trip}
 use Rattle.record.specs.declared.Device.{Device}
 use Rattle.record.specs.Allowed.{allowedDevice}
@@ -28,7 +28,7 @@ use Rattle.bus.specs.Cable.{allAfterLines}
 -- the writer never refuses a frame of at most 76 octets, and 158 octets are enough
 pub line-written : (a c : ℕ) (p : List ℕ) → length p ≤ 74 → lineFor (a ∷ c ∷ p) ≡ lineOf (a ∷ c ∷ p)
 unfolding lineFor octetsGiven
-line-written a c p h = ap octetsGiven (write-fits 78 a c p 158 (omega arith) (line-158 a c p h))
+line-written a c p h = ap octetsGiven (write-fits 78 a c p 158 (omega arith) (line-most 78 a c p (omega arith) h))
 
 pub hears-written : (d : Device) (a c : ℕ) (p : List ℕ) → allowedDevice d ≡ true → Octets (a ∷ c ∷ p) → length p ≤ 74
     → hears d (lineFor (a ∷ c ∷ p)) ≡ gives (reactionOf (judgedFrame d (a ∷ c ∷ p)))

@@ -1,8 +1,8 @@
 -- The number that crosses tells the answer: below 0x10000 the octets, at their place; from there on the refusal, and
 -- an output as it was. Assumes nothing.
 use mathlib.Core.Path.{_≡_}
-use mathlib.Core.List.{List}
-use Prim.Native.Nat.{ℕ, _-_, _<_, _≤_}
+use mathlib.Core.List.{List, _∷_}
+use Prim.Native.Nat.{ℕ, _+_, _-_, _*_, _<_, _≤_}
 use native.Mathlib.Omega.{arith}
 use lib.ListN.{length, take, length-take}
 use Rattle.refusal.specs.Answer.{Answer, gives, refuses}
@@ -10,7 +10,7 @@ use Rattle.frame.specs.Line.{plain}
 use Rattle.frame.specs.Decode.{body, decoded}
 use Rattle.frame.specs.Write.{written}
 use Rattle.frame.proofs.Exact.{decode-frame, write-line}
-use Rattle.frame.proofs.Lengths.{line-158}
+use Rattle.frame.proofs.Lengths.{line-short}
 use Rattle.capi.specs.Crossing.{refusals, Crosses}
 use Rattle.capi.proofs.Crosses.{low-told, high-told}
 
@@ -23,25 +23,27 @@ body-short : (d : List ℕ) → length (body d) ≤ length d
 unfolding body
 body-short d = simp length-take (omega arith)
 
-module _ (src : List ℕ) (room : ℕ) where
-  decoded-short : (b : List ℕ) → decoded 78 src room ≡ gives b → length b < refusals
-  decoded-short b e =
-      let f = decode-frame 78 src room b .0 e in
-      let few = f .0 .2 in
-      let all = body-short (plain src) in
-      rw (← (f .3)) (omega arith)
+-- over the frame limit N, as long as every line is shorter than the refusals' base
+module _ (N : ℕ) (small : 2 * N + 2 < refusals) where
+  module _ (src : List ℕ) (room : ℕ) where
+    decoded-short : (b : List ℕ) → decoded N src room ≡ gives b → length b < refusals
+    decoded-short b e =
+        let f = decode-frame N src room b .0 e in
+        let few = f .0 .2 in
+        let all = body-short (plain src) in
+        rw (← (f .3)) (omega arith)
 
-  pub decode-tells : {o o' : List ℕ} {r : ℕ}
-      → Crosses (decoded 78 src room) o r o' → Tells (decoded 78 src room) o r o'
-  decode-tells c = (low-told _ c, high-told _ decoded-short c)
+    pub decode-tells : {o o' : List ℕ} {r : ℕ}
+        → Crosses (decoded N src room) o r o' → Tells (decoded N src room) o r o'
+    decode-tells c = (low-told _ c, high-told _ decoded-short c)
 
-module _ (address control : ℕ) (payload : List ℕ) (room : ℕ) where
-  written-short : (l : List ℕ) → written 78 address control payload room ≡ gives l → length l < refusals
-  written-short l e =
-      let f = write-line 78 address control payload room l .0 e in
-      let few = line-158 address control payload (f .0) in
-      rw (← (f .2)) (omega arith)
+  module _ (address control : ℕ) (payload : List ℕ) (room : ℕ) where
+    written-short : (l : List ℕ) → written N address control payload room ≡ gives l → length l < refusals
+    written-short l e =
+        let f = write-line N address control payload room l .0 e in
+        let few = line-short (address ∷ control ∷ payload) in
+        rw (← (f .2)) (omega arith)
 
-  pub write-tells : {o o' : List ℕ} {r : ℕ}
-      → Crosses (written 78 address control payload room) o r o' → Tells (written 78 address control payload room) o r o'
-  write-tells c = (low-told _ c, high-told _ written-short c)
+    pub write-tells : {o o' : List ℕ} {r : ℕ}
+        → Crosses (written N address control payload room) o r o' → Tells (written N address control payload room) o r o'
+    write-tells c = (low-told _ c, high-told _ written-short c)

@@ -4,12 +4,10 @@ use mathlib.Core.Path.{_≡_, refl, sym, ap, _∙_}
 use mathlib.Core.Bool.{true, not}
 use mathlib.Core.List.{List, [], _∷_}
 use Prim.Native.Nat.{ℕ}
-use borrow.Author.Tests.{not-true, not-false}
-use Rattle.octets.specs.Octets.{holds}
+use borrow.Author.Tests.{not-false}
 use Rattle.octets.proofs.Words.{true-not-false}
-use Rattle.refusal.specs.Answer.{Answer, gives, refuses, _when_, Given, Clear, numbersOf}
-use Rattle.refusal.specs.Answer.{apart, stateAfter}
-use Rattle.refusal.proofs.Exactly.{exactly, exactly-given}
+use Rattle.refusal.specs.Answer.{Answer, gives, refuses, _when_, Clear, stateAfter}
+use Rattle.refusal.proofs.Exactly.{exactly-given}
 use Rattle.antenna.specs.Motions.{owesOf}
 use Rattle.record.specs.declared.Span.{Span}
 use Rattle.record.specs.declared.Device.{Device}
@@ -18,6 +16,7 @@ use Rattle.record.specs.Allowed.{allowedDevice}
 use Rattle.record.specs.Fresh.{dataAllowed, plateFrom, antennaFrom, freshFrom, freshOf}
 use Rattle.record.specs.Changes.{afterEvent, withAntenna, eventRows, happened}
 use Rattle.record.proofs.Stays.{event-stays, fresh-allowed}
+use Rattle.record.proofs.Only.{happen-6}
 use Rattle.conduct.specs.Conduct.{occurs, occurAll, Meeting, frame, event, meets, run}
 use Rattle.conduct.proofs.Stays.{stays-allowed}
 
@@ -67,7 +66,4 @@ module _ (i p h s : List ℕ) (w : Span) (d : Device) (fresh : freshOf i p h s w
       (rw (← told .1) (fresh-allowed i p h s (antennaFrom w) (not-false _ (told .0 .0)) refl))
 
   pub event-never-refused : (ms : List Meeting) (e : Event) → happened (run d ms) e ≡ refuses 6 → ⊥
-  unfolding happened eventRows Given numbersOf apart holds
-  event-never-refused ms e q =
-      let given = exactly 6 (eventRows (run d ms) e) _ refl .0 q in
-      true-not-false (sym (never-refused ms) ∙ not-true _ given)
+  event-never-refused ms e q = true-not-false (sym (never-refused ms) ∙ happen-6 (run d ms) e .0 q)

@@ -41,7 +41,7 @@ fn numbered(control: u8) -> Order
     Order::Unknown
 }
 
-// What the control octet asks, its poll bit taken as set.
+// What a control octet with its poll bit set asks; of one whose poll bit is clear it means nothing, and `polls` tells.
 pub fn asked(control: u8) -> Order
     ensures { λ r. ⌜ r ≡ askedBy control ⌝ }
 {

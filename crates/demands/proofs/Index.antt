@@ -2,15 +2,16 @@
 -- says each in a sentence, and those of a line of the bench script, which stand in script/proofs. Assumes nothing.
 
 -- ---- numbers for "no": the first row that holds, both ways; one result for each promise
-pub use Rattle.refusal.proofs.Exactly.{exactly, exactly-given, answered-all}
+pub use Rattle.refusal.proofs.Exactly.{exactly, exactly-tests, exactly-given, answered-all}
 pub use Rattle.refusal.proofs.Only.{number-apart, hands-only, changes-only}
 -- ---- the frame check: every entry of the table, and the good-frame residue
 pub use Rattle.fcs.proofs.Rule.{rule}
 pub use Rattle.fcs.proofs.Residue.{residue-good, residue-exactly}
--- ---- the codec: the round trip, the only line without needless escapes, how long a line is
+-- ---- the codec: a right check, the round trip, the only line without needless escapes, how long a line is
+pub use Rattle.frame.proofs.Checks.{check-exactly}
 pub use Rattle.frame.proofs.Trip.{trip, round-trip}
 pub use Rattle.frame.proofs.Unique.{unique, needed-onLine}
-pub use Rattle.frame.proofs.Lengths.{line-158, flag-at-ends, write-fits, write-one-less}
+pub use Rattle.frame.proofs.Lengths.{line-most, flag-at-ends, write-fits, write-one-less}
 -- ---- demand 3: in bits over depth, cap, limit and starting beginning; in octets, of the code's record
 pub use Rattle.walk.proofs.Demand.{demand3}
 pub use Rattle.walk.proofs.Answers.{any-answers}
@@ -26,6 +27,10 @@ pub use Rattle.xid.proofs.Probe.{probe-scan, probe-read}
 -- ---- messages: each return code exactly when; set tilt alone starts a movement
 pub use Rattle.message.proofs.Exact.{given-24, given-25, given-19, given-05, given-13, given-none}
 pub use Rattle.message.proofs.Moves.{moves-exactly, clear-clears, subscribe-subscribes}
+-- ---- controls: each read as the order that has it
+pub use Rattle.control.proofs.Named.{asked-exactly}
+-- ---- tilts: the same exactly if equal
+pub use Rattle.antenna.proofs.Angles.{same-exactly}
 -- ---- what is allowed stays so, and no run from a fresh device meets refusal 6
 pub use Rattle.record.proofs.Stays.{event-stays, end-stays, fresh-allowed}
 pub use Rattle.conduct.proofs.Stays.{stays-allowed}

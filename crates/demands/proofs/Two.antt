@@ -81,7 +81,7 @@ written-reads-back κs a n s κs' a' r s' w v os e h =
     let fits = write-line 78 (a .0) (a .1 .0) (now (a .1 .1 .0)) _ _ .0 (octets-told _ w .0) .0 in
     let u = now (a' .1 .0) in
     let back =
-    round-trip (a .0) (a .1 .0) (now (a .1 .1 .0)) _ _ _ _ os fits h w
+    round-trip 78 (a .0) (a .1 .0) (now (a .1 .1 .0)) _ _ _ _ os (omega arith) fits h w
     (hands-is (ap (λ (l : List ℕ). decoded 78 l (length u)) e) v) in
     let out = hands-only back (handed (a .0 ∷ a .1 .0 ∷ now (a .1 .1 .0)) refl (omega arith) refl) in
     (out .0 ∙ ap Handed.Octets (omega arith), back .octets)

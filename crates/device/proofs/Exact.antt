@@ -10,10 +10,10 @@ use Prim.Native.Nat.{ℕ, _<_, _≤_}
 use borrow.Author.Tests.{ltb-true, ltb-false, lt-ltb, le-ltb, not-true, not-false}
 use lib.ListN.{length}
 use Rattle.octets.specs.Octets.{holds, _atStartOf_}
-use Rattle.refusal.specs.Answer.{Answer, gives, refuses, Given, Clear, numbersOf, apart}
+use Rattle.refusal.specs.Answer.{Answer, gives, refuses, Clear, numbersOf}
 use Rattle.refusal.specs.Numbers.{numberOf}
 use Rattle.refusal.specs.declared.Refusal.{Refusal}
-use Rattle.refusal.proofs.Exactly.{exactly, exactly-given, answered-all}
+use Rattle.refusal.proofs.Exactly.{TestsFor, exactly-tests, exactly-given, answered-all}
 use Rattle.refusal.proofs.Answers.{gives-not-refuses, refuses-same, gives-same}
 use Rattle.frame.specs.Line.{broken, plain}
 use Rattle.frame.specs.Decode.{body, rightCheck}
@@ -32,18 +32,18 @@ use Rattle.device.proofs.Hearing.{heard-readable, heard-cases, by-decod
 -- ---- a decoded frame
 
 module _ (d : Device) (f : List ℕ) (room : ℕ) where
-  by-rows : (k : ℕ) → judged d f room ≡ refuses k ↔ Given k (judgeRows d room)
-  unfolding judged judgeRows numbersOf apart holds
-  by-rows k = exactly k (judgeRows d room) (reactionOf (judgedFrame d f)) refl
+  by-rows : (k : ℕ) → judged d f room ≡ refuses k ↔ TestsFor k (judgeRows d room)
+  unfolding judged
+  by-rows k = exactly-tests k (judgeRows d room) (reactionOf (judgedFrame d f))
 
   -- 6: "a device record handed in, not allowed"
   pub judge-6 : judged d f room ≡ refuses 6 ↔ allowedDevice d ≡ false
-  unfolding Given judgeRows
+  unfolding TestsFor numbersOf holds judgeRows
   judge-6 = (λ e. not-true _ (by-rows 6 .0 e), λ w. by-rows 6 .1 (ap not w))
 
   -- 5: "an answer buffer shorter than 76", and not 6
   pub judge-5 : judged d f room ≡ refuses 5 ↔ (allowedDevice d ≡ true) × (room < frameMost)
-  unfolding Given judgeRows
+  unfolding TestsFor numbersOf holds judgeRows
   judge-5 = (
     λ e. let g = by-rows 5 .0 e in (not-false _ (g .0), ltb-true _ _ (g .1)),
     λ w. by-rows 5 .1 (ap not (w .0), lt-ltb _ _ (w .1)),

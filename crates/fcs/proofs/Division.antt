@@ -1,12 +1,16 @@
 -- k bit steps at once: what stands above the k low bits only moves down, so the remainder of the k low bits, from a
 -- table, is enough. One law over k serves a table of any size. Assumes nothing.
-use mathlib.Core.Path.{_≡_, sym, ap, ap₂, _∙_}
+use mathlib.Core.Path.{_≡_, refl, sym, ap, ap₂, _∙_}
 use Prim.Native.Nat.{ℕ, zero, suc, _*_, _/_, _%_, _^_}
 use native.Mathlib.Nat.{mul-one, mod-lt}
 use lib.Pow.{split, pow-pos}
 use lib.Bits.{bitXor, xor-shr, xor-mod, xor-zero-l, xor-shifted, shifted-half, shifted-even}
 use Rattle.fcs.specs.Check.{polynomial, bitStep, bitSteps}
 use Rattle.fcs.proofs.Exclusive.{xor-assoc}
+
+-- as RFC 1662 writes it
+pub polynomial-is : polynomial ≡ 0x8408
+polynomial-is = refl
 
 -- a number that stands k bits up comes down unchanged
 pub comes-down : (k a b : ℕ) → bitSteps k (bitXor (a * 2 ^ k) b) ≡ bitXor a (bitSteps k b)

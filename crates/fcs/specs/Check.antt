@@ -1,5 +1,6 @@
 -- The frame check: "the 16-bit one of ISO/IEC 13239 (also RFC 1662): x^16 + x^12 + x^5 + 1, least significant bit
 -- first, start 0xFFFF, complemented", by bitwise polynomial division.
+--   reflected n es    == the polynomial with the exponents es, all below n, as n bits, the lowest exponent on top
 --   bitStep r         == the register one bit on; bitSteps k r == k bits on; octetStep r o == one octet on
 --   registerAfter r s == the register after the octets s, from r on
 --   checkOf s         == the check of the octets s
@@ -9,14 +10,19 @@
 -- Assumes nothing.
 use mathlib.Core.Path.{_≡_}
 use mathlib.Core.List.{List, [], _∷_, _++_}
-use Prim.Native.Nat.{ℕ, zero, suc, _*_, _/_, _%_, _^_, _<_}
+use Prim.Native.Nat.{ℕ, zero, suc, _+_, _-_, _*_, _/_, _%_, _^_, _<_}
 use lib.Bits.{bitXor}
 use lib.ListN.{length, getD}
 use Rattle.octets.specs.Octets.{lowOf, highOf}
 
--- x^16 + x^12 + x^5 + 1, least significant bit first
+-- "least significant bit first": of the terms below x^n the one with x^e stands at bit n - 1 - e
+abbrev pub reflected : ℕ → List ℕ → ℕ
+reflected n [] = 0
+reflected n (e ∷ es) = 2 ^ (n - 1 - e) + reflected n es
+
+-- "x^16 + x^12 + x^5 + 1": what an x^16 that falls out leaves is x^12 + x^5 + 1
 abbrev pub polynomial : ℕ
-polynomial = 0x8408
+polynomial = reflected 16 (12 ∷ 5 ∷ 0 ∷ [])
 
 -- one bit: the register moves down by a bit, and where a one falls out the polynomial is exclusive-ored in
 unfoldable pub bitStep : ℕ → ℕ

@@ -1,7 +1,7 @@
 -- How address, control, payload and check come to stand in a buffer, one behind the other. Assumes nothing.
 use mathlib.Core.Path.{_≡_, refl, ap, _∙_}
 use mathlib.Core.List.{List, [], _∷_, _++_, append-nil}
-use Prim.Native.Nat.{ℕ, _+_, _/_, _%_, _≤_}
+use Prim.Native.Nat.{ℕ, _+_, _-_, _/_, _%_, _≤_}
 use native.Mathlib.Omega.{arith}
 use lib.ListN.{length, take, set, length-append}
 use lib.Seq.{sets}
@@ -14,7 +14,7 @@ pub length-withCheck : (b : List ℕ) → length (withCheck b) ≡ length b + 2
 unfolding withCheck
 length-withCheck b = length-append b _
 
-module _ (a c : ℕ) (p o : List ℕ) {o₁ o₂ o₃ : List ℕ} (short : length p ≤ 74) (room : 78 ≤ length o)
+module _ (a c : ℕ) (p o : List ℕ) {o₁ o₂ o₃ : List ℕ} (room : length p + 4 ≤ length o)
     (s₁ : o₁ ≡ set o 0 a) (s₂ : o₂ ≡ set o₁ 1 c) (s₃ : o₃ ≡ sets o₂ 2 p) where
   body-run : (z : List ℕ) → Run o₃ (length p + 2) z o 0 ((a ∷ c ∷ p) ++ z)
   body-run z = run-some p s₃ (omega arith) refl (run-one c s₂ refl (run-one a s₁ refl run-all))
@@ -32,7 +32,7 @@ module _ (a c : ℕ) (p o : List ℕ) {o₁ o₂ o₃ : List ℕ} (short : lengt
       let checked = body-run (lowOf check ∷ highOf check ∷ []) in
       rw (← e') (run-done refl (run-two _ _ s₄ s₅ refl checked))
 
--- a frame of at most 74 octets of payload, with its check, has at most 78
-pub assembled-short : (a c : ℕ) (p : List ℕ) {o o' : List ℕ} {n : ℕ}
-    → Puts o 0 (withCheck (a ∷ c ∷ p)) n o' → length p ≤ 74 → n ≤ 78
-assembled-short a c p f h = omega (arith, f .count, length-withCheck (a ∷ c ∷ p))
+-- a frame of at most N - 4 octets of payload, with its check, has at most N
+pub assembled-short : (N a c : ℕ) (p : List ℕ) {o o' : List ℕ} {n : ℕ}
+    → Puts o 0 (withCheck (a ∷ c ∷ p)) n o' → 4 ≤ N → length p ≤ N - 4 → n ≤ N
+assembled-short N a c p f m h = omega (arith, f .count, length-withCheck (a ∷ c ∷ p))

@@ -80,6 +80,7 @@ pub between-put : (d : List ℕ) {o o₁ o₂ o' : List ℕ} {n : ℕ} → o₁ 
 unfolding between
 between-put d s p t = run-done refl (run-one _ t refl (run-put (onLine d) p refl (run-one _ s refl run-all)))
 
--- at most 78 octets take at most 158 on the line
-pub between-short : (d : List ℕ) {o o' : List ℕ} {n : ℕ} → Puts o 0 (between d) n o' → length d ≤ 78 → n ≤ 158
-between-short d p h = omega (arith, p .count, length-between d, onLine-short d)
+-- at most N octets take at most 2N + 2 on the line, flags included
+pub between-short : (N : ℕ) (d : List ℕ) {o o' : List ℕ} {n : ℕ}
+    → Puts o 0 (between d) n o' → length d ≤ N → n ≤ 2 * N + 2
+between-short N d p h = omega (arith, p .count, length-between d, onLine-short d)

@@ -8,29 +8,29 @@ use Prim.Native.Nat.{ℕ, _-_, _<_, _≤_}
 use borrow.Author.Tests.{ltb-true, ltb-false, lt-ltb, le-ltb, not-true, not-false}
 use lib.ListN.{length}
 use Rattle.octets.specs.Octets.{holds}
-use Rattle.refusal.specs.Answer.{Answer, gives, refuses, Given, Clear, numbersOf, apart, Hands}
+use Rattle.refusal.specs.Answer.{Answer, gives, refuses, Clear, numbersOf, Hands}
 use Rattle.refusal.specs.Numbers.{numberOf}
 use Rattle.refusal.specs.declared.Refusal.{Refusal}
 use Rattle.refusal.specs.declared.Handed.the-variants.{Refused}
-use Rattle.refusal.proofs.Exactly.{exactly, exactly-given, answered-all}
+use Rattle.refusal.proofs.Exactly.{TestsFor, exactly-tests, exactly-given, answered-all}
 use Rattle.refusal.proofs.Answers.{refusal-told}
 use Rattle.frame.specs.Line.{broken, plain}
-use Rattle.frame.specs.Decode.{body, rightCheck, frameRows, decodeRows, decoded}
+use Rattle.frame.specs.Decode.{body, rightCheck, decodeRows, decoded}
 use Rattle.frame.specs.Write.{lineOf, writeRows, written}
 
 module _ (N : ℕ) (s : List ℕ) (room : ℕ) where
-  by-rows : (k : ℕ) → decoded N s room ≡ refuses k ↔ Given k (decodeRows N s room)
-  unfolding decoded decodeRows frameRows numbersOf apart holds
-  by-rows k = exactly k (decodeRows N s room) (body (plain s)) refl
+  by-rows : (k : ℕ) → decoded N s room ≡ refuses k ↔ TestsFor k (decodeRows N (broken s) (plain s) room)
+  unfolding decoded
+  by-rows k = exactly-tests k (decodeRows N (broken s) (plain s) room) (body (plain s))
 
   -- 4: "0x7E inside, or 0x7D as the last octet"
   pub decode-4 : decoded N s room ≡ refuses 4 ↔ broken s ≡ true
-  unfolding Given decodeRows
+  unfolding TestsFor numbersOf holds decodeRows
   decode-4 = by-rows 4
 
   -- 1: "decoded octets fewer than 4", and not 4
   pub decode-1 : decoded N s room ≡ refuses 1 ↔ (broken s ≡ false) × (length (plain s) < 4)
-  unfolding Given decodeRows frameRows
+  unfolding TestsFor numbersOf holds decodeRows
   decode-1 = (
     λ e. let g = by-rows 1 .0 e in (g .0, ltb-true _ _ (g .1)),
     λ w. by-rows 1 .1 (w .0, lt-ltb _ _ (w .1)),
@@ -38,7 +38,7 @@ module _ (N : ℕ) (s : List ℕ) (room : ℕ) where
 
   -- 2: "decoded octets more than 78", and neither of those
   pub decode-2 : decoded N s room ≡ refuses 2 ↔ (broken s ≡ false) × (4 ≤ length (plain s)) × (N < length (plain s))
-  unfolding Given decodeRows frameRows
+  unfolding TestsFor numbersOf holds decodeRows
   decode-2 = (
     λ e. let g = by-rows 2 .0 e in (g .0, ltb-false _ _ (g .1 .0), ltb-true _ _ (g .1 .1)),
     λ w. by-rows 2 .1 (w .0, (le-ltb _ _ (w .1), lt-ltb _ _ (w .2))),
@@ -50,7 +50,7 @@ module _ (N : ℕ) (s : List ℕ) (room : ℕ) where
 
   -- 3: "frame check wrong", and none of those
   pub decode-3 : decoded N s room ≡ refuses 3 ↔ Sized × (rightCheck (plain s) ≡ false)
-  unfolding Given decodeRows frameRows
+  unfolding TestsFor numbersOf holds decodeRows
   decode-3 = (
     λ e.
         let g = by-rows 3 .0 e in
@@ -63,7 +63,7 @@ module _ (N : ℕ) (s : List ℕ) (room : ℕ) where
   -- 5: "the lent output is too short", and none of those
   pub decode-5 : decoded N s room ≡ refuses 5
       ↔ Sized × (rightCheck (plain s) ≡ true) × (room < length (body (plain s)))
-  unfolding Given decodeRows frameRows
+  unfolding TestsFor numbersOf holds decodeRows
   decode-5 = (
     λ e.
         let g = by-rows 5 .0 e in
@@ -77,10 +77,10 @@ module _ (N : ℕ) (s : List ℕ) (room : ℕ) where
   -- a frame: none of the numbers; and it is address, control and payload of the decoded octets
   pub decode-frame : (b : List ℕ) → decoded N s room ≡ gives b
       ↔ Sized × (rightCheck (plain s) ≡ true) × (length (body (plain s)) ≤ room) × (body (plain s) ≡ b)
-  unfolding decoded Clear decodeRows frameRows
+  unfolding decoded Clear decodeRows
   decode-frame b = (
     λ e.
-        let g = exactly-given (decodeRows N s room) (body (plain s)) b .0 e in
+        let g = exactly-given (decodeRows N (broken s) (plain s) room) (body (plain s)) b .0 e in
         let t = g .0 .1 .1 in (
           (g .0 .0, ltb-false _ _ (g .0 .1 .0), ltb-false _ _ (t .0)),
           not-false _ (t .1 .0),
@@ -89,29 +89,29 @@ module _ (N : ℕ) (s : List ℕ) (room : ℕ) where
           g .1,
         ),
     λ w.
-        exactly-given (decodeRows N s room) (body (plain s)) b .1
+        exactly-given (decodeRows N (broken s) (plain s) room) (body (plain s)) b .1
         ((w .0 .0, (le-ltb _ _ (w .0 .1), (le-ltb _ _ (w .0 .2), (ap not (w .1), (le-ltb _ _ (w .2), tt))))), w .3),
   )
 
   -- any octets get a frame or one of 4, 1, 2, 3, 5
   pub decode-all : (decoded N s room ≡ gives (body (plain s)))
       ⊎ ((k : ℕ) × (holds k (4 ∷ 1 ∷ 2 ∷ 3 ∷ 5 ∷ []) ≡ true) × (decoded N s room ≡ refuses k))
-  unfolding decoded decodeRows frameRows numbersOf
-  decode-all = answered-all (decodeRows N s room) (body (plain s))
+  unfolding decoded decodeRows numbersOf
+  decode-all = answered-all (decodeRows N (broken s) (plain s) room) (body (plain s))
 
 module _ (N a c : ℕ) (p : List ℕ) (room : ℕ) where
-  write-rows : (k : ℕ) → written N a c p room ≡ refuses k ↔ Given k (writeRows N p (lineOf (a ∷ c ∷ p)) room)
-  unfolding written writeRows numbersOf apart holds
-  write-rows k = exactly k (writeRows N p (lineOf (a ∷ c ∷ p)) room) (lineOf (a ∷ c ∷ p)) refl
+  write-rows : (k : ℕ) → written N a c p room ≡ refuses k ↔ TestsFor k (writeRows N p (lineOf (a ∷ c ∷ p)) room)
+  unfolding written
+  write-rows k = exactly-tests k (writeRows N p (lineOf (a ∷ c ∷ p)) room) (lineOf (a ∷ c ∷ p))
 
   -- 9: "payload to be written longer than 74 octets"
   pub write-9 : written N a c p room ≡ refuses 9 ↔ N - 4 < length p
-  unfolding Given writeRows
+  unfolding TestsFor numbersOf holds writeRows
   write-9 = (λ e. ltb-true _ _ (write-rows 9 .0 e), λ w. write-rows 9 .1 (lt-ltb _ _ w))
 
   -- 5: "the lent output is too short", and not 9
   pub write-5 : written N a c p room ≡ refuses 5 ↔ (length p ≤ N - 4) × (room < length (lineOf (a ∷ c ∷ p)))
-  unfolding Given writeRows
+  unfolding TestsFor numbersOf holds writeRows
   write-5 = (
     λ e. let g = write-rows 5 .0 e in (ltb-false _ _ (g .0), ltb-true _ _ (g .1)),
     λ w. write-rows 5 .1 (le-ltb _ _ (w .0), lt-ltb _ _ (w .1)),

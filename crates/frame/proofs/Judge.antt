@@ -1,41 +1,35 @@
 -- Each way out of the decoder's and the writer's tests, over the frame limit N. Assumes nothing.
 use mathlib.Core.Path.{_≡_, sym, ap, _∙_}
-use mathlib.Core.Bool.{true, false, not}
+use mathlib.Core.Bool.{Bool, true, false}
 use mathlib.Core.List.{List, _∷_}
 use Prim.Native.Nat.{ℕ, _-_, _<_, _≤_}
 use borrow.Author.Tests.{lt-ltb, le-ltb, eq-eqb, ne-eqb}
 use lib.ListN.{length, getD, take}
 use Rattle.octets.specs.Octets.{pairOf}
-use Rattle.refusal.specs.Answer.{refuses, handedOut}
+use Rattle.refusal.specs.Answer.{refuses, answered, handedOut}
 use Rattle.refusal.proofs.Answers.{answered-here, answered-later}
 use Rattle.fcs.specs.Check.{checkOf, withCheck}
 use Rattle.frame.specs.Line.{broken, plain, between}
-use Rattle.frame.specs.Decode.{body, rightCheck, frameRows, framed, decodeRows, decoded}
+use Rattle.frame.specs.Decode.{body, rightCheck, framed, decodeRows, decoded}
 use Rattle.frame.specs.Write.{lineOf, writeRows, written}
 
 module _ (N : ℕ) (d : List ℕ) (room : ℕ) where
   pub short : length d < 4 → framed N d room ≡ refuses 1
-  unfolding frameRows
-  short h = answered-here _ _ _ (lt-ltb (length d) 4 h)
+  unfolding answered decodeRows
+  short h = rw (lt-ltb (length d) 4 h)
 
   pub long : 4 ≤ length d → N < length d → framed N d room ≡ refuses 2
-  unfolding frameRows
-  long k h = answered-later _ _ _ (le-ltb (length d) 4 k) ∙ answered-here _ _ _ (lt-ltb N (length d) h)
+  unfolding answered decodeRows
+  long k h = rw (le-ltb (length d) 4 k, lt-ltb N (length d) h)
 
   module _ (k : 4 ≤ length d) (h : length d ≤ N) where
     pub wrong : rightCheck d ≡ false → framed N d room ≡ refuses 3
-    unfolding frameRows
-    wrong e =
-        answered-later _ _ _ (le-ltb (length d) 4 k)
-        ∙ answered-later _ _ _ (le-ltb N (length d) h)
-        ∙ answered-here _ _ _ (ap not e)
+    unfolding answered decodeRows
+    wrong e = rw (le-ltb (length d) 4 k, le-ltb N (length d) h, e)
 
     pub right : rightCheck d ≡ true → framed N d room ≡ handedOut (body d) room
-    unfolding frameRows handedOut
-    right e =
-        answered-later _ _ _ (le-ltb (length d) 4 k)
-        ∙ answered-later _ _ _ (le-ltb N (length d) h)
-        ∙ answered-later _ _ _ (ap not e)
+    unfolding answered decodeRows handedOut
+    right e = rw (le-ltb (length d) 4 k, le-ltb N (length d) h, e)
 
 -- the check compared as the code has it
 module _ (d : List ℕ) {check given : ℕ}
@@ -55,8 +49,8 @@ module _ (N : ℕ) (s : List ℕ) (room : ℕ) where
   when-broken e = answered-here _ _ _ e
 
   pub when-whole : broken s ≡ false → decoded N s room ≡ framed N (plain s) room
-  unfolding decoded decodeRows
-  when-whole e = answered-later _ _ _ e
+  unfolding decoded
+  when-whole e = ap (λ (b : Bool). answered (decodeRows N b (plain s) room) (body (plain s))) e
 
   pub when-long : broken s ≡ false → 4 ≤ length (plain s) → N < length (plain s) → decoded N s room ≡ refuses 2
   when-long e k h = when-whole e ∙ long N (plain s) room k h

@@ -16,14 +16,15 @@ use Rattle.frame.proofs.Escapes.{length-between, onLine-short}
 use Rattle.frame.proofs.Judge.{payload-fits}
 use Rattle.frame.proofs.Trip.{no-flag}
 
--- a line is at most 2N + 2 octets long: 158 at the limit of 78
-pub line-bound : (N : ℕ) (b : List ℕ) → length b + 2 ≤ N → length (lineOf b) ≤ 2 * N + 2
+-- each octet, the two of the check too, takes at most two, and each flag one
+pub line-short : (b : List ℕ) → length (lineOf b) ≤ 2 * length b + 6
 unfolding lineOf
-line-bound N b h =
+line-short b =
     omega (arith, length-between (withCheck b), onLine-short (withCheck b), length-withCheck b)
 
-pub line-158 : (a c : ℕ) (p : List ℕ) → length p ≤ 74 → length (lineOf (a ∷ c ∷ p)) ≤ 158
-line-158 a c p h = line-bound 78 (a ∷ c ∷ p) (omega arith)
+-- "It needs exactly the octets it writes, at most 158": at most 2N + 2
+pub line-most : (N a c : ℕ) (p : List ℕ) → 4 ≤ N → length p ≤ N - 4 → length (lineOf (a ∷ c ∷ p)) ≤ 2 * N + 2
+line-most N a c p m h = omega (arith, line-short (a ∷ c ∷ p))
 
 -- 0x7E stands only at its two ends
 pub flag-at-ends : (b : List ℕ) (i : ℕ) → 0 < i → i + 1 < length (lineOf b) → getD (lineOf b) i 0 ≡ flag → ⊥

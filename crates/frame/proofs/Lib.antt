@@ -1,5 +1,6 @@
 -- The laws of frames on the line that the layers above cite.
 pub mod Assembled
+pub mod Checks
 pub mod Escapes
 pub mod Exact
 pub mod Judge

@@ -59,8 +59,9 @@ plain-long-after false (x ∷ xs) = go (eqb x escape) (plain-long-after true xs)
 pub plain-long : (s : List ℕ) → length s ≤ 2 * length (plain s) + 1
 plain-long s = plain-long-after false s
 
-pub overlong : (s : List ℕ) → 158 < length s → 78 < length (plain s)
-overlong s h = omega (arith, plain-long s)
+-- so more than 2N + 2 octets stand for more than N
+pub overlong : (N : ℕ) (s : List ℕ) → 2 * N + 2 < length s → N < length (plain s)
+overlong N s h = omega (arith, plain-long s)
 
 -- a flag looked for by a loop that goes through all of s, whatever it found
 module _ (s : List ℕ) (i : ℕ) {w : Bool} where

@@ -5,23 +5,22 @@ use mathlib.Core.Bool.{Bool, true, false}
 use mathlib.Core.List.{List, [], _∷_, _++_}
 use Prim.Native.Nat.{ℕ, _+_, _-_, _≤_}
 use native.Mathlib.Omega.{arith}
-use borrow.Author.Tests.{eqb-true, eq-eqb}
+use borrow.Author.Tests.{eqb-true}
 use lib.Dec.{eqb}
-use lib.ListN.{length, getD, take}
-use lib.Seq.{take-at, getD-at, getD-append-add}
-use Rattle.octets.specs.Octets.{Octets, holds, lastOf, lowOf, highOf, pairOf}
-use Rattle.octets.proofs.Bounds.{pair-parts}
+use lib.ListN.{length, take}
+use lib.Seq.{take-at}
+use Rattle.octets.specs.Octets.{Octets, holds, lastOf}
 use Rattle.refusal.specs.Answer.{gives, handedOut, Hands}
 use Rattle.refusal.specs.declared.Handed.{Handed}
 use Rattle.refusal.specs.declared.Handed.the-variants.{Octets as Handed·Octets}
 use Rattle.refusal.proofs.Answers.{in-room, octets-told, hands-is}
 use Rattle.refusal.proofs.Exactly.{handed-out-told}
-use Rattle.fcs.specs.Check.{checkOf, withCheck}
-use Rattle.fcs.proofs.Register.{check-lt}
+use Rattle.fcs.specs.Check.{withCheck}
 use Rattle.frame.specs.Line.{flag, escape, broken, plainAfter, plain, special, escaped, onLine, between, inside}
-use Rattle.frame.specs.Decode.{body, rightCheck, decoded}
+use Rattle.frame.specs.Decode.{decoded}
 use Rattle.frame.specs.Write.{lineOf, written}
 use Rattle.frame.proofs.Assembled.{length-withCheck}
+use Rattle.frame.proofs.Checks.{body-withCheck, right-withCheck}
 use Rattle.frame.proofs.Escapes.{length-between}
 use Rattle.frame.proofs.Judge.{when-whole, right, payload-fits}
 use Rattle.frame.proofs.Lines.{unbroken}
@@ -68,58 +67,32 @@ pub inside-between : (d : List ℕ) → inside (between d) ≡ onLine d
 unfolding inside between
 inside-between d = take-at (onLine d) (flag ∷ []) (length (between d) - 2) (omega (arith, length-between d))
 
--- octets with their check: what the check is of, and that it is right
-module _ (b : List ℕ) (os : Octets b) where
-  before : length (withCheck b) - 2 ≡ length b
-  before = omega (arith, length-withCheck b)
+module _ (b : List ℕ) (os : Octets b) (N room : ℕ) (two : 2 ≤ length b) (fits : length b + 2 ≤ N) where
+  -- what lies between the flags of the line of b is answered as b is handed out
+  pub trip : decoded N (inside (lineOf b)) room ≡ handedOut b room
+  unfolding lineOf
+  trip =
+      ap (λ (s : List ℕ). decoded N s room) (inside-between (withCheck b))
+      ∙ when-whole N (onLine (withCheck b)) room (whole-line (withCheck b))
+      ∙ rw (plain-onLine (withCheck b))
+      (right N (withCheck b) room (omega (arith, length-withCheck b)) (omega (arith, length-withCheck b))
+      (right-withCheck b os))
+      ∙ ap (λ (d : List ℕ). handedOut d room) (body-withCheck b)
 
-  pub body-withCheck : body (withCheck b) ≡ b
-  unfolding body withCheck
-  body-withCheck = take-at b (lowOf (checkOf b) ∷ highOf (checkOf b) ∷ []) (length (withCheck b) - 2) (sym before)
-
-  low-is : getD (withCheck b) (length (withCheck b) - 2) 0 ≡ lowOf (checkOf b)
-  unfolding withCheck
-  low-is = getD-at b (lowOf (checkOf b)) (highOf (checkOf b) ∷ []) 0 (length (withCheck b) - 2) (sym before)
-
-  high-is : getD (withCheck b) (length (withCheck b) - 1) 0 ≡ highOf (checkOf b)
-  unfolding withCheck
-  high-is =
-      let n : length (withCheck b) - 1 ≡ length b + 1 = omega (arith, length-withCheck b) in
-      rw n (getD-append-add b (lowOf (checkOf b) ∷ highOf (checkOf b) ∷ []) 1 0)
-
-  pub right-withCheck : rightCheck (withCheck b) ≡ true
-  unfolding rightCheck
-  right-withCheck =
-      rw (body-withCheck, low-is, high-is)
-      (eq-eqb (checkOf b) (pairOf (lowOf (checkOf b)) (highOf (checkOf b)))
-      (sym (pair-parts (checkOf b) (check-lt b os))))
-
-  module _ (N room : ℕ) (two : 2 ≤ length b) (fits : length b + 2 ≤ N) where
-    -- what lies between the flags of the line of b is answered as b is handed out
-    pub trip : decoded N (inside (lineOf b)) room ≡ handedOut b room
-    unfolding lineOf
-    trip =
-        ap (λ (s : List ℕ). decoded N s room) (inside-between (withCheck b))
-        ∙ when-whole N (onLine (withCheck b)) room (whole-line (withCheck b))
-        ∙ rw (plain-onLine (withCheck b))
-        (right N (withCheck b) room (omega (arith, length-withCheck b)) (omega (arith, length-withCheck b))
-        right-withCheck)
-        ∙ ap (λ (d : List ℕ). handedOut d room) body-withCheck
-
--- The same of the code: any answer and output that `write` may give, and then any that `decode` may give to what lies
--- between the flags of what was written.
-pub round-trip : (a c : ℕ) (p : List ℕ) (o o' u u' : List ℕ) {n : ℕ} {r : Handed}
-    → Octets (a ∷ c ∷ p) → length p ≤ 74 → length p + 2 ≤ length u
-    → Hands (written 78 a c p (length o)) o (Handed·Octets n) o'
-    → Hands (decoded 78 (inside (take n o')) (length u)) u r u'
+-- The same of the promises, of which the code's are those at 78: any answer and output that `write` may give, and then
+-- any that `decode` may give to what lies between the flags of what was written.
+pub round-trip : (N a c : ℕ) (p : List ℕ) (o o' u u' : List ℕ) {n : ℕ} {r : Handed}
+    → Octets (a ∷ c ∷ p) → 4 ≤ N → length p ≤ N - 4 → length p + 2 ≤ length u
+    → Hands (written N a c p (length o)) o (Handed·Octets n) o'
+    → Hands (decoded N (inside (take n o')) (length u)) u r u'
     → Hands (gives (a ∷ c ∷ p)) u r u'
-round-trip a c p o o' u u' {n} os h k w d =
+round-trip N a c p o o' u u' {n} os m h k w d =
     let b : List ℕ = a ∷ c ∷ p in
     let out : handedOut (lineOf b) (length o) ≡ gives (take n o') =
-    sym (payload-fits 78 a c p (length o) h) ∙ octets-told (written 78 a c p (length o)) w .0 in
+    sym (payload-fits N a c p (length o) h) ∙ octets-told (written N a c p (length o)) w .0 in
     let line : inside (take n o') ≡ inside (lineOf b) = ap inside (sym (handed-out-told (lineOf b) (length o) out)) in
     hands-is
-    (ap (λ (s : List ℕ). decoded 78 s (length u)) line
-    ∙ trip b os 78 (length u) (omega arith) (omega arith)
+    (ap (λ (s : List ℕ). decoded N s (length u)) line
+    ∙ trip b os N (length u) (omega arith) (omega arith)
     ∙ in-room b (length u) (omega arith))
     d

@@ -4,22 +4,22 @@ use mathlib.Core.Path.{_≡_, refl, sym, ap, _∙_}
 use mathlib.Core.Bool.{Bool, true, false}
 use mathlib.Core.List.{List, [], _∷_, _++_}
 use mathlib.Core.Logic.{_⊎_, inl, inr}
-use Prim.Native.Nat.{ℕ, suc, _+_, _-_, _<_, _≤_}
+use Prim.Native.Nat.{ℕ}
 use native.Mathlib.Omega.{arith}
 use borrow.Author.Tests.{eqb-true, eqb-false, ne-eqb}
 use lib.Bits.{xor-lt}
 use lib.Dec.{eqb, lit<}
-use lib.ListN.{length, getD, take, take-append-drop, drop-of-length-le}
-use lib.Seq.{drop-cons}
-use Rattle.octets.specs.Octets.{Octets, holds, lastOf, pairOf}
-use Rattle.octets.proofs.Bounds.{octets-at, low-pair, high-pair, octets-cond}
+use lib.ListN.{length}
+use Rattle.octets.specs.Octets.{Octets, holds, lastOf}
+use Rattle.octets.proofs.Bounds.{octets-cond}
 use Rattle.octets.proofs.Words.{holds-head, holds-tail}
 use Rattle.refusal.specs.Answer.{gives}
-use Rattle.fcs.specs.Check.{checkOf, withCheck}
+use Rattle.fcs.specs.Check.{withCheck}
 use Rattle.frame.specs.Line.{flag, escape, plainAfter, plain, special, escaped, onLine, inside}
 use Rattle.frame.specs.Line.{Needed}
-use Rattle.frame.specs.Decode.{body, rightCheck, decoded}
+use Rattle.frame.specs.Decode.{decoded}
 use Rattle.frame.specs.Write.{lineOf}
+use Rattle.frame.proofs.Checks.{check-exactly}
 use Rattle.frame.proofs.Exact.{decode-frame}
 use Rattle.frame.proofs.Lines.{unbroken-parts}
 use Rattle.frame.proofs.Trip.{on-octet, inside-between}
@@ -73,30 +73,6 @@ needed-onLine (x ∷ xs) =
     (λ _. inr refl, (λ e. absurd (eqb-false 0x5E escape refl e), needed-onLine xs))
     (λ y f e. (λ q. absurd (eqb-false y escape e q), needed-onLine xs)) x
 
--- d is its first octets and its last two
-split-two : (d : List ℕ) (k : ℕ) → length d ≡ suc (suc k) → take k d ++ getD d k 0 ∷ getD d (suc k) 0 ∷ [] ≡ d
-split-two d k e =
-    ap (λ (l : List ℕ). take k d ++ l)
-    (sym
-    (drop-cons d k 0 (omega arith)
-    ∙ ap (λ (l : List ℕ). getD d k 0 ∷ l)
-    (drop-cons d (suc k) 0 (omega arith)
-    ∙ ap (λ (l : List ℕ). getD d (suc k) 0 ∷ l) (drop-of-length-le d {i = suc (suc k)} (omega arith)))))
-    ∙ take-append-drop k d
-
--- octets whose check is right are their body with its check
-withCheck-body : (d : List ℕ) → Octets d → 2 ≤ length d → rightCheck d ≡ true → withCheck (body d) ≡ d
-unfolding withCheck body rightCheck
-withCheck-body d os h r =
-    let k : ℕ = length d - 2 in
-    let n : length d - 1 ≡ suc k = omega arith in
-    let low = octets-at d os k in
-    let high = octets-at d os (suc k) in
-    let c : checkOf (take k d) ≡ pairOf (getD d k 0) (getD d (suc k) 0) =
-    rw n at (eqb-true (checkOf (take k d)) (pairOf (getD d k 0) (getD d (length d - 1) 0)) r) in
-    rw (c, low-pair (getD d k 0) (getD d (suc k) 0) low, high-pair (getD d k 0) (getD d (suc k) 0) low high)
-    (split-two d k (omega arith))
-
 -- what decodes to b, with no needless escape, is what lies between the flags of the line of b
 pub unique : (N room : ℕ) (s b : List ℕ) → Octets s → Needed s → decoded N s room ≡ gives b → s ≡ inside (lineOf b)
 unfolding lineOf
@@ -104,5 +80,6 @@ unique N room s b os n e =
     let g = decode-frame N s room b .0 e in
     let parts = unbroken-parts s (g .0 .0) in
     let d : withCheck b ≡ plain s =
-    ap withCheck (sym (g .3)) ∙ withCheck-body (plain s) (octets-plain s false os) (omega (arith, g .0 .1)) (g .1) in
+    ap withCheck (sym (g .3))
+    ∙ sym (check-exactly (plain s) (octets-plain s false os) (omega (arith, g .0 .1)) .0 (g .1)) in
     sym (onLine-plain s 0 (parts .0) (parts .1) n) ∙ ap onLine (sym d) ∙ sym (inside-between (withCheck b))

@@ -8,7 +8,7 @@ use mathlib.Core.List.{List, [], _∷_}
 use Prim.Native.Nat.{ℕ, _-_}
 use lib.Dec.{ltb}
 use lib.ListN.{length}
-use Rattle.refusal.specs.Answer.{Answer, Row, _when_, answered, roomRow}
+use Rattle.refusal.specs.Answer.{Answer, Row, _when_, answered, shorter}
 use Rattle.fcs.specs.Check.{withCheck}
 use Rattle.frame.specs.Line.{between}
 
@@ -20,9 +20,9 @@ frameOf a c p = withCheck (a ∷ c ∷ p)
 unfoldable pub lineOf : List ℕ → List ℕ
 lineOf b = between (withCheck b)
 
--- "payload to be written longer than 74 octets", then "It needs exactly the octets it writes"
+-- "the writer 9, then 5": "payload to be written longer than 74 octets", "It needs exactly the octets it writes"
 unfoldable pub writeRows : ℕ → List ℕ → List ℕ → ℕ → List Row
-writeRows N p l room = 9 when ltb (N - 4) (length p) ∷ roomRow l room ∷ []
+writeRows N p l room = 9 when ltb (N - 4) (length p) ∷ 5 when shorter room l ∷ []
 
 unfoldable pub written : ℕ → ℕ → ℕ → List ℕ → ℕ → Answer (List ℕ)
 written N a c p room = answered (writeRows N p (lineOf (a ∷ c ∷ p)) room) (lineOf (a ∷ c ∷ p))

@@ -12,8 +12,9 @@ use Rattle.refusal.specs.Answer.{Answer, Row, _when_, answered}
 use Rattle.antenna.specs.declared.Alarms.{Alarms}
 use Rattle.antenna.specs.declared.Angle.{Angle}
 use Rattle.antenna.specs.declared.Antenna.{Antenna}
-use Rattle.antenna.specs.declared.Aim.the-variants.{Busy, Outside, Started}
-use Rattle.antenna.specs.Motions.{inRange, busyOf, aimOf, started}
+use Rattle.antenna.specs.declared.Motion.the-variants.{Owing}
+use Rattle.antenna.specs.declared.Aim.the-variants.{Started}
+use Rattle.antenna.specs.Motions.{inRange, busyOf, moves, driveRows, aimedAt, started}
 use Rattle.record.specs.declared.Payload.{Payload}
 use Rattle.record.specs.declared.Plate.{Plate}
 use Rattle.payload.specs.Payloads.{payloadOf, successOf, failureOf}
@@ -36,12 +37,11 @@ module _ (n : Antenna) (told : Alarms) (sub : Bool) where
   -- set tilt: what the aim says is what the two checks of the drive say
   set-is : (t : Angle) → setOf n told sub t
       ≡ outcome n told sub 0x33 (answered (driveChecks n 0x33 t) (unanswered (started n t Started) told sub))
-  unfolding setOf aimOf driveChecks aimed answered outcome
-  set-is t = go (busyOf (n .motion)) (inRange n t)
+  unfolding setOf aimedAt driveChecks aimed answered outcome started
+  set-is t = go (busyOf (n .motion)) (not (inRange n t))
     where
-      go : (b r : Bool) → aimed n told sub t (cond b Busy (cond r Started Outside))
-          ≡ outcome n told sub 0x33
-          (answered (0x05 when b ∷ 0x13 when not r ∷ []) (unanswered (started n t Started) told sub))
+      go : (b r : Bool) → aimed n told sub (answered (driveRows b r) (moves n (Owing t)))
+          ≡ outcome n told sub 0x33 (answered (driveRows b r) (unanswered (moves n (Owing t)) told sub))
       go true r = refl
       go false true = refl
       go false false = refl
@@ -49,15 +49,8 @@ module _ (n : Antenna) (told : Alarms) (sub : Bool) where
   get-is : (t : Angle) → getOf n told sub
       ≡ outcome n told sub 0x34
       (answered (driveChecks n 0x34 t) (replies (successOf 0x34 (tiltOctets (n .tilt))) n told sub))
-  unfolding getOf driveChecks answered outcome
-  get-is t = go (busyOf (n .motion))
-    where
-      go : (b : Bool) → cond b (replies (failureOf 0x34 0x05) n told sub)
-          (replies (successOf 0x34 (tiltOctets (n .tilt))) n told sub)
-          ≡ outcome n told sub 0x34
-          (answered (0x05 when b ∷ 0x13 when false ∷ []) (replies (successOf 0x34 (tiltOctets (n .tilt))) n told sub))
-      go true = refl
-      go false = refl
+  unfolding getOf driveChecks answered
+  get-is t = refl
 
   -- what is done by the code is what the table says, where the drive's checks let it
   pub performed-is : (p : Plate) (c : ℕ) (t : Angle) → performedOf p n told sub c t

@@ -11,14 +11,13 @@ use lib.Dec.{ltb, eqb}
 use lib.ListN.{length, getD}
 use Rattle.octets.specs.Octets.{holds}
 use Rattle.octets.proofs.Words.{true-not-false}
-use Rattle.refusal.specs.Answer.{answered}
+use Rattle.refusal.specs.Answer.{Answer, gives, refuses, answered}
 use Rattle.antenna.specs.declared.Alarms.{Alarms}
 use Rattle.antenna.specs.declared.Angle.{Angle}
 use Rattle.antenna.specs.declared.Antenna.{Antenna}
-use Rattle.antenna.specs.declared.Aim.{Aim}
-use Rattle.antenna.specs.declared.Aim.the-variants.{Busy, Outside, Started}
+use Rattle.antenna.specs.declared.Aim.the-variants.{Started}
 use Rattle.antenna.specs.Alarms.{alarmCodes, codesOf}
-use Rattle.antenna.specs.Motions.{inRange, busyOf, owesOf, aimOf, started, moves}
+use Rattle.antenna.specs.Motions.{inRange, busyOf, owesOf, driveRows, aimedAt, started, moves}
 use Rattle.antenna.proofs.Movements.{starts}
 use Rattle.record.specs.declared.Plate.{Plate}
 use Rattle.record.specs.Fresh.{calm}
@@ -62,15 +61,13 @@ module _ (p : Plate) (n : Antenna) (told : Alarms) (sub : Bool) (m : List ℕ) w
       (moved : Due n m → P (unanswered (started n (askedOf m) Started) told sub)) where
     module _ (long : 3 ≤ length m) (said : saidOf m ≡ length (dataOf m))
         (size : length (dataOf m) ≡ takenBy table (codeOf m)) (listed : inTable table (codeOf m) ≡ true) where
-      set-case : codeOf m ≡ 0x33 → (a : Aim) → aimOf n (askedOf m) ≡ a → P (aimed n told sub (askedOf m) a)
-      unfolding aimed takenBy
-      set-case e Busy h = told-only (failureOf 0x33 0x05) (says-failure p 0x33 0x05)
-      set-case e Outside h = told-only (failureOf 0x33 0x13) (says-failure p 0x33 0x13)
-      set-case e Started h =
+      set-case : codeOf m ≡ 0x33 → (x : Answer Antenna) → aimedAt n (askedOf m) ≡ x → P (aimed n told sub x)
+      unfolding aimed takenBy started
+      set-case e (refuses why) h = told-only (failureOf 0x33 why) (says-failure p 0x33 why)
+      set-case e (gives x) h =
           let two : length (dataOf m) ≡ 2 = rw e at size in
-          let due = starts n (askedOf m) .0 h in
-          moved
-          (record { octets = shape-two m 0x33 long e (said ∙ two) two; idle = due .0; reach = due .1 })
+          let (idle, reach, is) = starts n (askedOf m) x .0 h in
+          rw (← is) (moved (record { octets = shape-two m 0x33 long e (said ∙ two) two; idle = idle; reach = reach }))
 
       operated : eqb (codeOf m) 0x04 ≡ false → eqb (codeOf m) 0x05 ≡ false → (b₆ : Bool) → eqb (codeOf m) 0x06 ≡ b₆
           → (b₁ : Bool) → eqb (codeOf m) 0x12 ≡ b₁ → (b₃ : Bool) → eqb (codeOf m) 0x33 ≡ b₃
@@ -78,7 +75,7 @@ module _ (p : Plate) (n : Antenna) (told : Alarms) (sub : Bool) (m : List ℕ) w
           (cond b₆ (replies (successOf 0x06 []) (quieted n) calm sub)
           (cond b₁ (replies (successOf 0x12 []) n told true)
           (cond b₃ (setOf n told sub (askedOf m)) (cond b₄ (getOf n told sub) (unanswered n told sub)))))
-      unfolding setOf getOf takenBy
+      unfolding setOf getOf takenBy answered outcome
       operated x y true e₆ b₁ e₁ b₃ e₃ b₄ e₄ =
           let e = eqb-true (codeOf m) 0x06 e₆ in
           let zero : length (dataOf m) ≡ 0 = rw e at size in
@@ -87,12 +84,13 @@ module _ (p : Plate) (n : Antenna) (told : Alarms) (sub : Bool) (m : List ℕ) w
           let e = eqb-true (codeOf m) 0x12 e₁ in
           let zero : length (dataOf m) ≡ 0 = rw e at size in
           subscribed (shape-none m 0x12 long e (said ∙ zero) zero)
-      operated x y false e₆ false e₁ true e₃ b₄ e₄ = set-case (eqb-true (codeOf m) 0x33 e₃) (aimOf n (askedOf m)) refl
+      operated x y false e₆ false e₁ true e₃ b₄ e₄ =
+          set-case (eqb-true (codeOf m) 0x33 e₃) (aimedAt n (askedOf m)) refl
       operated x y false e₆ false e₁ false e₃ true e₄ = got (busyOf (n .motion))
         where
           got : (b : Bool) → P
-              (cond b (replies (failureOf 0x34 0x05) n told sub)
-              (replies (successOf 0x34 (tiltOctets (n .tilt))) n told sub))
+              (outcome n told sub 0x34
+              (answered (driveRows b false) (replies (successOf 0x34 (tiltOctets (n .tilt))) n told sub)))
           got true = told-only (failureOf 0x34 0x05) (says-failure p 0x34 0x05)
           got false = told-only (successOf 0x34 (tiltOctets (n .tilt))) (says-tilt p (n .tilt))
       operated x y false e₆ false e₁ false e₃ false e₄ =

@@ -21,7 +21,7 @@ use Rattle.octets.specs.Octets.{holds, pairOf}
 use Rattle.refusal.specs.Answer.{Row, _when_}
 use Rattle.antenna.specs.declared.Angle.{Angle}
 use Rattle.antenna.specs.declared.Antenna.{Antenna}
-use Rattle.antenna.specs.Motions.{inRange, busyOf}
+use Rattle.antenna.specs.Motions.{inRange, busyOf, driveRows}
 use Rattle.tilt.specs.Tilts.{angleOf}
 
 infix 70 _takes_
@@ -86,7 +86,7 @@ outside n c t = eqb c 0x33 && not (inRange n t)
 
 -- the drive's part of the checks: "busy, 0x05; out of range, 0x13"
 unfoldable pub driveChecks : Antenna → ℕ → Angle → List Row
-driveChecks n c t = 0x05 when busied n c ∷ 0x13 when outside n c t ∷ []
+driveChecks n c t = driveRows (busied n c) (outside n c t)
 
 -- "Checked in this order: .. length field wrong, 0x24; code one of .., then 0x25; code not in the table below, 0x19;
 -- data length not the defined one, 0x24; busy, 0x05; out of range, 0x13."

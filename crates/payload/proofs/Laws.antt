@@ -1,11 +1,15 @@
 -- What the payloads of this crate are: how long, what lies in them, and the rows that 01 spells out. Assumes nothing.
 use mathlib.Core.Path.{_≡_, refl}
-use mathlib.Core.Bool.{true, false}
+use mathlib.Core.Bool.{Bool, true, false}
 use mathlib.Core.List.{List, [], _∷_}
+use mathlib.Core.Option.{some}
 use Prim.Native.Nat.{ℕ, _+_, _≤_}
 use native.Mathlib.Omega.{arith}
 use lib.ListN.{length, take, replicate, length-take}
+use Rattle.octets.specs.Octets.{lastOf}
 use Rattle.octets.proofs.Stores.{take-start}
+use Rattle.antenna.specs.declared.Waits.the-variants.{Result}
+use Rattle.antenna.specs.Motions.{returnCode}
 use Rattle.payload.specs.Payloads.{messageOf, successOf, failureOf, resultOf, payloadOf, bodyMost}
 
 pub length-message : (code : ℕ) (d : List ℕ) → length (messageOf code d) ≡ 3 + length d
@@ -45,3 +49,9 @@ result-reached = refl
 pub result-missed : resultOf false ≡ 0x33 ∷ 0x02 ∷ 0x00 ∷ 0x0B ∷ 0x02 ∷ []
 unfolding resultOf failureOf
 result-missed = refl
+
+-- the last octet of the result is the return code of what waited
+pub result-code : (reached : Bool) → returnCode (Result reached) ≡ some (lastOf 0 (resultOf reached))
+unfolding returnCode resultOf successOf messageOf failureOf lastOf
+result-code true = refl
+result-code false = refl

@@ -11,6 +11,7 @@ use mathlib.Core.List.{List, [], _∷_}
 use Prim.Native.Nat.{ℕ}
 use lib.ListN.{length, replicate}
 use Rattle.octets.specs.Octets.{lowOf, highOf, _atStartOf_}
+use Rattle.antenna.specs.Motions.{resultCode}
 use Rattle.record.specs.Allowed.{replyMost}
 use Rattle.record.specs.declared.Payload.{Payload}
 
@@ -28,7 +29,7 @@ failureOf code why = code ∷ 2 ∷ 0 ∷ 0x0B ∷ why ∷ []
 
 -- "set tilt: none, sent when the movement ends"; "success exactly if t is the tilt asked, else failure 0x02"
 unfoldable pub resultOf : Bool → List ℕ
-resultOf reached = cond reached (successOf 0x33 []) (failureOf 0x33 0x02)
+resultOf reached = cond reached (successOf 0x33 []) (failureOf 0x33 (resultCode reached))
 
 abbrev pub bodyMost : ℕ
 bodyMost = 71

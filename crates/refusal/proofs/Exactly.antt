@@ -1,71 +1,79 @@
--- A number is given exactly if its row holds and none before it, and what is asked for exactly if no row holds.
--- One law for every table of rows whose numbers differ. Assumes nothing.
-use mathlib.Core.Path.{_≡_, refl, sym, ap}
+-- A number is given exactly if a row of it holds and none before it, and what is asked for exactly if no row holds.
+-- One law for every table of rows, also where two rows have one number.
+--   TestsFor k rows == what the tests say where k is given: that of a row of k yes, those before it no
+-- Assumes nothing.
+use mathlib.Core.Path.{_≡_, refl, sym, ap, _∙_}
 use mathlib.Core.Bool.{Bool, true, false, cond}
 use mathlib.Core.List.{List, [], _∷_}
-use mathlib.Core.Logic.{_↔_, _⊎_, inl, inr, ⊎-elim}
+use mathlib.Core.Logic.{_↔_, Iff·trans, _⊎_, inl, inr, ⊎-elim}
 use Prim.Native.Nat.{ℕ}
-use borrow.Author.Tests.{eqb-true, eq-eqb, ne-eqb}
+use borrow.Author.Tests.{eqb-true, eqb-false, eq-eqb}
 use lib.Dec.{eqb}
 use Rattle.octets.specs.Octets.{holds}
-use Rattle.octets.proofs.Words.{holds-head, holds-tail, true-not-false}
+use Rattle.octets.proofs.Words.{true-not-false}
 use Rattle.refusal.specs.Answer.{gives, refuses, Row, _when_, answered, Given, Clear, numbersOf}
-use Rattle.refusal.specs.Answer.{apart, roomRow, handedOut}
+use Rattle.refusal.specs.Answer.{shorter, handedOut}
 use Rattle.refusal.proofs.Answers.{gives-not-refuses, refuses-same, gives-same}
-
--- the first of a list of numbers that differ does not come again, and the others differ
-apart-head : (n : ℕ) (ns : List ℕ) → apart (n ∷ ns) ≡ true → holds n ns ≡ false
-unfolding apart
-apart-head n ns h = go (holds n ns) h
-  where
-    go : (t : Bool) → cond t false (apart ns) ≡ true → t ≡ false
-    go true e = absurd (true-not-false (sym e))
-    go false e = refl
-
-apart-tail : (n : ℕ) (ns : List ℕ) → apart (n ∷ ns) ≡ true → apart ns ≡ true
-unfolding apart
-apart-tail n ns h = go (holds n ns) h
-  where
-    go : (t : Bool) → cond t false (apart ns) ≡ true → apart ns ≡ true
-    go true e = absurd (true-not-false (sym e))
-    go false e = e
 
 cond-same : (t b : Bool) → cond t b b ≡ b
 cond-same true b = refl
 cond-same false b = refl
 
-module _ {A : Type 0} where
-  -- a number that no row has is not given
-  never : (k : ℕ) (rows : List Row) (a : A) → holds k (numbersOf rows) ≡ false → answered rows a ≡ refuses k → ⊥
-  unfolding answered numbersOf
-  never k [] a h e = gives-not-refuses e
-  never k (n when true ∷ rows) a h e = holds-head k n (numbersOf rows) h (refuses-same e)
-  never k (n when false ∷ rows) a h e = never k rows a (holds-tail k n (numbersOf rows) h) e
+-- it compares the numbers, so that for rows with known numbers it computes to the plain statement
+unfoldable pub TestsFor : ℕ → List Row → Type 0
+TestsFor k [] = ⊥
+TestsFor k (n when t ∷ rows) =
+    cond (eqb n k) (cond (holds k (numbersOf rows)) ((t ≡ true) ⊎ ((t ≡ false) × TestsFor k rows)) (t ≡ true))
+    ((t ≡ false) × TestsFor k rows)
 
-  given : (k : ℕ) (rows : List Row) (a : A) → apart (numbersOf rows) ≡ true
-      → answered rows a ≡ refuses k → Given k rows
-  unfolding answered numbersOf Given
-  given k [] a h e = gives-not-refuses e
-  given k (n when true ∷ rows) a h e = rw (eq-eqb n k (refuses-same e)) refl
-  given k (n when false ∷ rows) a h e =
-      let differs : (n ≡ k → ⊥) =
-      λ q. never k rows a (rw q at (apart-head n (numbersOf rows) h)) e in
-      rw (ne-eqb n k differs) (refl, given k rows a (apart-tail n (numbersOf rows) h) e)
+-- a number that is given is among those of the rows
+given-among : (k : ℕ) (rows : List Row) → Given k rows → holds k (numbersOf rows) ≡ true
+unfolding Given numbersOf holds
+given-among k [] g = absurd g
+given-among k (n when t ∷ rows) (inl (e, q)) = rw (eq-eqb n k e)
+given-among k (n when t ∷ rows) (inr (q, g)) = rw (given-among k rows g) (cond-same (eqb n k) true)
+
+pub given-tests : (k : ℕ) (rows : List Row) → Given k rows ↔ TestsFor k rows
+unfolding Given TestsFor
+given-tests k [] = (λ g. g, λ g. g)
+given-tests k (n when t ∷ rows) = go (eqb n k) (holds k (numbersOf rows)) refl refl (given-tests k rows)
+  where
+    go : (b c : Bool) → eqb n k ≡ b → holds k (numbersOf rows) ≡ c → Given k rows ↔ TestsFor k rows
+        → ((n ≡ k) × (t ≡ true)) ⊎ ((t ≡ false) × Given k rows)
+        ↔ cond b (cond c ((t ≡ true) ⊎ ((t ≡ false) × TestsFor k rows)) (t ≡ true)) ((t ≡ false) × TestsFor k rows)
+    go true true e h ih = (
+      ⊎-elim (λ w. inl (w .1)) (λ w. inr (w .0, ih .0 (w .1))),
+      ⊎-elim (λ q. inl (eqb-true n k e, q)) (λ w. inr (w .0, ih .1 (w .1))),
+    )
+    go true false e h ih = (
+      ⊎-elim (λ w. w .1) (λ w. absurd (true-not-false (sym (given-among k rows (w .1)) ∙ h))),
+      λ q. inl (eqb-true n k e, q),
+    )
+    go false c e h ih = (
+      ⊎-elim (λ w. absurd (eqb-false n k e (w .0))) (λ w. (w .0, ih .0 (w .1))),
+      λ w. inr (w .0, ih .1 (w .1)),
+    )
+
+module _ {A : Type 0} where
+  given : (k : ℕ) (rows : List Row) (a : A) → answered rows a ≡ refuses k → Given k rows
+  unfolding answered Given
+  given k [] a e = gives-not-refuses e
+  given k (n when true ∷ rows) a e = inl (refuses-same e, refl)
+  given k (n when false ∷ rows) a e = inr (refl, given k rows a e)
 
   answered-by : (k : ℕ) (rows : List Row) (a : A) → Given k rows → answered rows a ≡ refuses k
   unfolding answered Given
   answered-by k [] a g = absurd g
-  answered-by k (n when t ∷ rows) a g = go (eqb n k) refl g (answered-by k rows a)
-    where
-      go : (b : Bool) → eqb n k ≡ b → cond b (t ≡ true) ((t ≡ false) × Given k rows)
-          → (Given k rows → answered rows a ≡ refuses k) → cond t (refuses n) (answered rows a) ≡ refuses k
-      go true e q ih = rw (q, eqb-true n k e)
-      go false e q ih = rw (q .0) (ih (q .1))
+  answered-by k (n when t ∷ rows) a (inl (e, q)) = rw (q, e)
+  answered-by k (n when t ∷ rows) a (inr (q, g)) = rw q (answered-by k rows a g)
 
-  -- a number: its row holds, and none before it
-  pub exactly : (k : ℕ) (rows : List Row) (a : A) → apart (numbersOf rows) ≡ true
-      → answered rows a ≡ refuses k ↔ Given k rows
-  exactly k rows a h = (given k rows a h, answered-by k rows a)
+  -- a number: a row of it holds, and none before it
+  pub exactly : (k : ℕ) (rows : List Row) (a : A) → answered rows a ≡ refuses k ↔ Given k rows
+  exactly k rows a = (given k rows a, answered-by k rows a)
+
+  -- the same, said by the tests alone
+  pub exactly-tests : (k : ℕ) (rows : List Row) (a : A) → answered rows a ≡ refuses k ↔ TestsFor k rows
+  exactly-tests k rows a = Iff·trans (exactly k rows a) (given-tests k rows)
 
   clear : (rows : List Row) (a b : A) → answered rows a ≡ gives b → Clear rows × (a ≡ b)
   unfolding answered Clear
@@ -94,4 +102,4 @@ module _ {A : Type 0} where
 -- octets that are handed out are those that were to be
 pub handed-out-told : (b : List ℕ) (room : ℕ) {d : List ℕ} → handedOut b room ≡ gives d → b ≡ d
 unfolding handedOut
-handed-out-told b room {d} e = exactly-given (roomRow b room ∷ []) b d .0 e .1
+handed-out-told b room {d} e = exactly-given (5 when shorter room b ∷ []) b d .0 e .1

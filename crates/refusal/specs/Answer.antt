@@ -3,8 +3,10 @@
 --   refuses k         == the number k for "no"
 --   k when t          == a row of the table of numbers: k is to be given where t holds
 --   answered rows a   == the number of the first row that holds, in the order of the rows; where none does, a
---   Given k rows      == the row of k holds, and none before it
+--   Given k rows      == a row of the number k holds, and none before it
 --   Clear rows        == no row holds
+--   numbersOf rows    == the numbers that the rows have
+--   shorter room b    == a lent output of so many octets is shorter than the octets b
 --   handedOut b room  == the octets b, into a lent output of so many octets
 --   Hands x o r o'    == the code's answer r, and the output o' that was o, are the answer x
 --   Changes x s r s'  == the code's outcome r, and the state s' that was s, are the answer x
@@ -12,10 +14,11 @@
 use mathlib.Core.Path.{_≡_}
 use mathlib.Core.Bool.{Bool, true, false, cond}
 use mathlib.Core.List.{List, [], _∷_}
+use mathlib.Core.Logic.{_⊎_}
 use Prim.Native.Nat.{ℕ}
-use lib.Dec.{ltb, eqb}
+use lib.Dec.{ltb}
 use lib.ListN.{length}
-use Rattle.octets.specs.Octets.{holds, _atStartOf_}
+use Rattle.octets.specs.Octets.{_atStartOf_}
 use Rattle.refusal.specs.Numbers.{numberOf}
 use Rattle.refusal.specs.declared.Handed.{Handed}
 use Rattle.refusal.specs.declared.Handed.the-variants.{Octets, Refused}
@@ -35,29 +38,27 @@ unfoldable pub answered : {A : Type 0} → List Row → A → Answer A
 answered [] a = gives a
 answered (k when t ∷ rows) a = cond t (refuses k) (answered rows a)
 
+-- two rows may have one number: the first that holds counts
 unfoldable pub Given : ℕ → List Row → Type 0
 Given k [] = ⊥
-Given k (n when t ∷ rows) = cond (eqb n k) (t ≡ true) ((t ≡ false) × Given k rows)
+Given k (n when t ∷ rows) = ((n ≡ k) × (t ≡ true)) ⊎ ((t ≡ false) × Given k rows)
 
 unfoldable pub Clear : List Row → Type 0
 Clear [] = Unit {0}
 Clear (n when t ∷ rows) = (t ≡ false) × Clear rows
 
--- the numbers of the rows, and that no two are the same
+-- the numbers of the rows
 unfoldable pub numbersOf : List Row → List ℕ
 numbersOf [] = []
 numbersOf (n when t ∷ rows) = n ∷ numbersOf rows
 
-unfoldable pub apart : List ℕ → Bool
-apart [] = true
-apart (n ∷ ns) = cond (holds n ns) false (apart ns)
+-- 01: "if it is shorter than they are": a lent output of so many octets than the octets b
+abbrev pub shorter : ℕ → List ℕ → Bool
+shorter room b = ltb room (length b)
 
 -- 01: "refusal 5 if it is shorter than they are"
-abbrev pub roomRow : List ℕ → ℕ → Row
-roomRow b room = 5 when ltb room (length b)
-
 unfoldable pub handedOut : List ℕ → ℕ → Answer (List ℕ)
-handedOut b room = answered (roomRow b room ∷ []) b
+handedOut b room = answered (5 when shorter room b ∷ []) b
 
 -- the paper's number, or how many octets, for each case of the code's answer
 unfoldable pub answerOf : Handed → Answer ℕ

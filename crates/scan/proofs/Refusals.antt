@@ -9,8 +9,8 @@ use borrow.Author.Tests.{lt-ltb, ltb-true, ltb-false, not-true}
 use lib.Dec.{ltb}
 use Rattle.identity.specs.Identity.{depth, octetsOf}
 use Rattle.octets.specs.Octets.{holds}
-use Rattle.refusal.specs.Answer.{refuses, Row, _when_, Given, roomRow, apart, numbersOf}
-use Rattle.refusal.proofs.Exactly.{exactly}
+use Rattle.refusal.specs.Answer.{refuses, Row, _when_, shorter, numbersOf}
+use Rattle.refusal.proofs.Exactly.{TestsFor, exactly-tests}
 use Rattle.walk.specs.Machine.{step}
 use Rattle.walk.proofs.Doubts.{or-parts}
 use Rattle.scan.specs.Record.{room, beginningOf, walkOf, recordOf}
@@ -52,21 +52,21 @@ over-exactly s = (there, back)
         (or-right (ltb room (s .listed)) _ (lt-ltb depth (s .bits) h)))
 
 pub report-seven : (s : Scan) (heard : Bool) → (reported s heard ≡ refuses 7) ↔ (over s ≡ true)
-unfolding reported Given apart numbersOf holds
-report-seven s heard = exactly 7 (7 when over s ∷ []) (recordOf s (step octetsOf depth room (walkOf s) heard)) refl
+unfolding reported TestsFor numbersOf holds
+report-seven s heard = exactly-tests 7 (7 when over s ∷ []) (recordOf s (step octetsOf depth room (walkOf s) heard))
 
 module _ (s : Scan) (lent : ℕ) where
   rows : List Row
-  rows = 7 when over s ∷ roomRow (probeOf (beginningOf s)) lent ∷ []
+  rows = 7 when over s ∷ 5 when shorter lent (probeOf (beginningOf s)) ∷ []
 
   pub probe-seven : (probed s lent ≡ refuses 7) ↔ (over s ≡ true)
-  unfolding probed rows Given apart numbersOf holds
-  probe-seven = exactly 7 rows (probeOf (beginningOf s)) refl
+  unfolding probed rows TestsFor numbersOf holds
+  probe-seven = exactly-tests 7 rows (probeOf (beginningOf s))
 
   pub probe-five : (probed s lent ≡ refuses 5) ↔ ((over s ≡ false) × (lent < 47))
-  unfolding probed rows Given apart numbersOf holds
+  unfolding probed rows TestsFor numbersOf holds
   probe-five =
-      let law = exactly 5 rows (probeOf (beginningOf s)) refl in
+      let law = exactly-tests 5 rows (probeOf (beginningOf s)) in
       let n = length-probe (beginningOf s) in (
         λ e. let (a, b) = law .0 e in (a, omega (arith, n, ltb-true lent _ b)),
         λ (a, b). law .1 (a, lt-ltb lent _ (omega (arith, n))),

@@ -14,7 +14,7 @@ use lib.Dec.{ltb}
 use lib.ListN.{replicate}
 use Rattle.identity.specs.Bits.{Bits}
 use Rattle.identity.specs.Identity.{width, depth, octetsOf, maskOf}
-use Rattle.refusal.specs.Answer.{Answer, _when_, answered, roomRow, stateAfter}
+use Rattle.refusal.specs.Answer.{Answer, _when_, answered, shorter, stateAfter}
 use Rattle.walk.specs.Machine.{step}
 use Rattle.scan.specs.Record.{room, beginningOf, walkOf, recordOf}
 use Rattle.scan.specs.Steps.{standsAt}
@@ -56,7 +56,7 @@ over s = ended (s .state) || (not (ltb (s .count) (s .limit)) || (ltb room (s .l
 unfoldable pub probed : Scan → ℕ → Answer (List ℕ)
 probed s lent =
     let b = probeOf (beginningOf s) in
-    answered (7 when over s ∷ roomRow b lent ∷ []) b
+    answered (7 when over s ∷ 5 when shorter lent b ∷ []) b
 
 unfoldable pub reported : Scan → Bool → Answer Scan
 reported s heard = answered (7 when over s ∷ []) (recordOf s (step octetsOf depth room (walkOf s) heard))

@@ -54,7 +54,7 @@ fn put_rest(d: &[u8], from: usize, line: &mut [u8], at: usize) -> usize
 
 // Puts flag, `d` with its escapes, flag into `line`: four octets a turn, and what is left one by one.
 fn put_between(d: &[u8], line: &mut [u8]) -> usize
-    requires { ⌜ (length (now d) ≤ 78) × (158 ≤ length (now line)) ⌝ }
+    requires { ⌜ 2 * length (now d) + 2 ≤ length (now line) ⌝ }
     ensures { λ r. ⌜ Puts (now (line .entry)) 0 (between (now (d .entry))) r (now (line .exit)) ⌝ }
 {
     line[0] = FLAG;
@@ -75,7 +75,7 @@ fn put_between(d: &[u8], line: &mut [u8]) -> usize
 
 // Puts address, control, payload and their check into `d`.
 fn assemble(address: u8, control: u8, payload: &[u8], d: &mut [u8]) -> usize
-    requires { ⌜ (length (now payload) ≤ 74) × (78 ≤ length (now d)) ⌝ }
+    requires { ⌜ length (now payload) + 4 ≤ length (now d) ⌝ }
     ensures { λ r. ⌜ Puts (now (d .entry)) 0 (frameOf address control (now (payload .entry))) r (now (d .exit)) ⌝ }
 {
     octets::put(d, 0, address);

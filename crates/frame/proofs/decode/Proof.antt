@@ -23,7 +23,7 @@ returns c = refused Broken (when-broken 78 _ _ (sym (c .before .is-broken .ensur
 returns-2 : tie.Need-returns-2
 returns-2 c =
     let whole = sym (c .before .before .is-broken .ensures) ∙ c .before .if1 .left in
-    let h = overlong _ (c .if2 .taken) in
+    let h = overlong 78 _ (c .if2 .taken) in
     refused TooLong (when-long 78 _ _ whole (omega arith) h)
 
 slice-aggregate-unescape : tie.Need-slice-aggregate-unescape

@@ -1,6 +1,8 @@
 -- `message::get_tilt` meets its promise: each way out, by the tests that lead to it. Assumes nothing.
 use borrow.Author.Needs.{needs}
 use mathlib.Core.Path.{sym, _∙_}
+use Rattle.refusal.specs.Answer.{answered}
+use Rattle.message.specs.Carried.{outcome}
 use Rattle.message.specs.Steps.{getOf}
 use Rattle.message.proofs.Judged.{reply-is}
 use Rattle.message.proofs.get_tilt.Statement.{statement}
@@ -16,7 +18,7 @@ replied-requires : tie.Need-replied-requires
 replied-requires c κs = search needs
 
 returns : tie.Need-returns
-unfolding getOf
+unfolding getOf answered outcome
 returns c =
     rw (sym (c .before .before .before .busy .ensures) ∙ c .before .before .if1 .taken)
     (reply-is _ _ _ _ (c .before .failure .ensures) (c .replied .ensures))
@@ -28,7 +30,7 @@ replied-requires-2 : tie.Need-replied-requires-2
 replied-requires-2 c κs = search needs
 
 returns-2 : tie.Need-returns-2
-unfolding getOf
+unfolding getOf answered outcome
 returns-2 c =
     rw (sym (c .before .before .before .busy .ensures) ∙ c .before .before .if1 .left)
     (reply-is _ _ _ _ (c .before .tilt2 .ensures) (c .replied2 .ensures))

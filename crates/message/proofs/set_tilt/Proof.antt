@@ -1,6 +1,6 @@
 -- `message::set_tilt` meets its promise: what becomes of the aim is what comes of the message. Assumes nothing.
 use borrow.Author.Needs.{needs}
-use mathlib.Core.Path.{sym, _∙_}
+use Rattle.antenna.proofs.Aims.{busy-told, outside-told, started-told}
 use Rattle.message.specs.Steps.{aimed, setOf}
 use Rattle.message.proofs.Judged.{reply-is}
 use Rattle.message.proofs.set_tilt.Statement.{statement}
@@ -36,21 +36,20 @@ silent-requires c κs = search needs
 returns : tie.Need-returns
 unfolding setOf aimed
 returns c =
-    rw (sym (c .before .before .before .before .before .aim-at .ensures .0) ∙ c .before .before .enum-told .given .1)
+    rw (busy-told (c .before .before .before .before .before .aim-at .ensures) (c .before .before .enum-told .given .1))
     (reply-is _ _ _ _ (c .before .failure .ensures) (c .replied .ensures))
 
 returns-2 : tie.Need-returns-2
 unfolding setOf aimed
 returns-2 c =
-    rw (sym (c .before .before .before .before .before .aim-at .ensures .0) ∙ c .before .before .enum-told2 .given .1)
+    rw (outside-told (c .before .before .before .before .before .aim-at .ensures) (c .before .before .enum-told2 .given .1))
     (reply-is _ _ _ _ (c .before .failure2 .ensures) (c .replied2 .ensures))
 
 returns-3 : tie.Need-returns-3
 unfolding setOf aimed
 returns-3 c =
-    let aim = c .before .before .before .before .aim-at .ensures in
-    let told = sym (aim .0) ∙ c .before .enum-told3 .given .1 in
-    rw told (rw (aim .1, told) at (c .silent .ensures))
+    rw (started-told (c .before .before .before .before .aim-at .ensures) (c .before .enum-told3 .given .1))
+    (c .silent .ensures)
 
 pub set-tilt-spec : {M : Type 1} → statement M
 set-tilt-spec =

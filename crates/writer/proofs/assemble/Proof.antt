@@ -54,7 +54,7 @@ returns c =
     let late = c .before .before .before .before .before .before .before .before in
     let mid = late .before .before .before .before in
     let early = mid .before .before .before .before .before .before .before .before in
-    assembled _ _ _ _ (early .before .before .before .before .pre .0) (early .before .before .before .before .pre .1)
+    assembled _ _ _ _ (early .before .before .before .before .pre)
     (early .put .ensures) (mid .before .before .before .before .put2 .ensures) (mid .put-all .ensures)
     (late .check .ensures) (c .before .before .before .before .before .before .put3 .ensures)
     (c .before .before .put4 .ensures)

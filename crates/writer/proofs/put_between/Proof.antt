@@ -13,7 +13,7 @@ use Rattle.writer.proofs.put_between.Tie as tie
 
 abbrev Inv-loop : tie.InvT-loop
 Inv-loop d line₀ n₀ i₀ whole line n i =
-    (i ≤ length d) × (i % 4 ≡ 0) × (n ≤ 1 + 2 * i) × (length line ≡ length line₀) × (158 ≤ length line)
+    (i ≤ length d) × (i % 4 ≡ 0) × (n ≤ 1 + 2 * i) × (length line ≡ length line₀) × (2 * length d + 2 ≤ length line)
     × Run line n (onLine (drop i d)) line₀ 1 (onLine d)
 
 abbrev μ-loop : tie.MeasureT-loop
@@ -78,7 +78,7 @@ put-octet-requires-4 c κs =
     let few₂ = octet-few _ (second .put-octet2 .ensures) in
     let few₁ = octet-few _ (first .put-octet .ensures) in
     let turn = four-inside (test .loop-test .taken) (test .before .loop .inv .1) in
-    omega (arith, turn, test .before .loop .inv .2, test .before .before .before .before .pre .0)
+    omega (arith, turn, test .before .loop .inv .2, test .before .before .before .before .pre)
 
 add-i : tie.Need-add-i Inv-loop μ-loop
 add-i c = search needs

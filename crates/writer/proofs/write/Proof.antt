@@ -22,11 +22,12 @@ assemble-requires c κs = search needs
 
 array-share-prefix-d : tie.Need-array-share-prefix-d
 array-share-prefix-d c =
-    let h = assembled-short _ _ _ (c .before .assemble .ensures) (c .before .before .before .if1 .left) in omega arith
+    let h = assembled-short 78 _ _ _ (c .before .assemble .ensures) (omega arith) (c .before .before .before .if1 .left) in
+    omega arith
 
 slice-aggregate-put-between : tie.Need-slice-aggregate-put-between
 slice-aggregate-put-between c =
-    let h = assembled-short _ _ _ (c .before .before .assemble .ensures)
+    let h = assembled-short 78 _ _ _ (c .before .before .assemble .ensures) (omega arith)
     (c .before .before .before .before .if1 .left) in
     simp length-take (omega arith)
 
@@ -35,22 +36,22 @@ slice-aggregate-put-between-2 c = search needs
 
 put-between-requires : tie.Need-put-between-requires
 put-between-requires c κs =
-    let h = assembled-short _ _ _ (c .before .before .before .assemble .ensures)
+    let h = assembled-short 78 _ _ _ (c .before .before .before .assemble .ensures) (omega arith)
     (c .before .before .before .before .before .if1 .left) in
     simp length-take (omega arith)
 
 array-share-prefix-line : tie.Need-array-share-prefix-line
 array-share-prefix-line c =
-    let few = assembled-short _ _ _ (c .before .before .before .before .before .assemble .ensures)
+    let few = assembled-short 78 _ _ _ (c .before .before .before .before .before .assemble .ensures) (omega arith)
     (c .before .before .before .before .before .before .before .if1 .left) in
-    let h = between-short _ (c .before .put-between .ensures) (simp length-take (omega arith)) in
+    let h = between-short 78 _ (c .before .put-between .ensures) (simp length-take (omega arith)) in
     omega arith
 
 slice-aggregate-hand-out : tie.Need-slice-aggregate-hand-out
 slice-aggregate-hand-out c =
-    let few = assembled-short _ _ _ (c .before .before .before .before .before .before .assemble .ensures)
+    let few = assembled-short 78 _ _ _ (c .before .before .before .before .before .before .assemble .ensures) (omega arith)
     (c .before .before .before .before .before .before .before .before .if1 .left) in
-    let h = between-short _ (c .before .before .put-between .ensures) (simp length-take (omega arith)) in
+    let h = between-short 78 _ (c .before .before .put-between .ensures) (simp length-take (omega arith)) in
     simp length-take (omega arith)
 
 hand-out-requires : tie.Need-hand-out-requires
@@ -64,8 +65,8 @@ returns-2 c =
     let late = c .before .before .before .before .before .before in
     let early = late .before .before .before .before in
     let fits = early .before .before .if1 .left in
-    let few = assembled-short _ _ _ (early .assemble .ensures) fits in
-    let line = between-short _ (late .put-between .ensures) (simp length-take (omega arith)) in
+    let few = assembled-short 78 _ _ _ (early .assemble .ensures) (omega arith) fits in
+    let line = between-short 78 _ (late .put-between .ensures) (simp length-take (omega arith)) in
     let stored = put-back (early .assemble .ensures) (omega arith) in
     hands-is (when-lined 78 _ _ _ _ fits stored (put-back (late .put-between .ensures) (omega arith)))
     (c .before .before .hand-out .ensures)

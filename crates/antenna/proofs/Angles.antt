@@ -1,0 +1,40 @@
+-- Tilts that are the same: each at most the other exactly if they are equal. Assumes nothing.
+use mathlib.Core.Path.{_≡_, refl, sym, ap}
+use mathlib.Core.Bool.{Bool, true, false, _&&_}
+use mathlib.Core.Logic.{_↔_}
+use Prim.Native.Nat.{ℕ}
+use native.Mathlib.Omega.{arith}
+use borrow.Author.Tests.{leb-true, le-leb}
+use lib.Dec.{leb}
+use lib.IntN.{ℤ, pos, negsuc}
+use lib.Signed.{leZ}
+use Rattle.octets.proofs.Words.{true-not-false}
+use Rattle.antenna.specs.declared.Angle.{Angle}
+use Rattle.antenna.specs.Angles.{atMost, sameAs}
+
+and-parts : (a b : Bool) → (a && b) ≡ true → (a ≡ true) × (b ≡ true)
+and-parts true b e = (refl, e)
+and-parts false b e = absurd (true-not-false (sym e))
+
+each-at-most : (m n : ℕ) → (leb m n && leb n m) ≡ true → m ≡ n
+each-at-most m n e =
+    let w = and-parts (leb m n) (leb n m) e in omega (arith, leb-true m n (w .0), leb-true n m (w .1))
+
+-- of two whole numbers, by their signs
+each-at-most-ℤ : (a b : ℤ) → (leZ a b && leZ b a) ≡ true → a ≡ b
+each-at-most-ℤ (pos m) (pos n) e = ap pos (each-at-most m n e)
+each-at-most-ℤ (pos m) (negsuc n) e = absurd (true-not-false (sym e))
+each-at-most-ℤ (negsuc m) (pos n) e = absurd (true-not-false (sym e))
+each-at-most-ℤ (negsuc m) (negsuc n) e = ap negsuc (sym (each-at-most n m e))
+
+at-most-itself : (a : ℤ) → leZ a a ≡ true
+at-most-itself (pos m) = le-leb m m (omega arith)
+at-most-itself (negsuc m) = le-leb m m (omega arith)
+
+-- "exactly if t is the tilt asked"
+pub same-exactly : (a b : Angle) → sameAs a b ≡ true ↔ a ≡ b
+unfolding sameAs atMost
+same-exactly a b = (
+  λ e. ap (λ (z : ℤ). record { tenths = z }) (each-at-most-ℤ (a .tenths) (b .tenths) e),
+  λ e. rw (e, at-most-itself (b .tenths)),
+)
