@@ -83,7 +83,7 @@ unfolding runs busyOf
 busy-runs Still e = e
 busy-runs Moving e = refl
 busy-runs (Owing asked) e = refl
-busy-runs (Stopped reached) e = refl
+busy-runs (Stopped reached) e = absurd (true-not-false (sym e))
 
 pub idle : (m : Motion) → busyOf m ≡ false → m ≡ Still
 unfolding busyOf

@@ -11,7 +11,7 @@
 --   aimNumber a    == the paper's return code, or none, for each case of the code's answer
 --   Aims x n r     == the code's answer r for the antenna n, its case and its antenna, is the answer x
 --   started n t a  == the antenna after the case a of the answer
---   returnCode w   == the paper's return code of a result that waits, for each case; none where none waits
+--   resultCode reached == the return code of a result; returnCode w == of what waits, for each case, or none
 -- Assumes nothing.
 use mathlib.Core.Path.{_≡_}
 use mathlib.Core.Bool.{Bool, true, false, cond, not, _&&_}

@@ -45,5 +45,6 @@ module _ (N : ℕ) (small : 2 * N + 2 < refusals) where
         rw (← (f .2)) (omega arith)
 
     pub write-tells : {o o' : List ℕ} {r : ℕ}
-        → Crosses (written N address control payload room) o r o' → Tells (written N address control payload room) o r o'
+        → Crosses (written N address control payload room) o r o'
+        → Tells (written N address control payload room) o r o'
     write-tells c = (low-told _ c, high-told _ written-short c)

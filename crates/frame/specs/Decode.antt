@@ -1,8 +1,8 @@
 -- What the decoder answers to what lies between two flags. N is the frame limit.
 --   body d             == the decoded octets d without their two check octets: address, control and payload
 --   rightCheck d       == the last two of d are the check of those before them
---   decodeRows N isBroken d room == the rows of the table of numbers for a line, broken or not, with the decoded octets
---                         d, and a lent output of so many octets
+--   decodeRows N isBroken d room == the rows of the table of numbers, for a line that is broken or not and has the
+--                         decoded octets d, and a lent output of so many octets
 --   decoded N s room   == the answer to the octets s between two flags
 --   framed N d room    == the same, to a line that is not broken and has the decoded octets d
 -- Assumes nothing.
@@ -23,7 +23,8 @@ body d = take (length d - 2) d
 unfoldable pub rightCheck : List ℕ → Bool
 rightCheck d = eqb (checkOf (body d)) (pairOf (getD d (length d - 2) 0) (getD d (length d - 1) 0))
 
--- "The decoder tests 4, 1, 2, 3, 5": the table's words for each are in refusal/specs/Numbers
+-- "The decoder tests 4, 1, 2, 3, 5": "0x7E inside, or 0x7D as the last octet", "decoded octets fewer than 4", "more
+-- than 78", "frame check wrong", "the lent output is too short"
 unfoldable pub decodeRows : ℕ → Bool → List ℕ → ℕ → List Row
 decodeRows N isBroken d room =
     4 when isBroken

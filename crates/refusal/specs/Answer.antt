@@ -52,7 +52,7 @@ unfoldable pub numbersOf : List Row → List ℕ
 numbersOf [] = []
 numbersOf (n when t ∷ rows) = n ∷ numbersOf rows
 
--- 01: "if it is shorter than they are": a lent output of so many octets than the octets b
+-- 01: "if it is shorter than they are"
 abbrev pub shorter : ℕ → List ℕ → Bool
 shorter room b = ltb room (length b)
 

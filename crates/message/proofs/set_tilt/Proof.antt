@@ -36,13 +36,15 @@ silent-requires c κs = search needs
 returns : tie.Need-returns
 unfolding setOf aimed
 returns c =
-    rw (busy-told (c .before .before .before .before .before .aim-at .ensures) (c .before .before .enum-told .given .1))
+    let aim = c .before .before .before .before .before .aim-at .ensures in
+    rw (busy-told aim (c .before .before .enum-told .given .1))
     (reply-is _ _ _ _ (c .before .failure .ensures) (c .replied .ensures))
 
 returns-2 : tie.Need-returns-2
 unfolding setOf aimed
 returns-2 c =
-    rw (outside-told (c .before .before .before .before .before .aim-at .ensures) (c .before .before .enum-told2 .given .1))
+    let aim = c .before .before .before .before .before .aim-at .ensures in
+    rw (outside-told aim (c .before .before .enum-told2 .given .1))
     (reply-is _ _ _ _ (c .before .failure2 .ensures) (c .replied2 .ensures))
 
 returns-3 : tie.Need-returns-3

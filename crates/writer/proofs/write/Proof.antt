@@ -22,7 +22,8 @@ assemble-requires c κs = search needs
 
 array-share-prefix-d : tie.Need-array-share-prefix-d
 array-share-prefix-d c =
-    let h = assembled-short 78 _ _ _ (c .before .assemble .ensures) (omega arith) (c .before .before .before .if1 .left) in
+    let fits = c .before .before .before .if1 .left in
+    let h = assembled-short 78 _ _ _ (c .before .assemble .ensures) (omega arith) fits in
     omega arith
 
 slice-aggregate-put-between : tie.Need-slice-aggregate-put-between
@@ -49,8 +50,9 @@ array-share-prefix-line c =
 
 slice-aggregate-hand-out : tie.Need-slice-aggregate-hand-out
 slice-aggregate-hand-out c =
-    let few = assembled-short 78 _ _ _ (c .before .before .before .before .before .before .assemble .ensures) (omega arith)
-    (c .before .before .before .before .before .before .before .before .if1 .left) in
+    let fits = c .before .before .before .before .before .before .before .before .if1 .left in
+    let few = assembled-short 78 _ _ _ (c .before .before .before .before .before .before .assemble .ensures)
+    (omega arith) fits in
     let h = between-short 78 _ (c .before .before .put-between .ensures) (simp length-take (omega arith)) in
     simp length-take (omega arith)
 
