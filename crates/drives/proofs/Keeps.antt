@@ -8,11 +8,10 @@ use lib.Dec.{ltb, leb, eqb}
 use lib.ListN.{length, getD, set}
 use Rattle.refusal.specs.Answer.{Answer, gives, refuses, settled, stateAfter}
 use Rattle.record.specs.declared.Device.{Device}
-use Rattle.record.specs.Changes.{happened}
 use Rattle.device.specs.Judge.{Reaction, toldOf, deviceAfter, bufferAfter}
 use Rattle.bus.specs.declared.Row.{Row}
 use Rattle.drives.specs.Drives.{Reply, noCommand, noDevice, full, device, outcome, answer, state, After, Came}
-use Rattle.drives.specs.Drives.{_saying_, _leaving_, withDevice, deviceAt, isDevice, listens, tells, eventOf, befalls}
+use Rattle.drives.specs.Drives.{_saying_, _leaving_, withDevice, deviceAt, isDevice, listens, tells, happens, befalls}
 use Rattle.drives.specs.Drives.{freshBy, added, adds, drives, toDevice, obeyed}
 
 -- `error` and a word, or `refused N`
@@ -82,7 +81,7 @@ module _ (row : Row) where
     drives-keeps c place v os =
         either (ltb c 2) (tells-keeps place (listens c (deviceAt row place) os (length o)))
         (either (eqb c 2) unchanged
-        (leaving-keeps (befalls-keeps place (happened (deviceAt row place) (eventOf c v)))))
+        (leaving-keeps (befalls-keeps place (happens (deviceAt row place) c v))))
 
     device-keeps : (c k v : ℕ) (os : List ℕ) → KeepsIf row o (toDevice c row k v os o)
     unfolding toDevice

@@ -5,19 +5,19 @@ use mathlib.Core.List.{List, [], _∷_}
 use Prim.Native.Nat.{ℕ, zero, suc, _+_, _-_, _≤_, _<_, min}
 use native.Mathlib.Omega.{arith}
 use lib.Dec.{leb, eqb}
-use borrow.Author.Tests.{lt-ltb, le-ltb, lt-leb, eq-eqb, ne-eqb, leb-true, eqb-false, not-true}
+use borrow.Author.Tests.{lt-ltb, le-ltb, lt-leb, eq-eqb, ne-eqb, leb-true, ltb-true, eqb-false, not-true}
 use lib.ListN.{length, take, drop, getD, set}
 use Rattle.octets.proofs.Takes.{take-room}
 use Rattle.identity.proofs.Identities.{and-parts}
 use Rattle.refusal.specs.declared.Outcome.{Outcome}
 use Rattle.refusal.specs.declared.Outcome.the-variants.{Done, Refused}
-use Rattle.refusal.specs.Answer.{Answer, gives, refuses, Changes, outcomeOf, settled, stateAfter}
+use Rattle.refusal.specs.Answer.{Answer, gives, refuses, answered, Changes, outcomeOf, settled, stateAfter}
 use Rattle.refusal.proofs.Answers.{gives-not-refuses}
 use Rattle.antenna.specs.declared.Angle.{Angle}
 use Rattle.record.specs.declared.Device.{Device}
-use Rattle.record.specs.declared.Event.{Event}
 use Rattle.record.specs.Fresh.{freshOf, blankDevice}
-use Rattle.record.specs.Changes.{happened}
+use Rattle.record.specs.Allowed.{allowedDevice}
+use Rattle.record.specs.Changes.{eventRows, happened}
 use Rattle.device.specs.declared.Said.{Said}
 use Rattle.device.specs.declared.Judged.{Judged}
 use Rattle.device.specs.Judge.{Reaction, judged, heard, Judges}
@@ -25,8 +25,9 @@ use Rattle.bus.specs.declared.Row.{Row}
 use Rattle.drives.specs.declared.Answer.the-variants as code
 use Rattle.drives.specs.declared.Obeyed.{Obeyed}
 use Rattle.drives.specs.Drives.{After, Came, Obeys, noDevice, noCommand, device, outcome, answer, state}
-use Rattle.drives.specs.Drives.{_saying_, _leaving_, replyOf, afterOf, isDevice, deviceAt, withDevice, eventOf}
-use Rattle.drives.specs.Drives.{textIn, tiltOf, listens, tells, befalls, freshBy, added, adds, drives, toDevice, obeyed}
+use Rattle.drives.specs.Drives.{_saying_, _leaving_, replyOf, afterOf, isDevice, deviceAt, withDevice, textIn, tiltOf}
+use Rattle.drives.specs.Drives.{listens, tells, isValue, eventOf, happens, befalls, areTilts, freshWith, freshBy, added}
+use Rattle.drives.specs.Drives.{adds, drives, toDevice, obeyed}
 use Rattle.drives.specs.Steps.{putBack}
 
 -- ---- words
@@ -109,10 +110,29 @@ pub tells-at : (row : Row) (place c : ℕ) (os : List ℕ) (n : ℕ) {d : Device
     → Obeys (tells row place (listens c (deviceAt row place) os n) o) r o'
 tells-at row place c os n e h p = tells-is row place (listens c (deviceAt row place) os n) (rw e at h) p
 
-pub befalls-at : (row : Row) (place : ℕ) (v : Event) {d d' : Device} {u : Outcome} {r : Obeyed}
-    → d ≡ deviceAt row place → Changes (happened d v) d u d' → r ≡ putBack row place d' (code.Outcome u)
-    → afterOf r ≡ befalls row place (happened (deviceAt row place) v)
-befalls-at row place v e h p = befalls-is row place (happened (deviceAt row place) v) (rw e at h) p
+pub befalls-at : (row : Row) (place c v : ℕ) {d d' : Device} {u : Outcome} {r : Obeyed}
+    → d ≡ deviceAt row place → Changes (happens d c v) d u d' → r ≡ putBack row place d' (code.Outcome u)
+    → afterOf r ≡ befalls row place (happens (deviceAt row place) c v)
+befalls-at row place c v e h p = befalls-is row place (happens (deviceAt row place) c v) (rw e at h) p
+
+-- an alarm that is a value is an octet
+pub alarm-octet : (c v : ℕ) → isValue c v ≡ true → (c ≡ 3 → ⊥) → v < 256
+unfolding isValue
+alarm-octet c v h e = ltb-true v 256 (rw (ne-eqb c 3 e) at h)
+
+module _ (d : Device) (c v : ℕ) where
+  -- a value that is one makes an event like any other
+  pub happens-event : isValue c v ≡ true → happened d (eventOf c v) ≡ happens d c v
+  unfolding happens happened eventRows
+  happens-event h = rw h
+
+  pub happens-never : isValue c v ≡ false → allowedDevice d ≡ true → happens d c v ≡ refuses 8
+  unfolding happens answered
+  happens-never h e = rw (e, h)
+
+  pub happens-not : allowedDevice d ≡ false → happens d c v ≡ refuses 6
+  unfolding happens answered
+  happens-not e = rw e
 
 -- ---- one more device
 
@@ -123,8 +143,8 @@ pub fresh-by : (v os : List ℕ) {v1 v2 v3 v4 v5 v6 v7 : ℕ} {i p h s : List �
     → i ≡ textIn os 0 v1 → p ≡ textIn os v1 v2 → h ≡ textIn os v2 v3 → s ≡ textIn os v3 v4
     → l ≡ tiltOf v5 → m ≡ tiltOf v6 → t ≡ tiltOf v7
     → Changes (freshOf i p h s (record { lowest = l; highest = m; present = t })) blankDevice u d
-    → Changes (freshBy v os) blankDevice u d
-unfolding freshBy
+    → Changes (freshWith v os) blankDevice u d
+unfolding freshWith
 fresh-by v os e1 e2 e3 e4 e5 e6 e7 ei ep eh es el em et c =
     rw (ei, ep, eh, es, el, em, et, e1, e2, e3, e4, e5, e6, e7) at c
 
@@ -151,9 +171,14 @@ module _ (row : Row) where
       (h .state)
   added-done (refuses j) h e = absurd (gives-not-refuses (sym (ap outcomeOf e) ∙ h .outcome))
 
-  pub adds-open : (v os : List ℕ) → row .count < 32 → added row (freshBy v os) ≡ adds row v os
-  unfolding adds
-  adds-open v os h = rw (lt-leb 32 (row .count) h)
+  module _ (v os : List ℕ) (h : row .count < 32) {b : Bool} (e : b ≡ areTilts v) where
+    pub adds-open : b ≡ true → added row (freshWith v os) ≡ adds row v os
+    unfolding adds freshBy
+    adds-open t = let y : areTilts v ≡ true = sym e ∙ t in rw (lt-leb 32 (row .count) h, y)
+
+    pub adds-shut : b ≡ false → row saying outcome (refuses 6) ≡ adds row v os
+    unfolding adds freshBy added
+    adds-shut t = let y : areTilts v ≡ false = sym e ∙ t in rw (lt-leb 32 (row .count) h, y)
 
 -- ---- which way
 
@@ -177,15 +202,13 @@ module _ (c : ℕ) (row : Row) (os o : List ℕ) where
     drives-state h = rw (le-ltb c 2 (omega arith), eq-eqb c 2 h)
 
     pub drives-event : 2 ≤ c → (c ≡ 2 → ⊥)
-        → befalls row place (happened (deviceAt row place) (eventOf c v)) leaving o ≡ drives c row place v os o
+        → befalls row place (happens (deviceAt row place) c v) leaving o ≡ drives c row place v os o
     unfolding drives
     drives-event h e = rw (le-ltb c 2 h, ne-eqb c 2 e)
 
-    pub event-obeys : {x : Event} {r : Obeyed} → 2 ≤ c → (c ≡ 2 → ⊥) → x ≡ eventOf c v
-        → afterOf r ≡ befalls row place (happened (deviceAt row place) x) → Obeys (drives c row place v os o) r o
-    event-obeys h n e a =
-        obeys-by (drives-event h n)
-        (record { after = a ∙ ap (λ (x : Event). befalls row place (happened (deviceAt row place) x)) e; lent = refl })
+    pub event-obeys : {r : Obeyed} → 2 ≤ c → (c ≡ 2 → ⊥)
+        → afterOf r ≡ befalls row place (happens (deviceAt row place) c v) → Obeys (drives c row place v os o) r o
+    event-obeys h n a = obeys-by (drives-event h n) (record { after = a; lent = refl })
 
   module _ (k v : ℕ) {b : Bool} (e : b ≡ isDevice (row .count) k) where
     pub at-device : b ≡ true → drives c row (k - 1) v os o ≡ toDevice c row k v os o
@@ -206,6 +229,6 @@ module _ (c : ℕ) (row : Row) (os o : List ℕ) where
     unfolding obeyed
     obeyed-adds h = rw (le-ltb c 6 (omega arith), eq-eqb c 6 h)
 
-    pub obeyed-none : 6 ≤ c → (c ≡ 6 → ⊥) → (row saying noCommand) leaving o ≡ obeyed c row v os o
-    unfolding obeyed
-    obeyed-none h e = rw (le-ltb c 6 h, ne-eqb c 6 e)
+    pub obeys-none : 6 ≤ c → (c ≡ 6 → ⊥) → Obeys (obeyed c row v os o) (record { row = row; answer = code.NoCommand }) o
+    unfolding obeyed replyOf
+    obeys-none h e = rw (le-ltb c 6 h, ne-eqb c 6 e) (record { after = refl; lent = refl })

@@ -2,8 +2,11 @@
 --   Reply             == an answer, in the script's words
 --   After             == the row after a command, and the answer to it; Came == that, and the lent output, BUFFER
 --   value v n         == what the word n stands for; textIn os from end == the octets of one HEX word of several
+--   isTilt v          == the number v is a tilt's pattern; tiltOf v == that tilt; areTilts v == the three of `device` are
 --   adds row v os     == `device`: one more, if there is room and its data is allowed
 --   isDevice n k      == K is a device of a row with n of them; deviceAt row place == the one at a place
+--   isValue c v       == the number v is a value of the event c; eventOf c v == that event
+--   happens d c v     == the event c of the value v, of the device d
 --   toDevice c row k v os o == the command c to the device K, with the value v of an event, or with octets
 --   obeyed c row v os o     == the command c with the values v and the octets os, and the lent output o
 --   replyOf x         == the answer that the code's answer x is
@@ -11,20 +14,21 @@
 -- Assumes nothing.
 use mathlib.Core.Path.{_≡_}
 use mathlib.Core.Bool.{Bool, cond, not, _&&_}
-use mathlib.Core.List.{List}
+use mathlib.Core.List.{List, [], _∷_}
 use mathlib.Core.Option.{Option}
-use Prim.Native.Nat.{ℕ, _+_, _-_, _%_}
+use Prim.Native.Nat.{ℕ, _+_, _-_}
 use lib.Dec.{ltb, leb, eqb}
 use lib.ListN.{length, getD, set, take, drop}
 use Rattle.octets.specs.Octets.{lowOf, highOf}
-use Rattle.refusal.specs.Answer.{Answer, gives, refuses, outcomeOf, settled, stateAfter}
+use Rattle.refusal.specs.Answer.{Answer, gives, refuses, _when_, answered, outcomeOf, settled, stateAfter}
 use Rattle.antenna.specs.declared.Angle.{Angle}
 use Rattle.tilt.specs.Tilts.{angleOf}
 use Rattle.record.specs.declared.Device.{Device}
 use Rattle.record.specs.declared.Event.{Event}
 use Rattle.record.specs.declared.Event.the-variants.{Stopped, Raised, Cleared}
 use Rattle.record.specs.Fresh.{freshOf, blankDevice}
-use Rattle.record.specs.Changes.{happened}
+use Rattle.record.specs.Allowed.{allowedDevice}
+use Rattle.record.specs.Changes.{canBe, afterEvent, withAntenna}
 use Rattle.device.specs.Judge.{Reaction, judged, heard, saidOf, toldOf, deviceAfter, bufferAfter}
 use Rattle.bus.specs.declared.Row.{Row}
 use Rattle.drives.specs.declared.Answer as the-answer
@@ -69,7 +73,10 @@ value v n = getD v n 0
 abbrev pub textIn : List ℕ → ℕ → ℕ → List ℕ
 textIn os from end = drop from (take end os)
 
--- a tilt's value is its pattern of 16 bits
+-- a tilt's value is its pattern of 16 bits; 01: "in tenths of a degree, signed 16 bits"
+unfoldable pub isTilt : ℕ → Bool
+isTilt v = ltb v 65536
+
 unfoldable pub tiltOf : ℕ → Angle
 tiltOf v = angleOf (lowOf v) (highOf v)
 
@@ -79,14 +86,21 @@ tiltOf v = angleOf (lowOf v) (highOf v)
 abbrev pub most : ℕ
 most = 32
 
-unfoldable pub freshBy : List ℕ → List ℕ → Answer Device
-freshBy v os =
+unfoldable pub freshWith : List ℕ → List ℕ → Answer Device
+freshWith v os =
     freshOf
     (textIn os 0 (value v 1))
     (textIn os (value v 1) (value v 2))
     (textIn os (value v 2) (value v 3))
     (textIn os (value v 3) (value v 4))
     (record { lowest = tiltOf (value v 5); highest = tiltOf (value v 6); present = tiltOf (value v 7) })
+
+unfoldable pub areTilts : List ℕ → Bool
+areTilts v = isTilt (value v 5) && (isTilt (value v 6) && isTilt (value v 7))
+
+-- 01: "Lowest, highest and present tilt .., signed 16 bits .. Anything else is refusal 6."
+unfoldable pub freshBy : List ℕ → List ℕ → Answer Device
+freshBy v os = cond (areTilts v) (freshWith v os) (refuses 6)
 
 -- "A refused device takes no number."
 unfoldable pub added : Row → Answer Device → After
@@ -121,7 +135,17 @@ tells row place x o =
 
 -- "the motor stopped at T; alarm A (decimal) rises, falls"
 unfoldable pub eventOf : ℕ → ℕ → Event
-eventOf c v = cond (eqb c 4) (Raised (v % 256)) (cond (eqb c 5) (Cleared (v % 256)) (Stopped (tiltOf v)))
+eventOf c v = cond (eqb c 3) (Stopped (tiltOf v)) (cond (eqb c 4) (Raised v) (Cleared v))
+
+-- "a tilt outside 16 bits signed, an alarm outside 0 to 255" is none
+unfoldable pub isValue : ℕ → ℕ → Bool
+isValue c v = cond (eqb c 3) (isTilt v) (ltb v 256)
+
+-- 01: "the device 6, then .. 8 for an event"; "a device event that can't be", and so one of a value that is none
+unfoldable pub happens : Device → ℕ → ℕ → Answer Device
+happens d c v =
+    answered (6 when not (allowedDevice d) ∷ 8 when not (isValue c v && canBe (d .antenna) (eventOf c v)) ∷ [])
+    (withAntenna d (afterEvent (d .antenna) (eventOf c v)))
 
 unfoldable pub befalls : Row → ℕ → Answer Device → After
 befalls row place x = withDevice row place (stateAfter x (deviceAt row place)) saying outcome (settled x)
@@ -131,7 +155,7 @@ unfoldable pub drives : ℕ → Row → ℕ → ℕ → List ℕ → List ℕ �
 drives c row place v os o =
     cond (ltb c 2) (tells row place (listens c (deviceAt row place) os (length o)) o)
     (cond (eqb c 2) ((row saying state place) leaving o)
-    (befalls row place (happened (deviceAt row place) (eventOf c v)) leaving o))
+    (befalls row place (happens (deviceAt row place) c v) leaving o))
 
 -- "A K that is a number but no device of the bench .. is `error device`"
 unfoldable pub toDevice : ℕ → Row → ℕ → ℕ → List ℕ → List ℕ → Came

@@ -1,16 +1,17 @@
 // The bench's row of drives: one more device, and the commands to one of them. A command is a number, its place among the
 // names of the bench script; its words are values, and octets that the HEX words stand for.
 // Headline: for every command the row after it, the answer, and the lent output (specs/Drives.antt). Assumes nothing of its
-// caller: a number that is no device, and one that is no command, have their answers.
+// caller: a number that is no device, no command, no tilt or no alarm has its answer.
 ghost use mathlib.Core.Path.{_≡_};
+ghost use mathlib.Core.Bool.{true};
 ghost use Prim.Native.Nat.{_<_};
 ghost use lib.ListN.{length, take, drop, getD};
 ghost use Rattle.refusal.specs.Answer.{Changes};
 ghost use Rattle.record.specs.Fresh.{blankDevice};
-ghost use Rattle.record.specs.Changes.{happened};
 ghost use Rattle.device.specs.Judge.{Judges};
-ghost use Rattle.drives.specs.Drives.{Obeys, afterOf, tiltOf, freshBy, adds, isDevice, eventOf, listens};
-ghost use Rattle.drives.specs.Drives.{deviceAt, befalls, tells, toDevice, obeyed};
+ghost use Rattle.drives.specs.Drives.{Obeys, afterOf, isTilt, tiltOf, areTilts, freshWith, added, adds};
+ghost use Rattle.drives.specs.Drives.{isDevice, deviceAt, listens, tells, isValue, eventOf, happens, befalls};
+ghost use Rattle.drives.specs.Drives.{toDevice, obeyed};
 ghost use Rattle.drives.specs.Steps.{putBack};
 use antenna::Angle;
 use bus::MOST;
@@ -22,6 +23,7 @@ use record::Device;
 use record::Event;
 use record::Span;
 use refusal::Outcome;
+use refusal::Refusal;
 
 // The words of a command by their places, the command's own word at 0. The value of HEX is where its octets end.
 pub type Values = [usize; 8];
@@ -64,6 +66,12 @@ fn part(s: &[u8], from: usize, end: usize) -> &[u8]
     &s[first..last]
 }
 
+fn is_tilt(pattern: usize) -> bool
+    ensures { λ r. ⌜ r ≡ isTilt pattern ⌝ }
+{
+    pattern < 65536
+}
+
 // The tilt of a pattern of 16 bits.
 fn tilt_of(pattern: usize) -> Angle
     ensures { λ r. ⌜ r ≡ tiltOf pattern ⌝ }
@@ -75,7 +83,7 @@ fn tilt_of(pattern: usize) -> Angle
 
 // The four texts lie one behind the other.
 fn fresh(values: Values, octets: &[u8]) -> Changed
-    ensures { λ r. ⌜ Changes (freshBy values (now (octets .entry))) blankDevice (r .outcome) (r .device) ⌝ }
+    ensures { λ r. ⌜ Changes (freshWith values (now (octets .entry))) blankDevice (r .outcome) (r .device) ⌝ }
 {
     let product = value(values, 1);
     let hardware = value(values, 2);
@@ -93,17 +101,23 @@ fn fresh(values: Values, octets: &[u8]) -> Changed
     )
 }
 
-// A 33rd device is not looked at; a refused one takes no number.
-fn add(row: Row, values: Values, octets: &[u8]) -> Obeyed
-    ensures { λ r. ⌜ afterOf r ≡ adds row values (now (octets .entry)) ⌝ }
+fn are_tilts(values: Values) -> bool
+    ensures { λ r. ⌜ r ≡ areTilts values ⌝ }
+{
+    if is_tilt(value(values, 5)) {
+        if is_tilt(value(values, 6)) {
+            return is_tilt(value(values, 7));
+        }
+    }
+    false
+}
+
+// A refused device takes no number.
+fn make(row: Row, values: Values, octets: &[u8]) -> Obeyed
+    requires { ⌜ row .count < 32 ⌝ }
+    ensures { λ r. ⌜ afterOf r ≡ added row (freshWith values (now (octets .entry))) ⌝ }
 {
     let count = row.count;
-    if MOST <= count {
-        return Obeyed {
-            row,
-            answer: Answer::Full,
-        };
-    }
     let made = fresh(values, octets);
     let outcome = made.outcome;
     if let Outcome::Refused(_) = outcome {
@@ -119,6 +133,25 @@ fn add(row: Row, values: Values, octets: &[u8]) -> Obeyed
     Obeyed {
         row: next,
         answer: Answer::Device(count + 1),
+    }
+}
+
+// A 33rd device is not looked at.
+fn add(row: Row, values: Values, octets: &[u8]) -> Obeyed
+    ensures { λ r. ⌜ afterOf r ≡ adds row values (now (octets .entry)) ⌝ }
+{
+    if MOST <= row.count {
+        return Obeyed {
+            row,
+            answer: Answer::Full,
+        };
+    }
+    if are_tilts(values) {
+        return make(row, values, octets);
+    }
+    Obeyed {
+        row,
+        answer: Answer::Outcome(Outcome::Refused(Refusal::NotAllowed)),
     }
 }
 
@@ -177,25 +210,54 @@ fn deliver(row: Row, place: usize, command: usize, octets: &[u8], lent: &mut [u8
     put_back(row, place, device, Answer::Said(said))
 }
 
-// `raise`, `clear`, else `stopped`.
-fn event_of(command: usize, value: usize) -> Event
-    ensures { λ r. ⌜ r ≡ eventOf command value ⌝ }
+// Whether an event has such a value: `stopped` a tilt, `raise` and `clear` an alarm.
+fn is_value(command: usize, value: usize) -> bool
+    ensures { λ r. ⌜ r ≡ isValue command value ⌝ }
 {
-    if command == 4 {
-        return Event::Raised((value % 256) as u8);
+    if command == 3 {
+        return is_tilt(value);
     }
-    if command == 5 {
-        return Event::Cleared((value % 256) as u8);
-    }
-    Event::Stopped(tilt_of(value))
+    value < 256
 }
 
-fn befall(row: Row, place: usize, event: Event) -> Obeyed
+fn event_of(command: usize, value: usize) -> Event
+    requires { ⌜ isValue command value ≡ true ⌝ }
+    ensures { λ r. ⌜ r ≡ eventOf command value ⌝ }
+{
+    if command == 3 {
+        return Event::Stopped(tilt_of(value));
+    }
+    if command == 4 {
+        return Event::Raised(value as u8);
+    }
+    Event::Cleared(value as u8)
+}
+
+// An event of a value that is none can't be.
+fn happen(device: Device, command: usize, value: usize) -> Changed
+    ensures { λ r. ⌜ Changes (happens device command value) device (r .outcome) (r .device) ⌝ }
+{
+    if is_value(command, value) {
+        return event::happen(device, event_of(command, value));
+    }
+    if record::allowed(device) {
+        return Changed {
+            outcome: Outcome::Refused(Refusal::CannotBe),
+            device,
+        };
+    }
+    Changed {
+        outcome: Outcome::Refused(Refusal::NotAllowed),
+        device,
+    }
+}
+
+fn befall(row: Row, place: usize, command: usize, value: usize) -> Obeyed
     requires { ⌜ place < 32 ⌝ }
-    ensures { λ r. ⌜ afterOf r ≡ befalls row place (happened (deviceAt row place) event) ⌝ }
+    ensures { λ r. ⌜ afterOf r ≡ befalls row place (happens (deviceAt row place) command value) ⌝ }
 {
     let devices = row.devices;
-    let changed = event::happen(device_at(devices, place), event);
+    let changed = happen(device_at(devices, place), command, value);
     let outcome = changed.outcome;
     let device = changed.device;
     put_back(row, place, device, Answer::Outcome(outcome))
@@ -223,7 +285,7 @@ fn to_device(
                 answer: Answer::State(k - 1),
             };
         }
-        return befall(row, k - 1, event_of(command, value));
+        return befall(row, k - 1, command, value);
     }
     Obeyed {
         row,
@@ -233,8 +295,8 @@ fn to_device(
 
 // The commands by their places among the names: 0 frame, 1 hear, 2 show, 3 stopped, 4 raise, 5 clear, 6 device.
 pub fn obey(row: Row, command: usize, values: Values, octets: &[u8], lent: &mut [u8]) -> Obeyed
-    ensures { λ r. ⌜ Obeys (obeyed command row values (now (octets .entry)) (now (lent .entry))) r
-        (now (lent .exit)) ⌝ }
+    ensures { λ r. ⌜ Obeys (obeyed command row values (now (octets .entry)) (now (lent .entry)))
+        r (now (lent .exit)) ⌝ }
 {
     if command < 6 {
         return to_device(

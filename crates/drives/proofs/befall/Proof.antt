@@ -16,7 +16,7 @@ put-back-requires c κs = search needs
 returns : tie.Need-returns
 returns c =
     let a = c .before .before .before .before .before .args in
-    befalls-at (a .row) (a .place) (a .event) (c .before .before .before .device-at .ensures) (c .before .before .happen .ensures)
+    befalls-at (a .row) (a .place) (a .command) (a .value) (c .before .before .before .device-at .ensures) (c .before .before .happen .ensures)
     (c .put-back .ensures)
 
 pub befall-spec : {M : Type 1} → statement M

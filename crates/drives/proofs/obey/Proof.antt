@@ -2,8 +2,7 @@
 use mathlib.Core.Path.{refl}
 use native.Mathlib.Omega.{arith}
 use denote.Ref.{now}
-use Rattle.drives.specs.Drives.{replyOf}
-use Rattle.drives.proofs.Ways.{obeys-by, obeyed-device, obeyed-adds, obeyed-none}
+use Rattle.drives.proofs.Ways.{obeys-by, obeyed-device, obeyed-adds, obeys-none}
 use borrow.Author.Needs.{needs}
 use Rattle.drives.proofs.obey.Statement.{statement}
 use Rattle.drives.proofs.obey.Tie as tie
@@ -23,10 +22,11 @@ same-length c = search needs
 returns : tie.Need-returns
 returns c =
     let a = c .before .before .before .before .before .before .before .before .before .args in
-    obeys-by
+    let obeys = obeys-by
     (obeyed-device (a .command) (a .row) (now (a .octets)) (now (a .lent)) (a .values) (omega arith)
     (c .before .before .before .before .before .value .ensures) (c .before .before .before .before .value2 .ensures))
-    (c .before .before .to-device .ensures)
+    (c .before .before .to-device .ensures) in
+    search needs
 
 add-requires : tie.Need-add-requires
 add-requires c κs = search needs
@@ -34,16 +34,15 @@ add-requires c κs = search needs
 returns-2 : tie.Need-returns-2
 returns-2 c =
     let a = c .before .before .before .before .before .args in
-    obeys-by (obeyed-adds (a .command) (a .row) (now (a .octets)) (now (a .lent)) (a .values) (omega arith))
-    (record { after = c .add .ensures; lent = refl })
+    let obeys = obeys-by (obeyed-adds (a .command) (a .row) (now (a .octets)) (now (a .lent)) (a .values) (omega arith))
+    (record { after = c .add .ensures; lent = refl }) in
+    search needs
 
 returns-3 : tie.Need-returns-3
-unfolding replyOf
 returns-3 c =
     let a = c .before .before .before .before .args in
-    obeys-by
-    (obeyed-none (a .command) (a .row) (now (a .octets)) (now (a .lent)) (a .values) (omega arith) (c .if2 .left))
-    (record { after = refl; lent = refl })
+    let obeys = obeys-none (a .command) (a .row) (now (a .octets)) (now (a .lent)) (a .values) (omega arith) (c .if2 .left) in
+    search needs
 
 pub obey-spec : {M : Type 1} → statement M
 obey-spec =

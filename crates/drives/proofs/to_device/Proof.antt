@@ -55,22 +55,19 @@ sub-befall c =
     let a = c .before .before .before .before .before .before .args in
     device-place (a .row .count) (a .k) (c .before .before .before .is-device .ensures) (c .before .before .if1 .taken) .0
 
-event-of-requires : tie.Need-event-of-requires
-event-of-requires c κs = search needs
-
 befall-requires : tie.Need-befall-requires
 befall-requires c κs =
-    let a = c .before .before .before .before .before .before .before .args in
-    device-place (a .row .count) (a .k) (c .before .before .before .before .is-device .ensures) (c .before .before .before .if1 .taken) .1
+    let a = c .before .before .before .before .before .before .args in
+    device-place (a .row .count) (a .k) (c .before .before .before .is-device .ensures) (c .before .before .if1 .taken) .1
 
 returns-3 : tie.Need-returns-3
 returns-3 c =
-    let a = c .before .before .before .before .before .before .before .before .args in
+    let a = c .before .before .before .before .before .before .before .args in
     obeys-by
-    (at-device (a .command) (a .row) (now (a .octets)) (now (a .lent)) (a .k) (a .value) (c .before .before .before .before .before .is-device .ensures)
-    (c .before .before .before .before .if1 .taken))
+    (at-device (a .command) (a .row) (now (a .octets)) (now (a .lent)) (a .k) (a .value) (c .before .before .before .before .is-device .ensures)
+    (c .before .before .before .if1 .taken))
     (event-obeys (a .command) (a .row) (now (a .octets)) (now (a .lent)) (a .k - 1) (a .value) (omega arith)
-    (c .before .before .if3 .left) (c .before .event-of .ensures) (c .befall .ensures))
+    (c .before .if3 .left) (c .befall .ensures))
 
 returns-4 : tie.Need-returns-4
 unfolding replyOf
@@ -93,7 +90,6 @@ to-device-spec =
     sub-t12
     returns-2
     sub-befall
-    event-of-requires
     befall-requires
     returns-3
     returns-4)
