@@ -2,12 +2,8 @@
 use mathlib.Core.Path.{_≡_}
 use mathlib.Core.List.{List}
 use Prim.Native.Nat.{ℕ}
-use lib.ListN.{length}
 use Rattle.octets.proofs.Only.{only}
 use Rattle.refusal.specs.Answer.{Answer}
-use Rattle.fcs.specs.Check.{checkOf}
-use Rattle.frame.specs.Decode.{decoded}
-use Rattle.frame.specs.Write.{written}
 use Rattle.capi.specs.Crossing.{Crosses}
 use denote.Ref.{now}
 use Rattle.octets.proofs.Only.{AsksNothing, Settles, SettlesAll}
@@ -20,26 +16,14 @@ pub crosses-only : {right : Answer (List ℕ)} {o p q : List ℕ} {r s : ℕ}
     → Crosses right o r p → Crosses right o s q → (r ≡ s) × (p ≡ q)
 crosses-only a b = (only (a .number) (b .number), only (a .octets) (b .octets))
 
-pub gorittaem-check-only : (s : List ℕ) {r q : ℕ} → r ≡ checkOf s → q ≡ checkOf s → r ≡ q
-gorittaem-check-only s = only
+pub gorittaem-check-only : Settles gorittaem-check-reads.Learnt
+gorittaem-check-only κs a r q s t = only
 
-pub gorittaem-decode-only : (src o : List ℕ) {p q : List ℕ} {r s : ℕ}
-    → Crosses (decoded 78 src (length o)) o r p → Crosses (decoded 78 src (length o)) o s q → (r ≡ s) × (p ≡ q)
-gorittaem-decode-only src o = crosses-only
+pub gorittaem-decode-only : SettlesAll gorittaem-decode-reads.Learnt (λ κs s. now (s .1 .0))
+gorittaem-decode-only κs a r q s t = crosses-only
 
-pub gorittaem-write-only : (address control : ℕ) (payload o : List ℕ) {p q : List ℕ} {r s : ℕ}
-    → Crosses (written 78 address control payload (length o)) o r p
-    → Crosses (written 78 address control payload (length o)) o s q → (r ≡ s) × (p ≡ q)
-gorittaem-write-only address control payload o = crosses-only
-
-pub gorittaem-check-tied : Settles gorittaem-check-reads.Learnt
-gorittaem-check-tied κs a r q s t = only
-
-pub gorittaem-decode-tied : SettlesAll gorittaem-decode-reads.Learnt (λ κs s. now (s .1 .0))
-gorittaem-decode-tied κs a r q s t = crosses-only
-
-pub gorittaem-write-tied : SettlesAll gorittaem-write-reads.Learnt (λ κs s. now (s .1 .1 .1 .0))
-gorittaem-write-tied κs a r q s t = crosses-only
+pub gorittaem-write-only : SettlesAll gorittaem-write-reads.Learnt (λ κs s. now (s .1 .1 .1 .0))
+gorittaem-write-only κs a r q s t = crosses-only
 
 pub gorittaem-check-asks : AsksNothing gorittaem-check-reads.Asked
 gorittaem-check-asks κs a = tt

@@ -4,7 +4,6 @@ use mathlib.Core.List.{List}
 use mathlib.Core.Option.{none, some}
 use Prim.Native.Nat.{ℕ}
 use native.Mathlib.Omega.{arith}
-use lib.ListN.{length}
 use Rattle.octets.proofs.Only.{only}
 use Rattle.refusal.specs.Answer.{Answer}
 use Rattle.refusal.proofs.Answers.{gives-not-refuses, refuses-same, gives-same}
@@ -13,7 +12,7 @@ use Rattle.record.specs.declared.Device.{Device}
 use Rattle.device.specs.declared.Said.{Said}
 use Rattle.device.specs.declared.Said.the-variants.{Silence, Frame, Refused}
 use Rattle.device.specs.declared.Judged.{Judged}
-use Rattle.device.specs.Judge.{Reaction, judged, heard, saidOf, Judges}
+use Rattle.device.specs.Judge.{Reaction, saidOf, Judges}
 use denote.Ref.{now}
 use Rattle.octets.proofs.Only.{AsksNothing, SettlesAll}
 use Rattle.device.proofs.judge.Reads as judge-reads
@@ -47,19 +46,11 @@ judges-only {r = r} {s = s} a b = (
   only (a .buffer) (b .buffer),
 )
 
-pub judge-only : (d : Device) (f o : List ℕ) {p q : List ℕ} {r s : Judged}
-    → Judges (judged d f (length o)) d o r p → Judges (judged d f (length o)) d o s q → (r ≡ s) × (p ≡ q)
-judge-only d f o = judges-only
+pub judge-only : SettlesAll judge-reads.Learnt (λ κs s. now (s .1 .1 .0))
+judge-only κs a r q s t = judges-only
 
-pub hear-only : (d : Device) (line o : List ℕ) {p q : List ℕ} {r s : Judged}
-    → Judges (heard d line (length o)) d o r p → Judges (heard d line (length o)) d o s q → (r ≡ s) × (p ≡ q)
-hear-only d line o = judges-only
-
-pub judge-tied : SettlesAll judge-reads.Learnt (λ κs s. now (s .1 .1 .0))
-judge-tied κs a r q s t = judges-only
-
-pub hear-tied : SettlesAll hear-reads.Learnt (λ κs s. now (s .1 .1 .0))
-hear-tied κs a r q s t = judges-only
+pub hear-only : SettlesAll hear-reads.Learnt (λ κs s. now (s .1 .1 .0))
+hear-only κs a r q s t = judges-only
 
 pub judge-asks : AsksNothing judge-reads.Asked
 judge-asks κs a = tt

@@ -14,7 +14,7 @@ use Rattle.drives.specs.declared.Answer as the-answer
 use Rattle.drives.specs.declared.Answer.the-variants as code
 use Rattle.drives.specs.declared.Obeyed.{Obeyed}
 use Rattle.drives.specs.Drives.{Reply, noCommand, noDevice, full, device, outcome, answer, state, After, replyOf}
-use Rattle.drives.specs.Drives.{Obeys, obeyed}
+use Rattle.drives.specs.Drives.{Obeys, Came}
 use denote.Ref.{now}
 use Rattle.octets.proofs.Only.{AsksNothing, SettlesAll}
 use Rattle.drives.proofs.obey.Reads as obey-reads
@@ -53,9 +53,9 @@ means-one (state place) e f = e ∙ sym f
 pub reply-apart : (x z : the-answer.Answer) → replyOf x ≡ replyOf z → x ≡ z
 reply-apart x z e = means-one (replyOf z) (rw e at (means-it x)) (means-it z)
 
-pub obey-only : (c : ℕ) (row : Row) (v os o : List ℕ) {p q : List ℕ} {r s : Obeyed}
-    → Obeys (obeyed c row v os o) r p → Obeys (obeyed c row v os o) s q → (r ≡ s) × (p ≡ q)
-obey-only c row v os o {r = r} {s = s} a b =
+-- every promise by `Obeys` allows one result and one output
+obeys-only : {right : Came} {r s : Obeyed} {p q : List ℕ} → Obeys right r p → Obeys right s q → (r ≡ s) × (p ≡ q)
+obeys-only {r = r} {s = s} a b =
     let both = only (a .after) (b .after) in (
       ap₂ (λ (w : Row) (x : the-answer.Answer). record { row = w; answer = x })
           (ap (λ (x : After). x .row) both)
@@ -63,8 +63,8 @@ obey-only c row v os o {r = r} {s = s} a b =
       only (a .lent) (b .lent),
     )
 
-pub obey-tied : SettlesAll obey-reads.Learnt (λ κs s. now (s .1 .1 .1 .1 .0))
-obey-tied κs a r q s t = obey-only (a .1 .0) (a .0) _ _ _
+pub obey-only : SettlesAll obey-reads.Learnt (λ κs s. now (s .1 .1 .1 .1 .0))
+obey-only κs a r q s t = obeys-only
 
 pub obey-asks : AsksNothing obey-reads.Asked
 obey-asks κs a = tt

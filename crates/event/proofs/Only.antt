@@ -1,21 +1,13 @@
 -- The promise of this crate allows one result. Assumes nothing.
-use mathlib.Core.Path.{_≡_}
-use Rattle.refusal.specs.Answer.{Changes}
 use Rattle.refusal.specs.declared.Outcome.{Outcome}
 use Rattle.refusal.proofs.Only.{changes-only}
-use Rattle.record.specs.Changes.{happened}
 use Rattle.record.specs.declared.Device.{Device}
-use Rattle.record.specs.declared.Event.{Event}
 use mathlib.Core.Path.{ap₂}
 use Rattle.octets.proofs.Only.{AsksNothing, Settles}
 use Rattle.event.proofs.happen.Reads as happen-reads
 
-pub happen-only : (device : Device) (event : Event) {r q : Outcome} {d e : Device}
-    → Changes (happened device event) device r d → Changes (happened device event) device q e → (r ≡ q) × (d ≡ e)
-happen-only device event = changes-only
-
-pub happen-tied : Settles happen-reads.Learnt
-happen-tied κs a r q s t x y =
+pub happen-only : Settles happen-reads.Learnt
+happen-only κs a r q s t x y =
     let e = changes-only x y in ap₂ (λ (o : Outcome) (n : Device). record { outcome = o; device = n }) (e .0) (e .1)
 
 pub happen-asks : AsksNothing happen-reads.Asked

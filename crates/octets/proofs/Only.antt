@@ -1,10 +1,5 @@
 -- Each promise of this crate allows one result, and one content of the lent buffer. Assumes nothing.
 use mathlib.Core.Path.{_≡_, sym, _∙_}
-use mathlib.Core.List.{List}
-use Prim.Native.Nat.{ℕ, min}
-use lib.ListN.{set}
-use lib.Seq.{sets}
-use Rattle.octets.specs.Octets.{pairOf, placeOf}
 use denote.Ref.{now}
 use mathlib.Core.Path.{refl}
 use Rattle.octets.proofs.fewer.Reads as fewer-reads
@@ -32,35 +27,20 @@ SettlesAll {K} {O} {A} {R} {S} P out =
 abbrev pub AsksNothing : {K : Type 0} {A : K → Type 0} → ((κs : K) → A κs → Type 0) → Type 0
 AsksNothing {K} {A} P = (κs : K) (a : A κs) → P κs a
 
-pub put-only : (o : List ℕ) (at octet : ℕ) {p q : List ℕ} → p ≡ set o at octet → q ≡ set o at octet → p ≡ q
-put-only o at octet = only
+pub fewer-only : Settles fewer-reads.Learnt
+fewer-only κs a r q s t = only
 
-pub put-all-only : (o : List ℕ) (at : ℕ) (s : List ℕ) {p q : List ℕ} → p ≡ sets o at s → q ≡ sets o at s → p ≡ q
-put-all-only o at s = only
+pub find-only : Settles find-reads.Learnt
+find-only κs a r q s t = only
 
-pub pair-only : (low high : ℕ) {r q : ℕ} → r ≡ pairOf low high → q ≡ pairOf low high → r ≡ q
-pair-only low high = only
+pub pair-only : Settles pair-reads.Learnt
+pair-only κs a r q s t = only
 
-pub find-only : (octet : ℕ) (s : List ℕ) {r q : ℕ} → r ≡ placeOf octet s → q ≡ placeOf octet s → r ≡ q
-find-only octet s = only
+pub put-only : SettlesAll put-reads.Learnt (λ κs s. now (s .0))
+put-only κs a r q s t x y = (refl, only x y)
 
-pub fewer-only : (a b : ℕ) {r q : ℕ} → r ≡ min a b → q ≡ min a b → r ≡ q
-fewer-only a b = only
-
-pub fewer-tied : Settles fewer-reads.Learnt
-fewer-tied κs a r q s t = only
-
-pub find-tied : Settles find-reads.Learnt
-find-tied κs a r q s t = only
-
-pub pair-tied : Settles pair-reads.Learnt
-pair-tied κs a r q s t = only
-
-pub put-tied : SettlesAll put-reads.Learnt (λ κs s. now (s .0))
-put-tied κs a r q s t x y = (refl, only x y)
-
-pub put-all-tied : SettlesAll put-all-reads.Learnt (λ κs s. now (s .0))
-put-all-tied κs a r q s t x y = (refl, only x y)
+pub put-all-only : SettlesAll put-all-reads.Learnt (λ κs s. now (s .0))
+put-all-only κs a r q s t x y = (refl, only x y)
 
 pub fewer-asks : AsksNothing fewer-reads.Asked
 fewer-asks κs a = tt

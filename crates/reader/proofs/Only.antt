@@ -1,13 +1,6 @@
 -- Each promise of this crate allows one result. Assumes nothing.
 use mathlib.Core.Path.{_≡_, refl}
-use mathlib.Core.List.{List}
-use Prim.Native.Nat.{ℕ}
-use denote.Ref.{RefT}
 use Rattle.octets.proofs.Only.{only}
-use Rattle.reader.specs.Read.{standsAt, stepAt, readerOf, nextOf, movedOn}
-use Rattle.reader.specs.declared.Stands.{Stands}
-use Rattle.reader.specs.declared.Step.{Step}
-use Rattle.reader.specs.declared.Reader.{Reader}
 use Rattle.octets.proofs.Only.{AsksNothing, Settles}
 use Rattle.reader.proofs.stands_at.Reads as stands-at-reads
 use Rattle.reader.proofs.next_at.Reads as next-at-reads
@@ -19,25 +12,11 @@ use denote.Ref.{now}
 use Rattle.reader.proofs.Reader.new as new
 use Rattle.reader.proofs.Reader.next as next
 
-pub stands-at-only : (s : List ℕ) (at : ℕ) {r q : Stands} → r ≡ standsAt s at → q ≡ standsAt s at → r ≡ q
-stands-at-only s at = only
+pub stands-at-only : Settles stands-at-reads.Learnt
+stands-at-only κs a r q s t = only
 
--- the reader that is made; the parameter that is next, and the reader left behind the borrow
-pub new-only : (s : RefT (List ℕ)) (at : ℕ) {r q : Reader} → r ≡ readerOf s at → q ≡ readerOf s at → r ≡ q
-new-only s at = only
-
-pub next-only : (d : Reader) {r q : Stands} {a b : Reader}
-    → (r ≡ nextOf d) × (a ≡ movedOn d) → (q ≡ nextOf d) × (b ≡ movedOn d) → (r ≡ q) × (a ≡ b)
-next-only d (e, f) (g, h) = (only e g, only f h)
-
-pub next-at-only : (s : List ℕ) (at : ℕ) {r q : Step} → r ≡ stepAt s at → q ≡ stepAt s at → r ≡ q
-next-at-only s at = only
-
-pub stands-at-tied : Settles stands-at-reads.Learnt
-stands-at-tied κs a r q s t = only
-
-pub next-at-tied : Settles next-at-reads.Learnt
-next-at-tied κs a r q s t = only
+pub next-at-only : Settles next-at-reads.Learnt
+next-at-only κs a r q s t = only
 
 pub stands-at-asks : AsksNothing stands-at-reads.Asked
 stands-at-asks κs a = tt
@@ -52,15 +31,15 @@ facts-tell 𝓤 {φ} {ψ} {χ} f =
     (λ x. fact-use 𝓤 ψ (conjR 𝓤 (fact 𝓤 φ) (fact 𝓤 ψ)) (λ y. factI 𝓤 χ _ (f x y)))
 
 -- the promises of `new` and `next`, which have no `Reads`: of whoever holds two of them, at any model
-pub new-tied : (w : World) (κs : _) (a : _) (r q : _) (s t : _) →
+pub new-only : (w : World) (κs : _) (a : _) (r q : _) (s t : _) →
     let says = new.clauses (w .𝓤) (w .H) (w .𝓖 .A) (w .𝓜 .mem) (w .𝓡 .run) κs a .ensures tt in
     ent (w .𝓤) (conj (w .𝓤) (says r s) (says q t)) (fact (w .𝓤) (r ≡ q))
-new-tied w κs a r q s t = facts-tell (w .𝓤) only
+new-only w κs a r q s t = facts-tell (w .𝓤) only
 
-pub next-tied : (w : World) (κs : _) (a : _) (r q : _) (s t : _) →
+pub next-only : (w : World) (κs : _) (a : _) (r q : _) (s t : _) →
     let says = next.clauses (w .𝓤) (w .H) (w .𝓖 .A) (w .𝓜 .mem) (w .𝓡 .run) κs a .ensures tt in
     ent (w .𝓤) (conj (w .𝓤) (says r s) (says q t)) (fact (w .𝓤) ((r ≡ q) × (now (s .0) ≡ now (t .0))))
-next-tied w κs a r q s t = facts-tell (w .𝓤) (λ x y. (only (x .0) (y .0), only (x .1) (y .1)))
+next-only w κs a r q s t = facts-tell (w .𝓤) (λ x y. (only (x .0) (y .0), only (x .1) (y .1)))
 
 -- and nothing is asked of whoever calls them, at any model
 pub new-asks : (w : World) (κs : _) (a : _) →

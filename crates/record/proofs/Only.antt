@@ -1,8 +1,8 @@
 -- Each promise of this crate allows one result, and each number of a fresh device and of an event is given exactly when
 -- 01 says.
 -- Assumes nothing.
-use mathlib.Core.Path.{_≡_, refl, ap}
-use mathlib.Core.Bool.{Bool, true, false, not}
+use mathlib.Core.Path.{_≡_, ap}
+use mathlib.Core.Bool.{true, false, not}
 use mathlib.Core.List.{List}
 use mathlib.Core.Logic.{_↔_}
 use Prim.Native.Nat.{ℕ}
@@ -19,9 +19,6 @@ use Rattle.record.specs.declared.Device.{Device}
 use Rattle.record.specs.declared.Event.{Event}
 use Rattle.octets.proofs.Only.{AsksNothing, Settles}
 use Rattle.record.proofs.allowed.Reads as allowed-reads
-
-pub allowed-only : (device : Device) {r q : Bool} → r ≡ allowedDevice device → q ≡ allowedDevice device → r ≡ q
-allowed-only device = only
 
 -- 6: "device data .. not allowed", of a fresh device
 pub fresh-6 : (i p h s : List ℕ) (w : Span) → freshOf i p h s w ≡ refuses 6 ↔ dataAllowed i p h s (antennaFrom w) ≡
@@ -49,8 +46,8 @@ module _ (d : Device) (e : Event) where
     λ w. by-rows 8 .1 (ap not (w .0), ap not (w .1)),
   )
 
-pub allowed-tied : Settles allowed-reads.Learnt
-allowed-tied κs a r q s t = only
+pub allowed-only : Settles allowed-reads.Learnt
+allowed-only κs a r q s t = only
 
 pub allowed-asks : AsksNothing allowed-reads.Asked
 allowed-asks κs a = tt

@@ -6,7 +6,7 @@ use Prim.Native.Nat.{ℕ}
 use lib.Dec.{eqb}
 use Rattle.octets.proofs.Only.{only}
 use Rattle.refusal.specs.Numbers.{numberOf}
-use Rattle.refusal.specs.Answer.{Answer, handedOut, answerOf, Hands}
+use Rattle.refusal.specs.Answer.{Answer, answerOf, Hands}
 use Rattle.refusal.specs.declared.Refusal.{Refusal}
 use Rattle.refusal.specs.declared.Refusal.the-variants.{TooShort, TooLong, WrongCheck, Broken, NoRoom}
 use Rattle.refusal.specs.declared.Refusal.the-variants.{NotAllowed, ScanOver, CannotBe, PayloadTooLong}
@@ -47,9 +47,6 @@ named-number PayloadTooLong = refl
 pub number-apart : (r q : Refusal) → numberOf r ≡ numberOf q → r ≡ q
 number-apart r q e = sym (named-number r) ∙ ap named e ∙ named-number q
 
-pub number-only : (refusal : Refusal) {r q : ℕ} → r ≡ numberOf refusal → q ≡ numberOf refusal → r ≡ q
-number-only refusal = only
-
 answer-apart : (r q : Handed) → answerOf r ≡ answerOf q → r ≡ q
 unfolding answerOf
 answer-apart (Octets n) (Octets m) e = ap Octets (gives-same e)
@@ -61,10 +58,6 @@ answer-apart (Refused k) (Refused j) e = ap Refused (number-apart k j (refuses-s
 pub hands-only : {right : Answer (List ℕ)} {o p q : List ℕ} {r s : Handed}
     → Hands right o r p → Hands right o s q → (r ≡ s) × (p ≡ q)
 hands-only {r = r} {s = s} a b = (answer-apart r s (only (a .answer) (b .answer)), only (a .octets) (b .octets))
-
-pub hand-out-only : (b o : List ℕ) (room : ℕ) {p q : List ℕ} {r s : Handed}
-    → Hands (handedOut b room) o r p → Hands (handedOut b room) o s q → (r ≡ s) × (p ≡ q)
-hand-out-only b o room = hands-only
 
 pub outcome-apart : (r q : Outcome) → outcomeOf r ≡ outcomeOf q → r ≡ q
 unfolding outcomeOf
@@ -79,11 +72,11 @@ pub changes-only : {S : Type 0} {right : Answer S} {s t u : S} {r q : Outcome}
     → Changes right s r t → Changes right s q u → (r ≡ q) × (t ≡ u)
 changes-only {r = r} {q = q} a b = (outcome-apart r q (only (a .outcome) (b .outcome)), only (a .state) (b .state))
 
-pub number-tied : Settles number-reads.Learnt
-number-tied κs a r q s t = only
+pub number-only : Settles number-reads.Learnt
+number-only κs a r q s t = only
 
-pub hand-out-tied : SettlesAll hand-out-reads.Learnt (λ κs s. now (s .1 .0))
-hand-out-tied κs a r q s t = hands-only
+pub hand-out-only : SettlesAll hand-out-reads.Learnt (λ κs s. now (s .1 .0))
+hand-out-only κs a r q s t = hands-only
 
 pub number-asks : AsksNothing number-reads.Asked
 number-asks κs a = tt
