@@ -10,6 +10,7 @@ use mathlib.Core.Bool.{Bool, true, false}
 use mathlib.Core.List.{List, [], _∷_}
 use mathlib.Core.Logic.{_↔_, Iff·trans, _⊎_}
 use Prim.Native.Nat.{ℕ, _<_, _≤_}
+use native.Mathlib.Omega.{arith}
 use lib.ListN.{length, getD}
 use Rattle.octets.specs.Octets.{holds, _atStartOf_}
 use Rattle.refusal.specs.Answer.{Answer, gives, refuses, handedOut, answerOf, counted, outAfter, Hands, Changes}
@@ -149,12 +150,12 @@ hand-out-answers κs a r s = hands-out _ r
 -- the codec, to a program in C: the number tells the answer
 pub c-decode-answers : (κs : _) (a : _) (r : _) (s : _) → c-decode-reads.Learnt κs a r s
     → Tells (decoded 78 (now (a .0)) (length (now (a .1 .0)))) (now (a .1 .0)) r (now (s .1 .0))
-c-decode-answers κs a r s = decode-tells (now (a .0)) (length (now (a .1 .0)))
+c-decode-answers κs a r s = decode-tells 78 (omega arith) (now (a .0)) (length (now (a .1 .0)))
 
 pub c-write-answers : (κs : _) (a : _) (r : _) (s : _) → c-write-reads.Learnt κs a r s
     → Tells (written 78 (a .0) (a .1 .0) (now (a .1 .1 .0)) (length (now (a .1 .1 .1 .0)))) (now (a .1 .1 .1 .0)) r
     (now (s .1 .1 .1 .0))
-c-write-answers κs a r s = write-tells (a .0) (a .1 .0) (now (a .1 .1 .0)) (length (now (a .1 .1 .1 .0)))
+c-write-answers κs a r s = write-tells 78 (omega arith) (a .0) (a .1 .0) (now (a .1 .1 .0)) (length (now (a .1 .1 .1 .0)))
 
 -- a scan: asking changes nothing in it, so it is not handed back
 pub probe-answers : (κs : _) (a : _) (r : _) (s : _) → probe-reads.Learnt κs a r s
