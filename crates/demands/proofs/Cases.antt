@@ -11,7 +11,7 @@ use mathlib.Core.Option.{Option, none, some}
 use Prim.Native.Nat.{ℕ}
 use lib.IntN.{ℤ, pos, negsuc}
 use lib.ListN.{replicate}
-use Rattle.octets.specs.Octets.{holds, lastOf, _atStartOf_}
+use Rattle.octets.specs.Octets.{holds, placeOf, lastOf, _atStartOf_}
 use Rattle.refusal.specs.Answer.{gives, answered, stateAfter}
 use Rattle.identity.specs.Bits.{Bits, word, packed, masked}
 use Rattle.identity.specs.Identity.{printable, allPrintable, allowedIdentity, padded, octetsOf, maskOf, same}
@@ -25,10 +25,10 @@ use Rattle.scan.specs.declared.State.the-variants.{Complete, Limit}
 use Rattle.control.specs.Control.{polled, nextOf, infoOf, rrOf, numberedBy, askedBy}
 use Rattle.antenna.specs.declared.Angle.{Angle}
 use Rattle.antenna.specs.Angles.{atMost, sameAs}
-use Rattle.antenna.specs.Events.{restedOf, at, canStop}
+use Rattle.antenna.specs.Events.{restedOf, at, canStop, withAlarm, isAlarm}
 use Rattle.antenna.specs.Motions.{inRange, busyOf, runs, owesOf, waitingOf, unowedOf, moves, started}
 use Rattle.record.specs.declared.Device.{Device}
-use Rattle.record.specs.declared.Event.the-variants.{Stopped}
+use Rattle.record.specs.declared.Event.the-variants.{Stopped, Raised}
 use Rattle.record.specs.Allowed.{identityAllowed, platesAllowed, numbersAllowed, pendingFits, sessionAllowed, addressed}
 use Rattle.record.specs.Allowed.{linkAllowed, stationAllowed, owedAllowed, allowedDevice}
 use Rattle.record.specs.Fresh.{identityFrom, productFrom, versionFrom, plateFrom, freshFrom, textsAllowed, dataAllowed}
@@ -50,10 +50,14 @@ use Rattle.message.specs.Messages.{driveChecks, checks, inTable, takenBy}
 use Rattle.message.specs.Carried.{carriedOf, outcome, doneBy, replies, unanswered}
 use Rattle.station.specs.Turns.{saying}
 use Rattle.record.specs.Changes.{deviceOf}
-use Rattle.acknowledge.specs.Acknowledge.{acknowledged}
-use Rattle.poll.specs.Poll.{waitingPoll, pollOf}
+use Rattle.acknowledge.specs.Acknowledge.{acknowledged, emptied, toldAfter, retold, settled as settledStation}
+use Rattle.poll.specs.Poll.{indicates, toTell, idlePoll, waitingPoll, pollOf}
+use Rattle.report.specs.Reports.{indicationOf}
+use Rattle.antenna.specs.Alarms.{changesAmong, anyDiffer}
+use Rattle.xid_answer.specs.Answer.{scanParams, assignmentParams, scanAnswer, assignmentAnswer}
+use Rattle.params.specs.Field.{tripleOf, fieldOf, payloadOf as xidPayload}
 use Rattle.inform.specs.Inform.{repliedBy, carriedBy, informOf}
-use Rattle.states.specs.States.{informedBy, polledBy}
+use Rattle.states.specs.States.{informedBy, polledBy, pausedBy, rnrBy}
 use Rattle.states.specs.States.{begun, released, rejected, infoBy, rrBy, connectedBy, isSnrm, assignedBy, linkedBy}
 use Rattle.link.specs.Link.{quiet, ownBy, xidBy, everyoneBy, isOwn, addressedBy, controlledBy, judgedFrame, frameMost}
 use Rattle.conduct.specs.Conduct.{after, Meeting, frame, event, meets, run}
@@ -127,6 +131,10 @@ set-50 = 7 ∷ 0x10 ∷ 0x33 ∷ 0x02 ∷ 0x00 ∷ 0x32 ∷ 0x00 ∷ []
 abbrev pub rr : List ℕ
 rr = 7 ∷ 0x11 ∷ []
 
+-- an I-frame, and in it: subscribe
+abbrev pub subscribe : List ℕ
+subscribe = 7 ∷ 0x10 ∷ 0x12 ∷ 0x00 ∷ 0x00 ∷ []
+
 abbrev pub stopped : ℤ → Meeting
 stopped t = event (Stopped (tenths t))
 
@@ -162,13 +170,52 @@ starred =
     ∷ silent (pos 0) [] (0xFF ∷ 0xBF ∷ 0x81 ∷ 0xF0 ∷ 6 ∷ 1 ∷ 1 ∷ 0x4B ∷ 3 ∷ 1 ∷ 0x0F ∷ [])
     ∷ []
 
+-- ---- more rows, of sentences that no starred case reaches
+
+abbrev pub rose : ℕ → Meeting
+rose k = event (Raised k)
+
+abbrev pub further : List Row
+further =
+    -- "S+1 where an answer is pending, which removes it and moves S on": the result collected, acknowledged, and then get
+    -- tilt: "the tilt is t"
+    gets (pos 0)
+    (snrm ∷ frame set-50 ∷ stopped (pos 50) ∷ frame rr ∷ frame (7 ∷ 0x31 ∷ []) ∷ [])
+    (7 ∷ 0x32 ∷ 0x34 ∷ 0x00 ∷ 0x00 ∷ [])
+    (7 ∷ 0x52 ∷ 0x34 ∷ 0x03 ∷ 0x00 ∷ 0x00 ∷ 0x32 ∷ 0x00 ∷ [])
+    -- "if subscribed and there is something to tell, an alarm indication; else RR": not subscribed; subscribed
+    ∷ gets (pos 0) (snrm ∷ rose 0x11 ∷ []) rr (7 ∷ 0x11 ∷ [])
+    ∷ gets (pos 0) (snrm ∷ rose 0x11 ∷ frame subscribe ∷ []) (7 ∷ 0x31 ∷ [])
+    (7 ∷ 0x32 ∷ 0x07 ∷ 0x02 ∷ 0x00 ∷ 0x11 ∷ 0x01 ∷ [])
+    -- "then pairs alarm and 1 (raised) or 0, ascending"
+    ∷ gets (pos 0) (snrm ∷ rose 0x11 ∷ rose 0x02 ∷ frame subscribe ∷ []) (7 ∷ 0x31 ∷ [])
+    (7 ∷ 0x32 ∷ 0x07 ∷ 0x04 ∷ 0x00 ∷ 0x02 ∷ 0x01 ∷ 0x11 ∷ 0x01 ∷ [])
+    -- "V(S) is S, or S+1 with an answer pending": "2·V(S) + 32·R"
+    ∷ gets (pos 0) (snrm ∷ frame (7 ∷ 0x10 ∷ 0x34 ∷ 0x00 ∷ 0x00 ∷ []) ∷ []) (7 ∷ 0x71 ∷ [])
+    (7 ∷ 0x97 ∷ 0x71 ∷ 0x22 ∷ 0x08 ∷ [])
+    -- "RNR gets RR."
+    ∷ gets (pos 0) (snrm ∷ []) (7 ∷ 0x15 ∷ []) (7 ∷ 0x11 ∷ [])
+    -- ".. any control but XID, SNRM, DISC, I, RR and RNR, gets FRMR .. 1 for an unknown control"
+    ∷ gets (pos 0) (snrm ∷ []) (7 ∷ 0x13 ∷ []) (7 ∷ 0x97 ∷ 0x13 ∷ 0x00 ∷ 0x01 ∷ [])
+    -- "AddressAssigned: .. anything else gets DM 0x1F"; "DISC 0x53 gets UA"
+    ∷ gets (pos 0) [] (7 ∷ 0x53 ∷ []) (7 ∷ 0x1F ∷ [])
+    ∷ gets (pos 0) (snrm ∷ []) (7 ∷ 0x53 ∷ []) (7 ∷ 0x73 ∷ [])
+    -- "the answer from the new address has 1 and 4; length field n+5"
+    ∷ gets (pos 0) [] (0xFF ∷ 0xBF ∷ 0x81 ∷ 0xF0 ∷ 3 ∷ 2 ∷ 1 ∷ 9 ∷ [])
+    (9 ∷ 0xBF ∷ 0x81 ∷ 0xF0 ∷ 0x0B ∷ 1 ∷ 6 ∷ 0x4B ∷ 0x41 ∷ 0x30 ∷ 0x31 ∷ 0x32 ∷ 0x33 ∷ 4 ∷ 1 ∷ 1 ∷ [])
+    -- "Answer, in any state: 1 (unpadded, n octets), 2, 4 in that order; length field n+8"
+    ∷ gets (pos 0) [] (0xFF ∷ 0xBF ∷ 0x81 ∷ 0xF0 ∷ 6 ∷ 1 ∷ 1 ∷ 0 ∷ 3 ∷ 1 ∷ 0 ∷ [])
+    (7 ∷ 0xBF ∷ 0x81 ∷ 0xF0 ∷ 0x0E ∷ 1 ∷ 6 ∷ 0x4B ∷ 0x41 ∷ 0x30 ∷ 0x31 ∷ 0x32 ∷ 0x33 ∷ 2 ∷ 1 ∷ 7 ∷ 4 ∷ 1 ∷ 1 ∷ [])
+    ∷ []
+
 -- ---- the statement
 
 infixr 5 _also_
 _also_ : {A B : Type 0} → A → B → A × B
 _also_ a b = (a, b)
 
-pub starred-hold : All starred
+-- antt computes each row
+computed : All starred × All further
 unfolding All Holds heard scan.driven scan.fresh scan.ended scan.over scan.reported standsAt step stepIn noted listing
     goOn next carry zeroHalf named word packed rowsOf flat phaseOf stateOf fresh assigned run meets judged
     judgeRows judgedFrame controlledBy addressedBy isOwn everyoneBy xidBy ownBy quiet linkedBy isSnrm assignedBy connectedBy
@@ -183,8 +230,19 @@ unfolding All Holds heard scan.driven scan.fresh scan.ended scan.over scan.repor
     octetsIn isScan scanShape assignmentShape scanMatches answersScan padded masked same identityMatches kindMatches
     vendorMatches assignmentMatches assignedIn messageOf successOf failureOf resultOf payloadOf tiltOctets angleOf
     driveChecks checks inTable takenBy carriedOf outcome doneBy replies unanswered pendingOctets linkOctets isSilent
-    controlBy payloadBy frameBy reacts sizeOf toldOf frameAt bufferAfter
-starred-hold =
-    (refl, refl) also (refl, refl) also (refl, refl) also (refl, refl) also (refl, refl) also (refl, refl) also refl
-    also (refl, refl) also (refl, refl) also (refl, refl) also (refl, refl) also ((refl, refl), refl)
-    also ((refl, refl), refl) also ((refl, refl), refl) also tt
+    controlBy payloadBy frameBy reacts sizeOf toldOf frameAt bufferAfter emptied toldAfter retold settledStation indicates toTell
+    idlePoll pausedBy rnrBy indicationOf changesAmong anyDiffer withAlarm isAlarm placeOf scanAnswer assignmentAnswer
+    scanParams assignmentParams xidPayload fieldOf tripleOf
+computed = (
+  (refl, refl) also (refl, refl) also (refl, refl) also (refl, refl) also (refl, refl) also (refl, refl) also refl
+      also (refl, refl) also (refl, refl) also (refl, refl) also (refl, refl) also ((refl, refl), refl)
+      also ((refl, refl), refl) also ((refl, refl), refl) also tt,
+  (refl, refl) also (refl, refl) also (refl, refl) also (refl, refl) also (refl, refl) also (refl, refl)
+      also (refl, refl) also (refl, refl) also (refl, refl) also (refl, refl) also (refl, refl) also tt,
+)
+
+pub starred-hold : All starred
+starred-hold = computed .0
+
+pub further-hold : All further
+further-hold = computed .1

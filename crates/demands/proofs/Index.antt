@@ -64,7 +64,7 @@ pub use Rattle.demands.proofs.One.{hear-defined, judge-defined, decode-
 pub use Rattle.demands.proofs.One.{c-decode-answers, c-write-answers, probe-answers, report-answers, fresh-answers}
 pub use Rattle.demands.proofs.One.{happen-answers, stopped-answers, alarmed-answers, obey-keeps}
 pub use Rattle.demands.proofs.Two.{written-reads-back, written-heard, tilt-exactly, tilt-owed, tilt-number, tilt-once}
-pub use Rattle.demands.proofs.Two.{not-accepted, some-case, each-case, changes, silent-same}
+pub use Rattle.demands.proofs.Two.{not-accepted, some-case, each-case, judge-case, changes, silent-same}
 pub use Rattle.demands.proofs.Two.{snrm-heard, never-unallowed}
 pub use Rattle.demands.proofs.Runs.{runs-exactly, runs-by-exactly, run-ended, runs-end, probe-gives}
 pub use Rattle.demands.proofs.Three.{complete-exactly, complete-count, complete-lists, never-more, probes-sent}
@@ -74,7 +74,7 @@ pub use Rattle.demands.proofs.Three.{full-exactly, full-count, full-nam
 pub use Rattle.demands.proofs.Three.{any-probes, any-stays, any-refused}
 pub use Rattle.demands.proofs.Cable.{heard-when, whole-row, installer}
 pub use Rattle.demands.proofs.Cable.{row-lines, row-lines-number, complete-lines}
-pub use Rattle.demands.proofs.Cases.{starred-hold}
+pub use Rattle.demands.proofs.Cases.{starred-hold, further-hold}
 -- ---- and of a scan of a row of devices, in code
 pub use Rattle.mast.proofs.Demand.{sweep-unchanged, sweep-row, sweep-any, sweep-lines-number, sweep-complete}
 -- ---- commands to such a row: one result, and a "no" changes nothing

@@ -9,6 +9,7 @@ use mathlib.Core.Path.{_≡_, refl, sym, ap, _∙_}
 use mathlib.Core.Bool.{Bool, true, false}
 use mathlib.Core.List.{List, [], _∷_}
 use mathlib.Core.Logic.{_↔_, Iff·trans, _⊎_}
+use mathlib.Core.Option.{none, some}
 use Prim.Native.Nat.{ℕ, _<_, _≤_}
 use native.Mathlib.Omega.{arith}
 use lib.ListN.{length, getD}
@@ -53,14 +54,18 @@ use Rattle.record.specs.Allowed.{allowedDevice}
 use Rattle.record.specs.Fresh.{freshOf, dataAllowed, antennaFrom, blankDevice}
 use Rattle.record.specs.Changes.{canBe, happened}
 use Rattle.record.proofs.Only.{fresh-6, happen-6, happen-8}
+use Rattle.station.specs.declared.Say.{Say}
 use Rattle.link.specs.Link.{judgedFrame}
+use Rattle.conduct.proofs.Comes.{silence-keeps}
+use Rattle.speech.specs.Speech.{isSilent, frameBy}
+use Rattle.device.proofs.Only.{none-not-some}
 use Rattle.device.specs.declared.Said.{Said}
 use Rattle.device.specs.declared.Said.the-variants.{Silence, Frame, Refused}
 use Rattle.device.specs.declared.Judged.{Judged}
 use Rattle.device.specs.Judge.{Reaction, reacts, reactionOf, judged, heard, Judges}
 use Rattle.device.proofs.Hearing.{Readable}
 use Rattle.device.proofs.Exact.{judge-6, judge-5, judge-answer, hear-4, hear-1, hear-2, hear-3, hear-6, hear-5}
-use Rattle.device.proofs.Exact.{hear-answer, refused-keeps, silence-keeps, frame-tells}
+use Rattle.device.proofs.Exact.{hear-answer, refused-keeps, silence-tells, frame-tells}
 use Rattle.device.proofs.Fits.{answer-fits}
 
 -- ---- the three ways
@@ -86,39 +91,64 @@ changes-to : {S : Type 0} {s s' : S} (x : Answer S) (r : Outcome) → Changes x 
 changes-to x Outcome.Done c = done (change-told x c) refl
 changes-to x (Outcome.Refused k) c = let (number, same) = unchange-told x c in refusal k number refl same
 
--- what becomes of the device d and of the answer buffer o: r and o'
-pub data Defined (d : Device) (o : List ℕ) (r : Judged) (o' : List ℕ) : Type 0 where
-  -- a frame of 2 to 76 octets that carries the device's address, at the start of the buffer
-  frame : (g : List ℕ) → r .said ≡ Frame (length g) → 2 ≤ length g → length g ≤ 76
-      → getD g 0 0 ≡ r .device .station .address → o' ≡ g atStartOf o → Defined d o r o'
-  silence : r .said ≡ Silence → o' ≡ o → Defined d o r o'
-  refusal : (k : Refusal) → r .said ≡ Refused k → r .device ≡ d → o' ≡ o → Defined d o r o'
+-- what becomes of the device d and of the answer buffer o, as the answer x has it: r and o'
+pub data Defined (x : Answer Reaction) (d : Device) (o : List ℕ) (r : Judged) (o' : List ℕ) : Type 0 where
+  -- the frame of x, of 2 to 76 octets, that carries the device's address, at the start of the buffer; and x's device
+  frame : (y : Reaction) (g : List ℕ) → x ≡ gives y → y .frame ≡ some g → r .said ≡ Frame (length g)
+      → r .device ≡ y .device → 2 ≤ length g → length g ≤ 76 → getD g 0 0 ≡ r .device .station .address
+      → o' ≡ g atStartOf o → Defined x d o r o'
+  -- silence, where x has no frame: the device and the buffer as they were
+  silence : (y : Reaction) → x ≡ gives y → y .frame ≡ none → r .said ≡ Silence → r .device ≡ d → o' ≡ o
+      → Defined x d o r o'
+  -- the number of x: the device and the buffer as they were
+  refusal : (k : Refusal) → x ≡ refuses (numberOf k) → r .said ≡ Refused k → r .device ≡ d → o' ≡ o
+      → Defined x d o r o'
+
+-- no frame is said by silence alone, which changes no device
+unsaid : (d : Device) (f : List ℕ) → frameBy (judgedFrame d f .device) (judgedFrame d f .say) ≡ none
+    → judgedFrame d f .device ≡ d
+unfolding frameBy isSilent
+unsaid d f = go (judgedFrame d f .say) refl
+  where
+    go : (w : Say) → judgedFrame d f .say ≡ w → frameBy (judgedFrame d f .device) w ≡ none
+        → judgedFrame d f .device ≡ d
+    go Say.Silence e h = silence-keeps d f e
+    go (Say.Bare c) e h = absurd (none-not-some (sym h))
+    go (Say.Reject c v w) e h = absurd (none-not-some (sym h))
+    go (Say.Pend c) e h = absurd (none-not-some (sym h))
+    go Say.Scanned e h = absurd (none-not-some (sym h))
+    go Say.Assigned e h = absurd (none-not-some (sym h))
 
 -- by any answer that comes of a frame, judged by an allowed device
 defined : (x : Answer Reaction) (d : Device) (f o : List ℕ) {r : Judged} {o' : List ℕ}
     → ((y : Reaction) → x ≡ gives y → (allowedDevice d ≡ true) × (reactionOf (judgedFrame d f) ≡ y))
-    → Judges x d o r o' → Defined d o r o'
+    → Judges x d o r o' → Defined x d o r o'
 unfolding reacts
 defined x d f o {r} {o'} came w = go (r .said) refl
   where
-    go : (s : Said) → r .said ≡ s → Defined d o r o'
-    go Silence e = silence e (silence-keeps x e w)
+    go : (s : Said) → r .said ≡ s → Defined x d o r o'
+    go Silence e =
+        let (y, is, none-said, device, octets) = silence-tells x e w in
+        let (allowed, reacted) = came y is in
+        let there = unsaid d f (ap (λ (z : Reaction). z .frame) reacted ∙ none-said) in
+        silence y is none-said e (device ∙ sym (ap (λ (z : Reaction). z .device) reacted) ∙ there) octets
     go (Frame n) e =
         let (y, g, is, framed, count, device, octets) = frame-tells x n e w in
         let (allowed, reacted) = came y is in
         let (least, most, address) =
         answer-fits d f g allowed (ap (λ (z : Reaction). z .frame) reacted ∙ framed) in
         let there = ap (λ (z : Reaction). z .device .station .address) reacted in
-        frame g (e ∙ ap Frame count) least most
+        frame y g is framed (e ∙ ap Frame count) device least most
         (address ∙ there ∙ sym (ap (λ (b : Device). b .station .address) device)) octets
-    go (Refused k) e = let (number, device, octets) = refused-keeps x k e w in refusal k e device octets
+    go (Refused k) e =
+        let (number, device, octets) = refused-keeps x k e w in refusal k number e device octets
 
 -- ---- of each public function that can refuse: "a defined answer", and "A refusal changes no device, no scan and no octet
 -- of the caller's buffers"
 
 -- octets from between two flags, heard by a device; octets that are taken for a decoded frame
 pub hear-defined : (κs : _) (a : _) (r : _) (s : _) → hear-reads.Learnt κs a r s
-    → Defined (a .0) (now (a .1 .1 .0)) r (now (s .1 .1 .0))
+    → Defined (heard (a .0) (now (a .1 .0)) (length (now (a .1 .1 .0)))) (a .0) (now (a .1 .1 .0)) r (now (s .1 .1 .0))
 hear-defined κs a r s =
     let line = now (a .1 .0) in
     let room = length (now (a .1 .1 .0)) in
@@ -126,7 +156,7 @@ hear-defined κs a r s =
     (λ y e. let g = hear-answer (a .0) line room y .0 e in (g .1, g .3))
 
 pub judge-defined : (κs : _) (a : _) (r : _) (s : _) → judge-reads.Learnt κs a r s
-    → Defined (a .0) (now (a .1 .1 .0)) r (now (s .1 .1 .0))
+    → Defined (judged (a .0) (now (a .1 .0)) (length (now (a .1 .1 .0)))) (a .0) (now (a .1 .1 .0)) r (now (s .1 .1 .0))
 judge-defined κs a r s =
     let f = now (a .1 .0) in
     let room = length (now (a .1 .1 .0)) in

@@ -13,7 +13,7 @@ use Prim.Native.Nat.{ℕ, _+_, _≤_}
 use native.Mathlib.Omega.{arith}
 use lib.ListN.{length, take, drop}
 use Rattle.octets.specs.Octets.{Octets, _atStartOf_}
-use Rattle.refusal.specs.Answer.{gives, outAfter}
+use Rattle.refusal.specs.Answer.{Answer, gives, outAfter}
 use Rattle.refusal.specs.declared.Handed.{Handed}
 use Rattle.refusal.proofs.Answers.{in-room, handed, octets-told, hands-is}
 use Rattle.refusal.proofs.Only.{hands-only}
@@ -62,7 +62,9 @@ use Rattle.conduct.proofs.Due.{starts-exactly, due-moves-on}
 use Rattle.conduct.proofs.Again.{starts-once}
 use Rattle.conduct.proofs.Answers.{snrm-answered, snrm-connects}
 use Rattle.speech.specs.Speech.{isSilent, controlBy, payloadBy, frameBy}
-use Rattle.device.specs.Judge.{reacts, reactionOf, judged, heardBy, heard}
+use Rattle.device.specs.Judge.{Reaction, reacts, reactionOf, judged, heardBy, heard, saidOf, sizeOf, toldOf, deviceAfter}
+use Rattle.device.specs.Judge.{frameAt, bufferAfter}
+use Rattle.device.proofs.judge.Reads as judge-reads
 use Rattle.device.proofs.Exact.{judge-answer}
 use Rattle.device.proofs.Fits.{address-fits}
 
@@ -164,6 +166,24 @@ module _ (d : Device) (f : List ℕ) where
   -- silence changes no device
   pub silent-same : judgedFrame d f .say ≡ Say.Silence → after d f ≡ d
   silent-same = silence-keeps d f
+
+-- and so does whatever `judge` gives for an allowed device and a buffer of 76 octets or more: the device, what is said, and
+-- every octet of the buffer are those of the case
+pub judge-case : (κs : _) (a : _) (r : _) (s : _) → judge-reads.Learnt κs a r s → allowedDevice (a .0) ≡ true
+    → 76 ≤ length (now (a .1 .1 .0)) → (c : Comes (a .0) (now (a .1 .0)))
+    → let e = left (a .0) (now (a .1 .0)) c in let g = frameBy e (says (a .0) (now (a .1 .0)) c) in
+    (r .device ≡ e) × (saidOf (r .said) ≡ gives (sizeOf g)) × (now (s .1 .1 .0) ≡ frameAt g (now (a .1 .1 .0)))
+unfolding saying reacts toldOf deviceAfter bufferAfter
+judge-case κs a r s w allowed room c =
+    let d = a .0 in
+    let f = now (a .1 .0) in
+    let o = now (a .1 .1 .0) in
+    let is : judged d f (length o) ≡ gives (reacts (left d f c) (says d f c)) =
+    judge-answer d f (length o) _ .1 (allowed, room, ap reactionOf (comes-so d f c)) in (
+      w .device ∙ ap (λ (x : Answer Reaction). deviceAfter x d) is,
+      w .said ∙ ap toldOf is,
+      w .buffer ∙ ap (λ (x : Answer Reaction). bufferAfter x o) is,
+    )
 
 -- ---- "address matching"
 

@@ -148,6 +148,18 @@ module _ {d : Device} {o o' : List ℕ} {r : Judged} where
       go (some f) q b = absurd (none-not-some (sym q))
   silence-keeps (refuses k) e w = w .buffer
 
+  -- silence is an answer without a frame
+  pub silence-tells : (x : Answer Reaction) → r .said ≡ Silence → Judges x d o r o'
+      → (y : Reaction) × (x ≡ gives y) × (y .frame ≡ none) × (r .device ≡ y .device) × (o' ≡ o)
+  unfolding saidOf toldOf bufferAfter sizeOf frameAt deviceAfter
+  silence-tells (gives y) e w = go (y .frame) refl (gives-same (sym (ap saidOf e) ∙ w .said)) (w .buffer)
+    where
+      go : (f : Option (List ℕ)) → y .frame ≡ f → none ≡ sizeOf f → o' ≡ frameAt f o
+          → (z : Reaction) × (gives y ≡ gives z) × (z .frame ≡ none) × (r .device ≡ z .device) × (o' ≡ o)
+      go none q h b = (y, refl, q, w .device, b)
+      go (some g) q h b = absurd (none-not-some h)
+  silence-tells (refuses k) e w = absurd (gives-not-refuses (sym (ap saidOf e) ∙ w .said))
+
   -- octets that are told stand at the start of the buffer, and are the frame that the answer gives
   pub frame-tells : (x : Answer Reaction) (n : ℕ) → r .said ≡ Frame n → Judges x d o r o'
       → (y : Reaction) × (g : List ℕ) × (x ≡ gives y) × (y .frame ≡ some g) × (n ≡ length g) × (r .device ≡ y .device)
