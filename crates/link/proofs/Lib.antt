@@ -1,4 +1,5 @@
 -- What is proved of the link beside its promise.
+pub mod Silence
 pub mod Judged
 pub mod Cases
 pub mod Only

@@ -5,6 +5,7 @@
 --   Numbered d f o r s == the same in the session s, and the N(R) = r of the order o is good
 --   Everyone f         == f is an XID frame to 0xFF
 --   numberIn o         == the N(R) of the order o, if it has one
+--   Supervised o       == o is "SNRM, DISC, RR or RNR", which have no payload
 --   Unread d f         == d is silent to f, and why
 -- Assumes nothing.
 use mathlib.Core.Path.{_≡_}
@@ -64,6 +65,13 @@ numberIn (Info n r) = some r
 numberIn (Rr r) = some r
 numberIn (Rnr r) = some r
 numberIn Unknown = none
+
+-- "SNRM, DISC, RR or RNR with payload: silence."
+pub data Supervised (o : Order) : Type 0 where
+  snrm : o ≡ Snrm → Supervised o
+  disc : o ≡ Disc → Supervised o
+  rr : (r : ℕ) → o ≡ Rr r → Supervised o
+  rnr : (r : ℕ) → o ≡ Rnr r → Supervised o
 
 pub data Unread (d : Device) (f : List ℕ) : Type 0 where
   -- "fewer than 2 or more than 76 octets, silence"
