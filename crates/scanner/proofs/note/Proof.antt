@@ -51,7 +51,7 @@ returns-2 c =
     let s = next .before .before .args in
     rw (not-false (s .heard) (test .if1 .left))
     (c .keep-going .ensures
-    ∙ note-deeper (s .scan) (s .quiet) (s .doubt) (c .before .if2 .taken) (next .climb .ensures .1 .1))
+    ∙ note-deeper (s .scan) (s .quiet) (s .doubt) (omega (arith, c .before .if2 .taken)) (next .climb .ensures .1 .1))
 
 octets-of-requires : tie.Need-octets-of-requires
 octets-of-requires c κs = search needs

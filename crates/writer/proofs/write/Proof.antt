@@ -12,7 +12,7 @@ use Rattle.writer.proofs.write.Statement.{statement}
 use Rattle.writer.proofs.write.Tie as tie
 
 returns : tie.Need-returns
-returns c = refused PayloadTooLong (payload-long 78 _ _ _ _ (c .if1 .taken))
+returns c = refused PayloadTooLong (payload-long 78 _ _ _ _ (omega (arith, c .if1 .taken)))
 
 slice-aggregate-assemble : tie.Need-slice-aggregate-assemble
 slice-aggregate-assemble c = search needs
