@@ -1,4 +1,5 @@
 -- The laws of the device's record that the layers above cite.
+pub mod Accounts
 pub mod Freshly
 pub mod Happened
 pub mod Laid
