@@ -1,6 +1,6 @@
 -- Which alarms a row of flags raises: the codes whose flags are set, ascending; what an alarm event makes of them.
 -- Assumes nothing.
-use mathlib.Core.Path.{_≡_, refl, sym, ap, _∙_}
+use mathlib.Core.Path.{_≡_, refl, sym, _∙_}
 use mathlib.Core.Bool.{Bool, true, false, cond}
 use mathlib.Core.List.{List, [], _∷_}
 use mathlib.Core.Logic.{_↔_, _⊎_, inl, inr, ⊎-elim}
@@ -75,7 +75,9 @@ module _ (k : ℕ) where
       go false true e ih = (λ h. ih .0 (rw e at h), λ w. rw e (ih .1 w))
       go false false e ih = ih
 
-  pub codes-exactly : (fs : List Bool) → holds k (codesOf fs) ≡ true ↔ (holds k alarmCodes ≡ true) × (flagOf k fs ≡ true)
+  -- "raised alarms": a code is among them exactly if it is an alarm's and its flag is set
+  pub codes-exactly : (fs : List Bool)
+      → holds k (codesOf fs) ≡ true ↔ (holds k alarmCodes ≡ true) × (flagOf k fs ≡ true)
   codes-exactly fs = among-exactly alarmCodes fs codes-ascend
 
 -- two codes at one place are one
@@ -118,7 +120,8 @@ module _ (j k : ℕ) (fs : List Bool) (six : length fs ≡ 6) (known : holds k a
       ↔ (j ≡ k) ⊎ (holds j (codesOf fs) ≡ true)
   raise-exactly = go (eqb j k) refl
     where
-      go : (t : Bool) → eqb j k ≡ t → holds j (codesOf (with k fs true)) ≡ true ↔ (j ≡ k) ⊎ (holds j (codesOf fs) ≡ true)
+      go : (t : Bool) → eqb j k ≡ t
+          → holds j (codesOf (with k fs true)) ≡ true ↔ (j ≡ k) ⊎ (holds j (codesOf fs) ≡ true)
       go true e =
           let q : j ≡ k = eqb-true j k e in (
             λ h. inl q,

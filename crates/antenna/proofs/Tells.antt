@@ -1,5 +1,5 @@
--- An indication tells every change: whoever was told the one row, and reads its pairs, knows the other; and its codes are
--- those whose flags differ, each once, ascending. Assumes nothing.
+-- An indication tells every change: whoever was told the one row, and reads its pairs, knows the other; and its codes
+-- are those whose flags differ, each once, ascending. Assumes nothing.
 use mathlib.Core.Path.{_≡_, refl, sym, ap, _∙_}
 use mathlib.Core.Bool.{Bool, true, false, cond}
 use mathlib.Core.List.{List, [], _∷_}

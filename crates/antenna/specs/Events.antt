@@ -1,7 +1,7 @@
 -- What happens to a drive: the motor stops, an alarm rises or falls.
 --   restedOf m t     == the motion after a stop at t
 --   canStop n t      == the motor can stop at t; at n t == the antenna then
---   Runs m           == a movement runs, owed or not; OneOf k ks == k is one of ks: the words of the laws about the tests
+--   Runs m           == a movement runs, owed or not; OneOf k ks == k is one of ks: the words of the laws on the tests
 --   isAlarm k        == k is the code of an alarm; withAlarm n k on == the antenna with that alarm raised or cleared
 --   stoppedAt n t    == the event "stopped at t"
 --   alarmedOf n k on == the event "alarm k raised" (on) or "cleared"

@@ -1,20 +1,20 @@
 -- What an event changes, whole, and what a fresh device is, whole. Assumes nothing.
 use mathlib.Core.Path.{_≡_, refl, _∙_}
-use mathlib.Core.Bool.{Bool, true}
+use mathlib.Core.Bool.{Bool, true, false}
 use mathlib.Core.List.{List}
 use mathlib.Core.Logic.{_↔_, _⊎_, inl, inr}
 use Prim.Native.Nat.{ℕ}
 use borrow.Author.Tests.{not-false}
-use lib.ListN.{length}
+use lib.ListN.{length, length-set}
 use lib.Signed.{_≤ℤ_}
-use Rattle.octets.specs.Octets.{holds}
+use Rattle.octets.specs.Octets.{holds, placeOf}
 use Rattle.octets.proofs.Stores.{take-start}
 use Rattle.refusal.specs.Answer.{gives, Clear}
 use Rattle.refusal.proofs.Exactly.{exactly-given}
 use Rattle.antenna.specs.declared.Angle.{Angle}
 use Rattle.antenna.specs.declared.Antenna.{Antenna}
 use Rattle.antenna.specs.declared.Motion.the-variants as motion
-use Rattle.antenna.specs.Alarms.{codesOf, codesAmong}
+use Rattle.antenna.specs.Alarms.{alarmCodes, codesOf, codesAmong}
 use Rattle.antenna.specs.Angles.{sameAs}
 use Rattle.antenna.specs.Events.{Runs, restedOf, at, isAlarm, withAlarm}
 use Rattle.antenna.proofs.Angles.{same-exactly}
@@ -35,6 +35,12 @@ module _ (n : Antenna) where
   range-kept (Stopped t) = (refl, refl)
   range-kept (Raised k) = (refl, refl)
   range-kept (Cleared k) = (refl, refl)
+
+  row-kept : (e : Event) → length (afterEvent n e .raised .flags) ≡ length (n .raised .flags)
+  unfolding afterEvent at withAlarm
+  row-kept (Stopped t) = refl
+  row-kept (Raised k) = length-set (n .raised .flags) (placeOf k alarmCodes) true
+  row-kept (Cleared k) = length-set (n .raised .flags) (placeOf k alarmCodes) false
 
   drive-kept : (e : Event) → ((t : Angle) → e ≡ Stopped t → ⊥)
       → (afterEvent n e .tilt ≡ n .tilt) × (afterEvent n e .motion ≡ n .motion)
@@ -99,6 +105,7 @@ account d e c =
       raised-known = λ k q. alarm-exactly k .0 (alarm-can n e k c q);
       raised-more = λ k q six j. rw q (after-raise n k six (alarm-can n e k c (inl q)) j);
       raised-less = λ k q six j. rw q (after-clear n k six (alarm-can n e k c (inr q)) j);
+      raised-row = row-kept n e;
       raised-kept = λ t q. rw q (stop-drive n t .2);
     }
 

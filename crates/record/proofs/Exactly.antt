@@ -1,26 +1,34 @@
--- The test for a record that is handed in says what 01 says, phrase by phrase. Assumes nothing.
+-- The tests for a record that is handed in, for the data of a fresh one and for an event say what 01 says, phrase by
+-- phrase; so 6 and 8 are given exactly then, in words. Assumes nothing.
 use mathlib.Core.Path.{_≡_, refl, sym, ap, _∙_}
-use mathlib.Core.Bool.{Bool, true, false, cond, not}
+use mathlib.Core.Bool.{Bool, true, false, not}
 use mathlib.Core.List.{List, [], _∷_}
-use mathlib.Core.Logic.{_↔_, inl, inr, ⊎-elim}
+use mathlib.Core.Logic.{_↔_, Iff·trans, inl, inr}
 use Prim.Native.Nat.{ℕ, _<_, _≤_}
 use native.Mathlib.Omega.{arith}
 use borrow.Author.Tests.{ltb-true, ltb-false, leb-true, le-leb, lt-ltb, eqb-true, eq-eqb, not-true}
-use lib.Dec.{ltb, leb, eqb}
-use lib.ListN.{length, take}
+use lib.Dec.{ltb, leb}
+use lib.ListN.{length}
 use Rattle.octets.proofs.Words.{true-not-false}
+use Rattle.refusal.specs.Answer.{refuses}
 use Rattle.identity.specs.Identity.{width, allowedIdentity}
 use Rattle.identity.proofs.Identities.{and-parts}
 use Rattle.identity.proofs.Exactly.{identity-exactly}
-use Rattle.antenna.specs.declared.Angle.{Angle}
 use Rattle.antenna.specs.declared.Motion.{Motion}
 use Rattle.antenna.specs.declared.Motion.the-variants as motion
-use Rattle.antenna.specs.Alarms.{anyDiffer, differs}
+use Rattle.antenna.specs.Alarms.{anyDiffer}
 use Rattle.antenna.specs.Motions.{owesOf}
+use Rattle.antenna.specs.declared.Antenna.{Antenna}
 use Rattle.antenna.proofs.Angles.{range-exactly}
-use Rattle.record.specs.Allowed.{identityOf, productMost, versionMost, replyMost, identityAllowed, platesAllowed}
+use Rattle.antenna.proofs.Can.{stop-exactly, alarm-exactly}
+use Rattle.record.specs.Allowed.{identityOf, productMost, versionMost, identityAllowed, platesAllowed}
 use Rattle.record.specs.Allowed.{numbersAllowed, pendingFits, sessionAllowed, addressed, linkAllowed}
 use Rattle.record.specs.Allowed.{stationAllowed, owedAllowed, allowedDevice, Owes, AllowedRecord}
+use Rattle.record.specs.Fresh.{textsAllowed, dataAllowed, antennaFrom, AllowedData, freshOf}
+use Rattle.record.specs.Changes.{canBe, CanHappen, happened}
+use Rattle.record.specs.declared.Event.{Event}
+use Rattle.record.specs.declared.Event.the-variants as event
+use Rattle.record.specs.declared.Span.{Span}
 use Rattle.record.specs.declared.Pending.{Pending}
 use Rattle.record.specs.declared.Pending.the-variants.{Nothing, Answer, Indication}
 use Rattle.record.specs.declared.Plate.{Plate}
@@ -29,6 +37,8 @@ use Rattle.record.specs.declared.Link.{Link}
 use Rattle.record.specs.declared.Link.the-variants.{NoAddress, AddressAssigned, Connected}
 use Rattle.record.specs.declared.Station.{Station}
 use Rattle.record.specs.declared.Device.{Device}
+use Rattle.record.proofs.Laid.{texts-parts}
+use Rattle.record.proofs.Only.{fresh-6, happen-6, happen-8}
 use Rattle.record.proofs.Stays.{sound, allowed-by}
 
 -- no two cases are one
@@ -93,8 +103,7 @@ module _ (p : Plate) where
       let one = and-parts (identityAllowed (p .identity .octets) (p .identity .len)) _ e in
       let two = and-parts (leb (p .product .len) productMost) _ (one .1) in
       let three = and-parts (leb (p .hardware .len) versionMost) _ (two .1) in
-      let who = and-parts (leb (p .identity .len) width) _ (one .0) in
-      (
+      let who = and-parts (leb (p .identity .len) width) _ (one .0) in (
         leb-true _ _ (who .0),
         who .1,
         leb-true _ _ (two .0),
@@ -116,7 +125,7 @@ module _ (p : Plate) where
 
 -- "a pending answer of at most 74 payload octets (an indication: as below)"
 module _ (t : Station) (n : length (t .said .flags) ≡ length (t .told .flags)) where
-  pub record Fits (p : Pending) : Type 0 where
+  record Fits (p : Pending) : Type 0 where
     pub answer : p ≡ Answer → t .reply .len ≤ 74
     pub indication : p ≡ Indication → t .said .flags ≡ t .told .flags → ⊥
 
@@ -138,7 +147,7 @@ module _ (t : Station) (n : length (t .said .flags) ≡ length (t .told .flags))
   fits-by Indication f = differ-rows (t .said .flags) (t .told .flags) n (f .indication refl)
 
   -- "an address of 0 to 254, 0 exactly in NoAddress, session numbers of 0 to 7"
-  pub record Linked (l : Link) : Type 0 where
+  record Linked (l : Link) : Type 0 where
     pub address : t .address ≤ 254
     pub unaddressed : t .address ≡ 0 ↔ l ≡ NoAddress
     pub numbers : (s : Session) → l ≡ Connected s → (s .r ≤ 7) × (s .s ≤ 7)
@@ -162,8 +171,7 @@ module _ (t : Station) (n : length (t .said .flags) ≡ length (t .told .flags))
   unfolding sessionAllowed numbersAllowed
   session-parts s e =
       let one = and-parts (numbersAllowed s) (pendingFits t (s .pending)) e in
-      let two = and-parts (ltb (s .r) 8) (ltb (s .s) 8) (one .0) in
-      (
+      let two = and-parts (ltb (s .r) 8) (ltb (s .s) 8) (one .0) in (
         omega (arith, ltb-true (s .r) 8 (two .0)),
         omega (arith, ltb-true (s .s) 8 (two .1)),
         fits (s .pending) (one .1),
@@ -297,3 +305,61 @@ module _ (d : Device) (n : length (d .station .said .flags) ≡ length (d .stati
   -- "Anything else is refusal 6": the two rows of flags are of one length, six, by their type
   pub allowed-exactly : allowedDevice d ≡ true ↔ AllowedRecord d
   allowed-exactly = (in-words, by-words)
+
+module _ (i p h s : List ℕ) (w : Span) where
+  data-words : dataAllowed i p h s (antennaFrom w) ≡ true → AllowedData i p h s w
+  unfolding dataAllowed
+  data-words e =
+      let parts = and-parts (textsAllowed i p h s) _ e in
+      let texts = texts-parts i p h s (parts .0) in
+      let range = range-exactly (antennaFrom w) (w .present) .0 (parts .1) in
+      record {
+        identity = identity-exactly i .0 (texts .0);
+        product = leb-true (length p) 20 (texts .1);
+        hardware = leb-true (length h) 14 (texts .2);
+        software = leb-true (length s) 14 (texts .3);
+        lowest = range .0;
+        highest = range .1;
+      }
+
+  data-by : AllowedData i p h s w → dataAllowed i p h s (antennaFrom w) ≡ true
+  unfolding dataAllowed textsAllowed
+  data-by a =
+      rw (
+        identity-exactly i .1 (a .identity),
+        le-leb (length p) 20 (a .product),
+        le-leb (length h) 14 (a .hardware),
+        le-leb (length s) 14 (a .software),
+        range-exactly (antennaFrom w) (w .present) .1 (a .lowest, a .highest),
+      )
+
+  pub data-exactly : dataAllowed i p h s (antennaFrom w) ≡ true ↔ AllowedData i p h s w
+  data-exactly = (data-words, data-by)
+
+-- "Refusal 8: a stop with no movement, t outside lowest to highest, an alarm not among .."
+pub can-exactly : (n : Antenna) (e : Event) → canBe n e ≡ true ↔ CanHappen n e
+unfolding canBe
+can-exactly n (event.Stopped t) = stop-exactly n t
+can-exactly n (event.Raised k) = alarm-exactly k
+can-exactly n (event.Cleared k) = alarm-exactly k
+
+-- a test that says what the words say fails exactly if they are not so
+fails-exactly : {A : Type 0} (b : Bool) → (b ≡ true ↔ A) → b ≡ false ↔ (A → ⊥)
+fails-exactly true q = (λ e. absurd (true-not-false e), λ n. absurd (n (q .0 refl)))
+fails-exactly false q = (λ e a. true-not-false (sym (q .1 a)), λ n. refl)
+
+-- 6: "device data .. not allowed", in words
+pub fresh-refused : (i p h s : List ℕ) (w : Span) → freshOf i p h s w ≡ refuses 6 ↔ (AllowedData i p h s w → ⊥)
+fresh-refused i p h s w = Iff·trans (fresh-6 i p h s w) (fails-exactly _ (data-exactly i p h s w))
+
+module _ (d : Device) (e : Event) (n : length (d .station .said .flags) ≡ length (d .station .told .flags)) where
+  -- 6: "a device record handed in, not allowed", in words
+  pub event-refused-6 : happened d e ≡ refuses 6 ↔ (AllowedRecord d → ⊥)
+  event-refused-6 = Iff·trans (happen-6 d e) (fails-exactly _ (allowed-exactly d n))
+
+  -- 8: "a device event that can't be", and not 6, in words
+  pub event-refused-8 : happened d e ≡ refuses 8 ↔ AllowedRecord d × (CanHappen (d .antenna) e → ⊥)
+  event-refused-8 =
+      let fit = allowed-exactly d n in
+      let can = fails-exactly (canBe (d .antenna) e) (can-exactly (d .antenna) e) in
+      Iff·trans (happen-8 d e) (λ w. (fit .0 (w .0), can .0 (w .1)), λ w. (fit .1 (w .0), can .1 (w .1)))

@@ -1,5 +1,5 @@
--- What an event changes of a device, part by part, and what a fresh device is: the words that the laws about `happened` and
--- `freshOf` are said in.
+-- What an event changes of a device, part by part, and what a fresh device is: the words that the laws about `happened`
+-- and `freshOf` are said in.
 --   EventAccount d e b == b is the device d after the event e
 --   FreshAccount i p h s w d == d is the fresh device of the identity i, the texts p, h, s and the tilts w
 -- Assumes nothing.
@@ -52,6 +52,7 @@ pub record EventAccount (d : Device) (e : Event) (b : Device) : Type 0 where
   pub raised-less : (k : ℕ) → e ≡ Cleared k → length (d .antenna .raised .flags) ≡ 6 → (j : ℕ)
       → holds j (codesOf (b .antenna .raised .flags)) ≡ true
       ↔ (j ≡ k → ⊥) × (holds j (codesOf (d .antenna .raised .flags)) ≡ true)
+  pub raised-row : length (b .antenna .raised .flags) ≡ length (d .antenna .raised .flags)
   pub raised-kept : (t : Angle) → e ≡ Stopped t → b .antenna .raised ≡ d .antenna .raised
 
 -- "A fresh device has address 0 and no alarms, subscription or movement."
