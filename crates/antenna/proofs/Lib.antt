@@ -2,7 +2,10 @@
 pub mod Aims
 pub mod Angles
 pub mod Differ
+pub mod Can
+pub mod Codes
 pub mod Flags
 pub mod Happenings
 pub mod Movements
 pub mod Only
+pub mod Tells

@@ -3,6 +3,7 @@ pub mod Words
 pub mod Packed
 pub mod Masks
 pub mod Orders
+pub mod Exactly
 pub mod Identities
 pub mod Scans
 pub mod Lists

@@ -1,16 +1,17 @@
 -- Who the device is, and what a scan compares with it.
 --   vendor, leastSerial, mostSerial == how many octets the vendor and the serial number have
 --   width, depth       == the octets of a padded identity (19), and its bits (152)
---   allowedIdentity i  == the octets i are an identity
+--   allowedIdentity i  == the octets i are an identity; AnIdentity i == the same, in the words of 01
 --   padded i           == i with 0x20 behind it to 19 octets
 --   octetsOf p         == the beginning p as 19 octets, zeros behind it; maskOf p == ones over it, zeros behind
 --   answersScan i m v  == the identity i answers a scan whose mask is m and whose value is v
 -- A beginning p is 19 octets and a number of bits: `octetsOf p` and `length p`. Assumes nothing.
 use mathlib.Core.Bool.{Bool, true, false, not, _&&_}
 use mathlib.Core.List.{List, [], _∷_, _++_}
-use Prim.Native.Nat.{ℕ, _+_, _*_, _-_}
+use mathlib.Core.Path.{_≡_}
+use Prim.Native.Nat.{ℕ, _+_, _*_, _-_, _<_, _≤_}
 use lib.Dec.{leb, eqb}
-use lib.ListN.{length, replicate}
+use lib.ListN.{length, getD, replicate}
 use Rattle.octets.specs.Octets.{lastOf}
 use Rattle.identity.specs.Bits.{Bits, packed, ones, masked}
 
@@ -47,6 +48,17 @@ unfoldable pub allowedIdentity : List ℕ → Bool
 allowedIdentity i =
     leb (vendor + leastSerial) (length i)
     && (leb (length i) (vendor + mostSerial) && (allPrintable i && not (eqb (lastOf blank i) blank)))
+
+-- 01: "2 vendor octets and 1 to 17 serial octets, all 0x20 to 0x7E, the last not 0x20"
+pub record AnIdentity (i : List ℕ) : Type 0 where
+  pub maker : List ℕ
+  pub serial : List ℕ
+  pub parts : i ≡ maker ++ serial
+  pub maker-two : length maker ≡ 2
+  pub serial-least : 1 ≤ length serial
+  pub serial-most : length serial ≤ 17
+  pub all : (j : ℕ) → j < length i → (0x20 ≤ getD i j 0) × (getD i j 0 ≤ 0x7E)
+  pub end : getD i (length i - 1) 0 ≡ 0x20 → ⊥
 
 unfoldable pub padded : List ℕ → List ℕ
 padded i = i ++ replicate (width - length i) blank

@@ -7,14 +7,21 @@
 --   linkAllowed t l    == address, session numbers and what is pending fit the link state l
 --   owedAllowed l m    == "a tilt result owed only in Connected"
 --   allowedDevice d    == d may be handed in; anything else is refusal 6
+--   Owes m             == a tilt result is owed, in words
+--   AllowedRecord d    == d may be handed in, phrase by phrase of 01
 -- "only alarms named below" holds by type. Assumes nothing.
 use mathlib.Core.Bool.{Bool, true, not, _&&_}
 use mathlib.Core.List.{List}
-use Prim.Native.Nat.{ℕ}
+use mathlib.Core.Logic.{_↔_, _⊎_}
+use mathlib.Core.Path.{_≡_}
+use Prim.Native.Nat.{ℕ, _≤_}
 use lib.Dec.{ltb, leb, eqb}
 use lib.ListN.{take}
-use Rattle.identity.specs.Identity.{width, allowedIdentity}
+use lib.Signed.{_≤ℤ_}
+use Rattle.identity.specs.Identity.{width, allowedIdentity, AnIdentity}
+use Rattle.antenna.specs.declared.Angle.{Angle}
 use Rattle.antenna.specs.declared.Motion.{Motion}
+use Rattle.antenna.specs.declared.Motion.the-variants.{Owing, Stopped}
 use Rattle.antenna.specs.Alarms.{anyDiffer}
 use Rattle.antenna.specs.Motions.{inRange, owesOf}
 use Rattle.record.specs.declared.Plate.{Plate}
@@ -94,3 +101,31 @@ allowedDevice d =
     platesAllowed (d .plate)
     && (inRange (d .antenna) (d .antenna .tilt)
     && (stationAllowed (d .station) && owedAllowed (d .station .link) (d .antenna .motion)))
+
+-- a result is owed: of a movement that runs, or it waits
+abbrev pub Owes : Motion → Type 0
+Owes m = ((asked : Angle) × (m ≡ Owing asked)) ⊎ ((reached : Bool) × (m ≡ Stopped reached))
+
+pub record AllowedRecord (d : Device) : Type 0 where
+  -- "Identity: 2 vendor octets and 1 to 17 serial octets", as many as there is room for
+  pub identity : AnIdentity (identityOf (d .plate))
+  pub identity-held : d .plate .identity .len ≤ 19
+  -- "Product, hardware and software texts of at most 20, 14 and 14 octets of any kind"
+  pub product : d .plate .product .len ≤ 20
+  pub hardware : d .plate .hardware .len ≤ 14
+  pub software : d .plate .software .len ≤ 14
+  -- "lowest ≤ present ≤ highest"
+  pub lowest : d .antenna .lowest .tenths ≤ℤ d .antenna .tilt .tenths
+  pub highest : d .antenna .tilt .tenths ≤ℤ d .antenna .highest .tenths
+  -- "an address of 0 to 254, 0 exactly in NoAddress"
+  pub address : d .station .address ≤ 254
+  pub unaddressed : d .station .address ≡ 0 ↔ d .station .link ≡ NoAddress
+  -- "session numbers of 0 to 7"
+  pub numbers : (s : Session) → d .station .link ≡ Connected s → (s .r ≤ 7) × (s .s ≤ 7)
+  -- "a pending answer of at most 74 payload octets"
+  pub answer : (s : Session) → d .station .link ≡ Connected s → s .pending ≡ Answer → d .station .reply .len ≤ 74
+  -- "(an indication: as below)": "for alarms whose present state differs from what was told"
+  pub indication : (s : Session) → d .station .link ≡ Connected s → s .pending ≡ Indication
+      → d .station .said .flags ≡ d .station .told .flags → ⊥
+  -- "a tilt result owed only in Connected"
+  pub owed : Owes (d .antenna .motion) → (s : Session) × (d .station .link ≡ Connected s)

@@ -3,15 +3,17 @@
 --   deviceOf d t n  == the device d with the station t and the antenna n
 --   endedAs d a l   == the device d after its session's end, at the address a in the link state l
 --   canBe n e       == the event e can happen to the antenna n; afterEvent n e == the antenna then
+--   CanHappen n e   == the same as canBe, in the words of refusal 8
 --   antennaHappened n e == the event e, of an antenna; happened d e == of a device
 -- Assumes nothing.
 use mathlib.Core.Bool.{Bool, true, false, not}
 use mathlib.Core.List.{List, [], _∷_}
 use Prim.Native.Nat.{ℕ}
+use lib.Signed.{_≤ℤ_}
 use Rattle.refusal.specs.Answer.{Answer, Row, _when_, answered}
 use Rattle.antenna.specs.declared.Antenna.{Antenna}
 use Rattle.antenna.specs.Motions.{unowedOf, moves}
-use Rattle.antenna.specs.Events.{canStop, at, isAlarm, withAlarm}
+use Rattle.antenna.specs.Events.{Runs, canStop, at, isAlarm, OneOf, withAlarm}
 use Rattle.record.specs.Allowed.{allowedDevice}
 use Rattle.record.specs.Fresh.{calm, noReply}
 use Rattle.record.specs.declared.Link.{Link}
@@ -41,6 +43,14 @@ unfoldable pub canBe : Antenna → Event → Bool
 canBe n (Stopped t) = canStop n t
 canBe n (Raised k) = isAlarm k
 canBe n (Cleared k) = isAlarm k
+
+-- "Refusal 8: a stop with no movement, t outside lowest to highest, an alarm not among 0x02, 0x03, 0x0E, 0x0F, 0x11,
+-- 0x27"
+abbrev pub CanHappen : Antenna → Event → Type 0
+CanHappen n (Stopped t) =
+    Runs (n .motion) × (n .lowest .tenths ≤ℤ t .tenths) × (t .tenths ≤ℤ n .highest .tenths)
+CanHappen n (Raised k) = OneOf k (0x02 ∷ 0x03 ∷ 0x0E ∷ 0x0F ∷ 0x11 ∷ 0x27 ∷ [])
+CanHappen n (Cleared k) = OneOf k (0x02 ∷ 0x03 ∷ 0x0E ∷ 0x0F ∷ 0x11 ∷ 0x27 ∷ [])
 
 unfoldable pub afterEvent : Antenna → Event → Antenna
 afterEvent n (Stopped t) = at n t

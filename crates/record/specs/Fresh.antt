@@ -1,5 +1,5 @@
 -- A fresh device. 01: "A fresh device has address 0 and no alarms, subscription or movement."
---   dataAllowed ..     == the device data is as "Who the device is" says
+--   dataAllowed ..     == the device data is as "Who the device is" says; AllowedData .. == the same, phrase by phrase
 --   identityFrom s, productFrom s, versionFrom s == a text with zeros behind it
 --   plateFrom i p h s  == the plate with these texts, zeros behind each
 --   freshStation       == address 0, no session, nothing told, nothing subscribed
@@ -8,13 +8,14 @@
 -- Assumes nothing.
 use mathlib.Core.Bool.{Bool, false, not, _&&_}
 use mathlib.Core.List.{List, [], _∷_}
-use Prim.Native.Nat.{ℕ}
+use Prim.Native.Nat.{ℕ, _≤_}
 use lib.Dec.{leb}
 use lib.IntN.{pos}
 use lib.ListN.{length, replicate}
+use lib.Signed.{_≤ℤ_}
 use Rattle.octets.specs.Octets.{_atStartOf_}
 use Rattle.refusal.specs.Answer.{Answer, _when_, answered}
-use Rattle.identity.specs.Identity.{width, allowedIdentity}
+use Rattle.identity.specs.Identity.{width, allowedIdentity, AnIdentity}
 use Rattle.antenna.specs.declared.Alarms.{Alarms}
 use Rattle.antenna.specs.declared.Angle.{Angle}
 use Rattle.antenna.specs.declared.Antenna.{Antenna}
@@ -79,6 +80,17 @@ dataAllowed i p h s n = textsAllowed i p h s && inRange n (n .tilt)
 
 abbrev pub antennaFrom : Span → Antenna
 antennaFrom w = freshAntenna (w .lowest) (w .highest) (w .present)
+
+pub record AllowedData (i p h s : List ℕ) (w : Span) : Type 0 where
+  -- "Identity: 2 vendor octets and 1 to 17 serial octets, all 0x20 to 0x7E, the last not 0x20."
+  pub identity : AnIdentity i
+  -- "Product, hardware and software texts of at most 20, 14 and 14 octets of any kind."
+  pub product : length p ≤ 20
+  pub hardware : length h ≤ 14
+  pub software : length s ≤ 14
+  -- "lowest ≤ present ≤ highest"
+  pub lowest : w .lowest .tenths ≤ℤ w .present .tenths
+  pub highest : w .present .tenths ≤ℤ w .highest .tenths
 
 unfoldable pub freshOf : List ℕ → List ℕ → List ℕ → List ℕ → Span → Answer Device
 freshOf i p h s w =

@@ -1,4 +1,5 @@
 -- What the other crates cite of the device's record.
 pub mod Allowed
 pub mod Fresh
+pub mod Accounts
 pub mod Changes
