@@ -1,6 +1,6 @@
 -- What alarm status, information and get tilt are answered, and what a busy get tilt: 01, "Messages", the column "Data
 -- out after 0x00", and that nothing changes. Assumes nothing.
-use mathlib.Core.Path.{_≡_, refl, ap, _∙_}
+use mathlib.Core.Path.{_≡_, ap, _∙_}
 use mathlib.Core.Bool.{Bool, true, false}
 use mathlib.Core.List.{List, [], _∷_, _++_}
 use Prim.Native.Nat.{ℕ, _+_, _/_, _%_}
@@ -15,7 +15,7 @@ use Rattle.antenna.specs.Alarms.{codesOf}
 use Rattle.antenna.specs.Motions.{busyOf}
 use Rattle.record.specs.declared.Plate.{Plate}
 use Rattle.record.specs.Allowed.{identityOf, productOf, hardwareOf, softwareOf}
-use Rattle.payload.specs.Payloads.{successOf, failureOf}
+use Rattle.payload.specs.Payloads.{successOf}
 use Rattle.payload.proofs.Laws.{success-is, failure-is}
 use Rattle.tilt.specs.Tilts.{tiltOctets}
 use Rattle.information.specs.Information.{informationOf}
