@@ -13,7 +13,7 @@ use Rattle.octets.proofs.Words.{true-not-false}
 use Rattle.control.specs.Control.{nextOf, infoOf, rrOf}
 use Rattle.antenna.specs.declared.Alarms.{Alarms}
 use Rattle.antenna.specs.declared.Antenna.{Antenna}
-use Rattle.antenna.specs.Alarms.{changesOf}
+use Rattle.antenna.specs.Alarms.{changesAmong, changesOf}
 use Rattle.record.specs.declared.Pending.{Pending}
 use Rattle.record.specs.declared.Pending.the-variants.{Nothing, Answer, Indication}
 use Rattle.record.specs.declared.Session.{Session}
@@ -122,6 +122,47 @@ address-kept t s r = go (acknowledges s r)
 emptied-rests : (s : Session) (r : ℕ) → acknowledges s r ≡ true → resent (sessionAfter s r) ≡ ready (sessionAfter s r)
 unfolding sessionAfter resent emptied pends
 emptied-rests s r a = rw a
+
+-- ---- alarms
+
+-- "pairs alarm and 1 (raised) or 0, ascending, for alarms whose present state differs from what was told"
+abbrev pub ifChanged : Bool → Bool → ℕ → List ℕ
+ifChanged true true code = []
+ifChanged true false code = code ∷ 1 ∷ []
+ifChanged false true code = code ∷ 0 ∷ []
+ifChanged false false code = []
+
+changes-more : (c : ℕ) (cs : List ℕ) (p : Bool) (ps : List Bool) (t : Bool) (ts : List Bool)
+    → changesAmong (c ∷ cs) (p ∷ ps) (t ∷ ts) ≡ ifChanged p t c ++ changesAmong cs ps ts
+unfolding changesAmong
+changes-more c cs true ps true ts = refl
+changes-more c cs true ps false ts = refl
+changes-more c cs false ps true ts = refl
+changes-more c cs false ps false ts = refl
+
+changes-last : (c : ℕ) (p t : Bool) → changesAmong (c ∷ []) (p ∷ []) (t ∷ []) ≡ ifChanged p t c
+unfolding changesAmong
+changes-last c true true = refl
+changes-last c true false = refl
+changes-last c false true = refl
+changes-last c false false = refl
+
+-- of the six alarms 01 names; p are their present states, t what was told
+pub changes-are : (p₁ p₂ p₃ p₄ p₅ p₆ t₁ t₂ t₃ t₄ t₅ t₆ : Bool)
+    → changesOf (p₁ ∷ p₂ ∷ p₃ ∷ p₄ ∷ p₅ ∷ p₆ ∷ []) (t₁ ∷ t₂ ∷ t₃ ∷ t₄ ∷ t₅ ∷ t₆ ∷ [])
+    ≡ ifChanged p₁ t₁ 0x02 ++ (ifChanged p₂ t₂ 0x03 ++ (ifChanged p₃ t₃ 0x0E
+    ++ (ifChanged p₄ t₄ 0x0F ++ (ifChanged p₅ t₅ 0x11 ++ ifChanged p₆ t₆ 0x27))))
+changes-are p₁ p₂ p₃ p₄ p₅ p₆ t₁ t₂ t₃ t₄ t₅ t₆ =
+    changes-more 0x02 _ p₁ _ t₁ _
+    ∙ ap (λ (x : List ℕ). ifChanged p₁ t₁ 0x02 ++ x)
+    (changes-more 0x03 _ p₂ _ t₂ _
+    ∙ ap (λ (x : List ℕ). ifChanged p₂ t₂ 0x03 ++ x)
+    (changes-more 0x0E _ p₃ _ t₃ _
+    ∙ ap (λ (x : List ℕ). ifChanged p₃ t₃ 0x0E ++ x)
+    (changes-more 0x0F _ p₄ _ t₄ _
+    ∙ ap (λ (x : List ℕ). ifChanged p₄ t₄ 0x0F ++ x)
+    (changes-more 0x11 _ p₅ _ t₅ _
+    ∙ ap (λ (x : List ℕ). ifChanged p₅ t₅ 0x11 ++ x) (changes-last 0x27 p₆ t₆)))))
 
 -- ---- frames
 
