@@ -220,7 +220,8 @@ module _ (d : Device) (s : Session) (r : ℕ) (good : goodNumber s r ≡ true) w
     replied-says : (told : Alarms) (sub : Bool) (b : List ℕ)
         → frameBy (replied d s r n told sub b) (pend (taken (sessionAfter s r)))
         ≡ info (d .station .address) r (s .r + 1) b
-    unfolding frameBy isSilent controlBy payloadBy deviceOf answersWith awaiting heeded taken linkOctets pendingOctets info
+    unfolding frameBy isSilent controlBy payloadBy deviceOf answersWith awaiting heeded taken linkOctets pendingOctets
+        info
     replied-says told sub b = same-frame (address-kept (d .station) s r) next (payload-says b)
 
     delivers-says : (b : List ℕ)
@@ -323,9 +324,11 @@ module _ (d : Device) (f : List ℕ) where
   says-octets (unknown s w l) = rejects s 1
   says-octets (starts s n r w due) = heard-says d s r (w .numbered .good) _ _ _
   says-octets (clears s n r w m) =
-      replied-says d s r (w .numbered .good) _ _ _ _ ∙ ap (info (d .station .address) r (s .r + 1)) (success-is 0x06 [])
+      replied-says d s r (w .numbered .good) _ _ _ _
+      ∙ ap (info (d .station .address) r (s .r + 1)) (success-is 0x06 [])
   says-octets (subscribes s n r w m) =
-      replied-says d s r (w .numbered .good) _ _ _ _ ∙ ap (info (d .station .address) r (s .r + 1)) (success-is 0x12 [])
+      replied-says d s r (w .numbered .good) _ _ _ _
+      ∙ ap (info (d .station .address) r (s .r + 1)) (success-is 0x12 [])
   says-octets (answers s n r b w e) = replied-says d s r (w .numbered .good) _ _ _ b
   says-octets (murmurs s n r w few) = heard-says d s r (w .numbered .good) _ _ _
   says-octets (repeats s n r w a) = repeats-says s r (w .link) (w .good)

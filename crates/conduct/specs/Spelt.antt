@@ -1,10 +1,14 @@
--- What is said of a frame, octet by octet: 01, "The link", "XID: scan and assignment" and "Messages". A row for each case
--- of specs/Comes, in 01's octets; `says-octets` of proofs/Says says that this is what a device says.
+-- What is said of a frame, octet by octet: 01, "The link", "XID: scan and assignment" and "Messages". A row for each
+-- case of specs/Comes, in 01's octets; `says-octets` of proofs/Says says that this is what a device says.
 --   rr a r              == RR from the address a, with N(R) = r
 --   info a s r m        == the I-frame from a with N(S) = s, N(R) = r and the payload m
 --   kept s r            == what is pending in the session s after a good N(R) = r
 --   pendingSaid t p     == the payload of what is pending in the station t, p
---   sentNumber s        == V(S)
+--   indication pairs    == the payload of an indication with these pairs
+--   again t s r p       == the pending answer p again, else RR
+--   sentNumber s p      == V(S), where S is s and p is pending
+--   frmr a c s why      == FRMR from the address a for the control c, in the session s
+--   resultSaid reached, scanSaid a i, assignmentSaid a i == a tilt's result; the answers to a scan and an assignment
 --   octetsSaid d f c    == address, control and payload that d says of the frame f, whose case is c; none for silence
 -- Numbers are taken round, "0 to 7", so that every record has its row. After a good N(R), S is that N(R) (`good-s` of
 -- proofs/Says). Assumes nothing.
@@ -70,8 +74,8 @@ unfoldable pub resultSaid : Bool → List ℕ
 resultSaid true = 0x33 ∷ 0x01 ∷ 0x00 ∷ 0x00 ∷ []
 resultSaid false = 0x33 ∷ 0x02 ∷ 0x00 ∷ 0x0B ∷ 0x02 ∷ []
 
--- "Answers have control 0xBF and begin 0x81, 0xF0, length." "Answer, in any state: 1 (unpadded, n octets), 2, 4 in that
--- order; length field n+8"
+-- "Answers have control 0xBF and begin 0x81, 0xF0, length." "Answer, in any state: 1 (unpadded, n octets), 2, 4 in
+-- that order; length field n+8"
 unfoldable pub scanSaid : ℕ → List ℕ → List ℕ
 scanSaid a i =
     a ∷ 0xBF ∷ 0x81 ∷ 0xF0 ∷ (length i + 8) ∷ 1 ∷ length i ∷ (i ++ (2 ∷ 1 ∷ a ∷ 4 ∷ 1 ∷ 0x01 ∷ []))

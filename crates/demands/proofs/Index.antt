@@ -24,8 +24,8 @@ pub use Rattle.whole_scan.proofs.Exactly.{run-exactly, new-run-exactly}
 pub use Rattle.params.proofs.Exact.{params-exactly, one-reading}
 pub use Rattle.xid.proofs.Exactly.{scan-exactly, assignment-exactly, never-both, address-edge}
 pub use Rattle.xid.proofs.Probe.{probe-scan, probe-read}
--- ---- messages: each return code exactly when, and the answer that says it; set tilt alone starts a movement; what each
--- ---- other message is answered, octet by octet
+-- ---- messages: each return code exactly when, and the answer that says it; set tilt alone starts a movement; what
+-- ---- the others are answered, octet by octet
 pub use Rattle.message.proofs.Exact.{given-24, given-25, given-19, given-05, given-13, given-none}
 pub use Rattle.message.proofs.Moves.{moves-exactly, clear-clears, subscribe-subscribes}
 pub use Rattle.message.proofs.Fails.{fails-exactly}

@@ -46,8 +46,8 @@ module _ (d : Device) (f : List ℕ) (room : ℕ) (allowed : allowedDevice d ≡
   unfolding left octetsSaid scanSaid
   scan-octets w m a i x y = rw (← x, ← y) (judged-octets (scans w m))
 
-  -- "Then any session ends, the address is taken, the state is AddressAssigned, and the answer from the new address has 1
-  -- and 4; length field n+5"
+  -- "Then any session ends, the address is taken, the state is AddressAssigned, and the answer from the new address
+  -- has 1 and 4; length field n+5"
   pub assignment-octets : (a : ℕ) → Assigns d f a → (i : List ℕ) → identityOf (d .plate) ≡ i
       → judged d f room
       ≡ gives

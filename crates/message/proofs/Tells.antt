@@ -44,7 +44,8 @@ codes-last c true = refl
 codes-last c false = refl
 
 pub codes-are : (a b c d e f : Bool) → codesOf (a ∷ b ∷ c ∷ d ∷ e ∷ f ∷ [])
-    ≡ ifRaised a 0x02 ++ (ifRaised b 0x03 ++ (ifRaised c 0x0E ++ (ifRaised d 0x0F ++ (ifRaised e 0x11 ++ ifRaised f 0x27))))
+    ≡ ifRaised a 0x02 ++ (ifRaised b 0x03 ++ (ifRaised c 0x0E
+    ++ (ifRaised d 0x0F ++ (ifRaised e 0x11 ++ ifRaised f 0x27))))
 codes-are a b c d e f =
     codes-more 0x02 _ a _
     ∙ ap (λ (x : List ℕ). ifRaised a 0x02 ++ x)
