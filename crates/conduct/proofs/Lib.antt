@@ -15,6 +15,7 @@ pub mod Indicates
 pub mod Ends
 pub mod Results
 pub mod Comes
+pub mod Says
 pub mod Leaves
 pub mod Motions
 pub mod Pends

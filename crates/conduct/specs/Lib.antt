@@ -3,4 +3,5 @@ pub mod Conduct
 pub mod Endings
 pub mod Alarms
 pub mod Comes
+pub mod Spelt
 pub mod Account

@@ -24,9 +24,13 @@ pub use Rattle.whole_scan.proofs.Exactly.{run-exactly, new-run-exactly}
 pub use Rattle.params.proofs.Exact.{params-exactly, one-reading}
 pub use Rattle.xid.proofs.Exactly.{scan-exactly, assignment-exactly, never-both, address-edge}
 pub use Rattle.xid.proofs.Probe.{probe-scan, probe-read}
--- ---- messages: each return code exactly when; set tilt alone starts a movement
+-- ---- messages: each return code exactly when, and the answer that says it; set tilt alone starts a movement; what
+-- ---- the others are answered, octet by octet
 pub use Rattle.message.proofs.Exact.{given-24, given-25, given-19, given-05, given-13, given-none}
 pub use Rattle.message.proofs.Moves.{moves-exactly, clear-clears, subscribe-subscribes}
+pub use Rattle.message.proofs.Fails.{fails-exactly}
+pub use Rattle.message.proofs.Tells.{status-tells, codes-are, information-tells, tilt-tells, tilt-busy}
+pub use Rattle.payload.proofs.Laws.{success-is, failure-is}
 -- ---- controls: each read as the order that has it
 pub use Rattle.control.proofs.Named.{asked-exactly}
 -- ---- tilts: the same exactly if equal
@@ -38,6 +42,7 @@ pub use Rattle.conduct.proofs.Runs.{run-allowed, never-refused, event-never-ref
 -- ---- conduct: what comes of any frame; a tilt only when due, and never again; R and S; results and alarms; sessions' ends
 pub use Rattle.conduct.proofs.Comes.{comes, comes-so, comes-leaves, comes-says, unaccepted-leaves, ends-leaves}
 pub use Rattle.conduct.proofs.Comes.{silence-exactly, silence-keeps as silence-leaves}
+pub use Rattle.conduct.proofs.Says.{good-s, changes-are, says-octets, frame-octets}
 pub use Rattle.conduct.proofs.Account.{account, session-kept}
 pub use Rattle.conduct.proofs.Motions.{owing-exactly, motion-cases}
 pub use Rattle.conduct.proofs.Due.{starts-exactly, due-moves-on}
@@ -52,6 +57,7 @@ pub use Rattle.conduct.proofs.Answers.{snrm-answered, scan-answered, assignment
 pub use Rattle.device.proofs.Only.{judge-only, hear-only}
 pub use Rattle.device.proofs.Exact.{judge-all, hear-all, refused-keeps, silence-keeps, frame-tells}
 pub use Rattle.device.proofs.Fits.{answer-fits}
+pub use Rattle.device.proofs.Says.{judged-octets, scan-octets, assignment-octets}
 -- ---- the whole bus: hearing, demand 3 with no premise, the installer's job and when it can be done
 pub use Rattle.bus.proofs.Heard.{heard-exactly, heard-unchanged}
 pub use Rattle.bus.proofs.Scans.{scan-row, scan-any, scan-complete, scan-unchanged}

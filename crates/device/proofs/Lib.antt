@@ -4,3 +4,4 @@ pub mod Only
 pub mod Hearing
 pub mod Exact
 pub mod Fits
+pub mod Says

@@ -1,12 +1,12 @@
 -- How long it is what a device tells of itself. Assumes nothing.
 use mathlib.Core.Path.{_≡_}
 use mathlib.Core.Bool.{true}
-use mathlib.Core.List.{List, _++_}
+use mathlib.Core.List.{List, _∷_, _++_}
 use Prim.Native.Nat.{ℕ, _+_, _≤_}
 use native.Mathlib.Omega.{arith}
 use borrow.Author.Tests.{leb-true}
 use lib.Dec.{leb}
-use lib.ListN.{length, take, length-take, length-drop, length-append}
+use lib.ListN.{length, take, drop, length-take, length-drop, length-append}
 use Rattle.identity.proofs.Identities.{and-parts}
 use Rattle.record.specs.Allowed.{identityOf, productOf, hardwareOf, softwareOf, platesAllowed, identityAllowed}
 use Rattle.record.specs.declared.Plate.{Plate}
@@ -23,6 +23,16 @@ module _ (p s h w : List ℕ) where
       ≡ 4 + length p + length s + length h + length w
   length-texts =
       simp (length-append, length-text) (omega arith)
+
+-- "product, serial, hardware, software, each after its length"; the serial number is the identity behind its "2 vendor
+-- octets"
+pub information-is : (p : Plate) (product identity hardware software : List ℕ) → productOf p ≡ product
+    → identityOf p ≡ identity → hardwareOf p ≡ hardware → softwareOf p ≡ software
+    → informationOf p
+    ≡ (length product ∷ product) ++ ((length (drop 2 identity) ∷ drop 2 identity)
+    ++ ((length hardware ∷ hardware) ++ (length software ∷ software)))
+unfolding informationOf textOf
+information-is p product identity hardware software e i h s = rw (e, i, h, s)
 
 -- the texts of a plate are no longer than 20, 17, 14 and 14 octets
 pub record Short (p : Plate) : Type 0 where

@@ -9,3 +9,4 @@ pub mod Samples
 pub mod Shapes
 pub mod Stays
 pub mod Tables
+pub mod Tells

@@ -3,7 +3,7 @@ use mathlib.Core.Path.{_≡_, refl}
 use mathlib.Core.Bool.{Bool, true, false}
 use mathlib.Core.List.{List, [], _∷_}
 use mathlib.Core.Option.{some}
-use Prim.Native.Nat.{ℕ, _+_, _≤_}
+use Prim.Native.Nat.{ℕ, suc, _+_, _/_, _%_, _≤_}
 use native.Mathlib.Omega.{arith}
 use lib.ListN.{length, take, replicate, length-take}
 use Rattle.octets.specs.Octets.{lastOf}
@@ -19,6 +19,17 @@ length-message code d = omega arith
 pub length-success : (code : ℕ) (out : List ℕ) → length (successOf code out) ≡ 4 + length out
 unfolding successOf messageOf
 length-success code out = omega arith
+
+-- "Code, data length (two octets, low first), data", "Data out after 0x00"
+pub success-is : (code : ℕ) (out : List ℕ)
+    → successOf code out ≡ code ∷ (1 + length out) % 256 ∷ (1 + length out) / 256 % 256 ∷ 0x00 ∷ out
+unfolding successOf messageOf
+success-is code out = let more : 1 + length out ≡ suc (length out) = omega arith in rw more
+
+-- "A failure answers code, 2, 0, 0x0B, return code."
+pub failure-is : (code why : ℕ) → failureOf code why ≡ code ∷ 2 ∷ 0 ∷ 0x0B ∷ why ∷ []
+unfolding failureOf
+failure-is code why = refl
 
 -- a failure is the message whose data is 0x0B and the return code
 pub failure-message : (code why : ℕ) → failureOf code why ≡ messageOf code (0x0B ∷ why ∷ [])
