@@ -35,6 +35,16 @@ pub use Rattle.payload.proofs.Laws.{success-is, failure-is}
 pub use Rattle.control.proofs.Named.{asked-exactly}
 -- ---- tilts: the same exactly if equal
 pub use Rattle.antenna.proofs.Angles.{same-exactly}
+-- ---- the tests that promises cite, in 01's words, both ways: records, data and events; numbers; silence; what there is to tell
+pub use Rattle.record.proofs.Exactly.{allowed-exactly, data-exactly, can-exactly}
+pub use Rattle.record.proofs.Accounts.{event-account, fresh-is}
+pub use Rattle.antenna.proofs.Angles.{range-exactly, same-exactly}
+pub use Rattle.antenna.proofs.Tells.{tells-all, tells-exactly, tells-ascending}
+pub use Rattle.antenna.proofs.Codes.{codes-exactly, codes-ascending}
+pub use Rattle.control.proofs.Named.{asked-exactly}
+pub use Rattle.session.proofs.Numbers.{good-exactly, accepts-exactly, acknowledges-exactly, counts-is}
+pub use Rattle.link.proofs.Silence.{own-exactly, quiet-exactly, quiet-payload}
+pub use Rattle.poll.proofs.Tells.{to-tell-exactly}
 -- ---- what is allowed stays so, and no run from a fresh device meets refusal 6
 pub use Rattle.record.proofs.Stays.{event-stays, end-stays, fresh-allowed}
 pub use Rattle.conduct.proofs.Stays.{stays-allowed}

@@ -50,10 +50,11 @@ use Rattle.scan.proofs.Refusals.{Over, over-exactly, report-seven, probe-seven,
 use Rattle.record.specs.declared.Device.{Device}
 use Rattle.record.specs.declared.Event.{Event}
 use Rattle.record.specs.declared.Span.{Span}
-use Rattle.record.specs.Allowed.{allowedDevice}
+use Rattle.record.specs.Allowed.{allowedDevice, AllowedRecord}
 use Rattle.record.specs.Fresh.{freshOf, dataAllowed, antennaFrom, blankDevice}
 use Rattle.record.specs.Changes.{canBe, happened}
 use Rattle.record.proofs.Only.{fresh-6, happen-6, happen-8}
+use Rattle.record.proofs.Exactly.{allowed-exactly}
 use Rattle.station.specs.declared.Say.{Say}
 use Rattle.link.specs.Link.{judgedFrame}
 use Rattle.conduct.proofs.Comes.{silence-keeps}
@@ -261,6 +262,12 @@ event-numbers d e = (happen-6 d e, happen-8 d e)
 pub fresh-numbers : (i p h s : List ℕ) (w : Span)
     → freshOf i p h s w ≡ refuses 6 ↔ dataAllowed i p h s (antennaFrom w) ≡ false
 fresh-numbers = fresh-6
+
+-- "device data, or a device record handed in, not allowed" and "a device event that can't be", phrase by phrase: the
+-- tests that these numbers go by are true exactly of the records, data and events that 01 allows
+pub allowed-words : (d : Device) → length (d .station .said .flags) ≡ length (d .station .told .flags)
+    → allowedDevice d ≡ true ↔ AllowedRecord d
+allowed-words = allowed-exactly
 
 -- octets from the line: the decoder's numbers at once, then 6, then 5
 module _ (d : Device) (s : List ℕ) (room : ℕ) where

@@ -48,7 +48,9 @@ use Rattle.states.specs.States.{begun, newSession}
 use Rattle.link.specs.Frames.{controlOf, hasAddress, Numbered}
 use Rattle.conduct.specs.Conduct.{after, starts, TiltDue, TiltStarted, occurAll, Meeting, run}
 use Rattle.conduct.specs.Comes.{Comes, left, says}
+use Rattle.conduct.specs.Spelt.{octetsSaid}
 use Rattle.conduct.specs.Account.{Account}
+use Rattle.conduct.proofs.Says.{says-octets}
 use Rattle.conduct.proofs.Comes.{comes, comes-so, silence-keeps, unaccepted-leaves}
 use Rattle.conduct.proofs.Motions.{owing-exactly}
 use Rattle.conduct.proofs.Account.{account}
@@ -158,6 +160,10 @@ module _ (d : Device) (f : List ℕ) where
 
   pub each-case : (c : Comes d f) → judgedFrame d f ≡ saying (left d f c) (says d f c)
   each-case = comes-so d f
+
+  -- and what its case has stands octet by octet in conduct/specs/Spelt
+  pub each-octet : (c : Comes d f) → frameBy (left d f c) (says d f c) ≡ octetsSaid d f c
+  each-octet = says-octets d f
 
   -- part by part: when exactly address, link state, R and S, alarms, subscription, motion and what is pending change
   pub changes : Account d f
