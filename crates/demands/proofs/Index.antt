@@ -31,10 +31,6 @@ pub use Rattle.message.proofs.Moves.{moves-exactly, clear-clears, subscribe-sub
 pub use Rattle.message.proofs.Fails.{fails-exactly}
 pub use Rattle.message.proofs.Tells.{status-tells, codes-are, information-tells, tilt-tells, tilt-busy}
 pub use Rattle.payload.proofs.Laws.{success-is, failure-is}
--- ---- controls: each read as the order that has it
-pub use Rattle.control.proofs.Named.{asked-exactly}
--- ---- tilts: the same exactly if equal
-pub use Rattle.antenna.proofs.Angles.{same-exactly}
 -- ---- the tests that promises cite, in 01's words, both ways: records, data and events; numbers; silence; what there is to tell
 pub use Rattle.record.proofs.Exactly.{allowed-exactly, data-exactly, can-exactly}
 pub use Rattle.record.proofs.Accounts.{event-account, fresh-is}
