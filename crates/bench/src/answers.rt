@@ -1,11 +1,15 @@
-// Answers of the bench: words, numbers and octets, written to standard output. A number or octets stand behind a mark,
-// mostly a space. Assumes nothing of the caller: what is not there is left out.
+// Answers of the bench: words, numbers and octets, written to standard output. The words are those of `terms`; a number or
+// octets stand behind a mark, mostly a space. Assumes nothing of the caller: what is not there is left out.
+ghost use mathlib.Core.Path.{_≡_};
+ghost use Rattle.terms.specs.Terms.{lettersOf};
+ghost use Rattle.bench.specs.Written.{digitOf, hexRow};
 use crate::rows;
 use antenna::Angle;
 use device::Said;
 use libc::STDOUT_FILENO;
 use refusal::Outcome;
 use refusal::Refusal;
+use terms::Term;
 
 // The longest lent output, and the octet that it is filled with.
 pub const ROOM: usize = 600;
@@ -15,38 +19,27 @@ pub const FILL: u8 = 0xA5;
 // A mark and the longest lent output in HEX.
 const LONGEST: usize = 1201;
 
-// A word that the bench says, up to the first full stop.
-pub type Name = [u8; 12];
-
-const REFUSED: Name = *b"refused.....";
-
-const ERROR: Name = *b"error ......";
-
-const ANSWER: Name = *b"answer......";
-
-const SILENCE: Name = *b"silence.....";
-
-const DONE: Name = *b"done........";
-
 // ---- words, numbers, octets
 
 pub fn say_octets(s: &[u8]) {
     io::write_all(STDOUT_FILENO, s);
 }
 
-pub fn say(name: Name) {
-    say_octets(rows::part(&name, 0, octets::find(b'.', &name)));
+// What a name has before its first full stop.
+fn letters(name: &[u8]) -> &[u8]
+    ensures { λ r. ⌜ now r ≡ lettersOf (now (name .entry)) ⌝ }
+{
+    rows::part(name, 0, octets::find(b'.', name))
+}
+
+pub fn say(term: Term) {
+    let name = terms::word(term);
+    say_octets(letters(&name));
 }
 
 pub fn say_number(mark: u8, number: usize) {
     say_octets(&[mark]);
     io::print_decimal(STDOUT_FILENO, number as u64);
-}
-
-// A number behind its name.
-pub fn say_count(name: Name, count: usize) {
-    say(name);
-    say_number(b' ', count);
 }
 
 // A tilt's pattern of 16 bits stands in the answer to get tilt. One with the first bit set is negative.
@@ -60,13 +53,20 @@ pub fn say_tilt(mark: u8, tilt: Angle) {
     say_number(b'-', 65536 - pattern);
 }
 
-fn digit(value: u8) -> u8 {
+fn digit(value: u8) -> u8
+    ensures { λ r. ⌜ r ≡ digitOf value ⌝ }
+{
     let d = value % 16;
-    if d < 10 { 48 + d } else { 87 + d }
+    if d < 10 {
+        return 48 + d;
+    }
+    87 + d
 }
 
 // Octets in HEX behind a mark, as many as there is room for; a `-` stands where none does.
-fn in_hex(mark: u8, s: &[u8]) -> [u8; LONGEST] {
+fn in_hex(mark: u8, s: &[u8]) -> [u8; LONGEST]
+    ensures { λ r. ⌜ r ≡ hexRow mark (now (s .entry)) ⌝ }
+{
     let mut row = [mark; LONGEST];
     row[1] = b'-';
     let n = octets::fewer(s.len(), ROOM);
@@ -90,16 +90,16 @@ pub fn say_hex(mark: u8, s: &[u8]) {
     say_octets(rows::part(&row, 0, rows::moved(rows::moved(1, n, LONGEST), n, LONGEST)));
 }
 
-// ---- what several commands say
+// ---- what stands behind the word of several commands
 
-// The fault of a line, by its name.
-pub fn say_error(fault: Name) {
-    say(ERROR);
-    say(fault);
+pub fn say_refusal(refusal: Refusal) {
+    say_number(b' ', refusal::number(refusal) as usize);
 }
 
-pub fn say_refused(refusal: Refusal) {
-    say_count(REFUSED, refusal::number(refusal) as usize);
+pub fn say_outcome(outcome: Outcome) {
+    if let Outcome::Refused(refusal) = outcome {
+        say_refusal(refusal);
+    }
 }
 
 // The whole of a lent output.
@@ -110,16 +110,9 @@ pub fn say_buffer(lent: [u8; ROOM], room: usize) {
 // A device's answer.
 pub fn say_said(said: Said, lent: [u8; ROOM], room: usize) {
     match said {
-        Said::Silence => say(SILENCE),
-        Said::Frame(n) => say_count(ANSWER, n),
-        Said::Refused(refusal) => say_refused(refusal),
+        Said::Silence => {}
+        Said::Frame(n) => say_number(b' ', n),
+        Said::Refused(refusal) => say_refusal(refusal),
     }
     say_buffer(lent, room);
-}
-
-pub fn say_outcome(outcome: Outcome) {
-    match outcome {
-        Outcome::Done => say(DONE),
-        Outcome::Refused(refusal) => say_refused(refusal),
-    }
 }

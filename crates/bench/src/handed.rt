@@ -1,53 +1,54 @@
 // `probe`, `decode` and `write`: octets at the start of a lent output, and the whole of that. Assumes nothing of the
 // caller.
+ghost use lib.ListN.{length, take};
+ghost use Rattle.refusal.specs.Answer.{Hands};
+ghost use Rattle.bench.specs.Bench.{handsOut, hexIn};
 use crate::answers;
 use crate::answers::FILL;
-use crate::answers::Name;
 use crate::answers::ROOM;
 use crate::rows;
 use refusal::Handed;
 use scan::Scan;
 use script::Asked;
+use terms::Term;
 
-const PROBE: Name = *b"probe.......";
-
-const FRAME: Name = *b"frame.......";
-
-const LINE: Name = *b"line........";
-
-fn handed_by(scan: Scan, command: usize, asked: Asked, lent: &mut [u8]) -> Handed {
+fn handed_by(scan: Scan, command: usize, asked: Asked, lent: &mut [u8]) -> Handed
+    ensures { λ r. ⌜ Hands (handsOut command scan asked (length (now (lent .entry)))) (now (lent .entry)) r
+        (now (lent .exit)) ⌝ }
+{
     if command == 9 {
         return scan::probe(scan, lent);
     }
-    let address = rows::octet(asked, 1);
-    let control = rows::octet(asked, 2);
+    let values = asked.values;
     let hex = rows::part(&asked.octets, 0, asked.len as usize);
     if command == 11 {
         return frame::decode(hex, lent);
     }
-    writer::write(address, control, hex, lent)
+    writer::write(rows::octet(values, 1), rows::octet(values, 2), hex, lent)
 }
 
-// What is handed out, by its name.
-fn hand_out(name: Name, scan: Scan, command: usize, asked: Asked, room: usize) {
+// The word for what was handed out, and the whole of the lent output.
+fn hand_out(scan: Scan, command: usize, asked: Asked, room: usize) {
     let mut lent = [FILL; ROOM];
     let handed = handed_by(scan, command, asked, rows::front(&mut lent, room));
+    answers::say(Term::Handed { command, handed });
     match handed {
-        Handed::Octets(n) => answers::say_count(name, n),
-        Handed::Refused(refusal) => answers::say_refused(refusal),
+        Handed::Octets(n) => answers::say_number(b' ', n),
+        Handed::Refused(refusal) => answers::say_refusal(refusal),
     }
     answers::say_buffer(lent, room);
 }
 
 // The commands at the places 9, 11 and 12.
 pub fn obey(scan: Scan, command: usize, asked: Asked) {
+    let values = asked.values;
     if command == 9 {
-        return hand_out(PROBE, scan, command, asked, rows::value(asked, 1));
+        return hand_out(scan, command, asked, rows::value(values, 1));
     }
     if command == 11 {
-        return hand_out(FRAME, scan, command, asked, rows::value(asked, 2));
+        return hand_out(scan, command, asked, rows::value(values, 2));
     }
     if command == 12 {
-        hand_out(LINE, scan, command, asked, rows::value(asked, 4));
+        hand_out(scan, command, asked, rows::value(values, 4));
     }
 }

@@ -1,4 +1,9 @@
 // Standard input, cut into lines. Assumes nothing of the caller: an input that holds no such octets has an empty line.
+ghost use mathlib.Core.Path.{_≡_};
+ghost use Prim.Native.Nat.{_%_};
+ghost use lib.ListN.{take};
+ghost use Rattle.script.specs.Script.{readLine};
+ghost use Rattle.bench.specs.Input.{unread, taken, refilled, withoutReturn};
 use crate::rows;
 use libc::STDIN_FILENO;
 use script::Asked;
@@ -20,7 +25,9 @@ pub struct Input {
     len: usize,
 }
 
-pub fn unread() -> Input {
+pub fn unread() -> Input
+    ensures { λ r. ⌜ r ≡ unread ⌝ }
+{
     Input {
         whole: false,
         run: [0u8; RUN],
@@ -32,7 +39,9 @@ pub fn unread() -> Input {
 }
 
 // What the run has of a line goes behind what has come.
-fn take(input: Input) -> Input {
+fn take(input: Input) -> Input
+    ensures { λ r. ⌜ r ≡ taken input ⌝ }
+{
     let run = input.run;
     let mut line = input.line;
     let rest = rows::part(&run, input.from, input.end);
@@ -49,7 +58,9 @@ fn take(input: Input) -> Input {
 }
 
 // The next run; none at the end of the input.
-fn refill(input: Input) -> Input {
+fn refill(input: Input) -> Input
+    ensures { λ r. ⌜ r ≡ refilled input (r .run) (r .end) ⌝ }
+{
     let mut next = input;
     let mut run = [0u8; RUN];
     let got = libc::read(STDIN_FILENO, &mut run);
@@ -79,7 +90,9 @@ pub fn next_line(input: Input) -> Input {
 }
 
 // A line without the 0x0D before its end.
-fn without_return(line: &[u8], whole: bool) -> &[u8] {
+fn without_return(line: &[u8], whole: bool) -> &[u8]
+    ensures { λ r. ⌜ now r ≡ withoutReturn whole (now (line .entry)) ⌝ }
+{
     if !whole {
         return line;
     }
@@ -94,7 +107,9 @@ fn without_return(line: &[u8], whole: bool) -> &[u8] {
 }
 
 // What the line asks of a bench with so many devices.
-pub fn asked_of(input: Input, devices: usize) -> Asked {
+pub fn asked_of(input: Input, devices: usize) -> Asked
+    ensures { λ r. ⌜ r ≡ readLine (withoutReturn (input .whole) (take (input .len) (input .line))) (devices % 256) ⌝ }
+{
     let line = rows::part(&input.line, 0, input.len);
     script::read_line(without_return(line, input.whole), (devices % 256) as u8)
 }

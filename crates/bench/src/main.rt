@@ -9,34 +9,18 @@ mod scanned;
 mod scans;
 mod shown;
 
-use answers::Name;
+ghost use mathlib.Core.Path.{_≡_};
+ghost use Prim.Native.Nat.{_%_};
+ghost use Rattle.mast.specs.Mast.{swept};
+ghost use Rattle.bench.specs.Bench.{noDevices, commandIn, driven, rowAfter};
 use antenna::Angle;
 use bus::MOST;
 use bus::Row;
 use drives::Answer;
 use record::Span;
 use script::Asked;
-use script::Fault;
 use script::Line;
-
-const DEVICE: Name = *b"device......";
-
-const STATE: Name = *b"state.......";
-
-// The words for a line's faults.
-const LONG: Name = *b"long........";
-
-const COMMAND: Name = *b"command.....";
-
-const WORDS: Name = *b"words.......";
-
-const HEX: Name = *b"hex.........";
-
-const NUMBER: Name = *b"number......";
-
-const ROOM: Name = *b"room........";
-
-const FULL: Name = *b"full........";
+use terms::Term;
 
 // Behind the places of the 13 commands: a line with a fault, and one that gets no answer.
 const NONE: usize = 13;
@@ -44,13 +28,15 @@ const NONE: usize = 13;
 const NOTHING: usize = 14;
 
 // No device, so the blank record of a refusal everywhere.
-fn no_devices(nothing: &[u8]) -> Row {
+fn no_devices() -> Row
+    ensures { λ r. ⌜ r ≡ noDevices ⌝ }
+{
     let level = Angle { tenths: 0 };
     let refused = fresh::fresh(
-        nothing,
-        nothing,
-        nothing,
-        nothing,
+        b"",
+        b"",
+        b"",
+        b"",
         Span {
             lowest: level,
             highest: level,
@@ -64,78 +50,72 @@ fn no_devices(nothing: &[u8]) -> Row {
     }
 }
 
-fn name_of(fault: Fault) -> Name {
-    match fault {
-        Fault::Long => LONG,
-        Fault::Command => COMMAND,
-        Fault::Words => WORDS,
-        Fault::Hex => HEX,
-        Fault::Number => NUMBER,
-        Fault::Room => ROOM,
-        Fault::Device => DEVICE,
-    }
-}
-
 // The command that a line asks for, by its place among the names. One with a fault, which is said, asks for none of the
 // 13, and one that gets no answer for nothing.
-fn command_of(line: Line) -> usize {
+fn command_of(line: Line) -> usize
+    ensures { λ r. ⌜ r ≡ commandIn line ⌝ }
+{
     match line {
         Line::Silent => NOTHING,
         Line::Faulty(fault) => {
-            answers::say_error(name_of(fault));
+            answers::say(Term::Fault(fault));
             NONE
         }
         Line::Asks(command) => command,
     }
 }
 
-fn say_answer(answer: Answer, lent: [u8; answers::ROOM], room: usize) {
+// What stands behind an answer's word.
+fn say_behind(answer: Answer, row: Row, lent: [u8; answers::ROOM], room: usize) {
     match answer {
-        Answer::NoCommand => answers::say_error(COMMAND),
-        Answer::NoDevice => answers::say_error(DEVICE),
-        Answer::Full => answers::say_error(FULL),
-        Answer::Device(k) => answers::say_count(DEVICE, k),
+        Answer::NoCommand => {}
+        Answer::NoDevice => {}
+        Answer::Full => {}
+        Answer::Device(k) => answers::say_number(b' ', k),
         Answer::Outcome(outcome) => answers::say_outcome(outcome),
         Answer::Said(said) => answers::say_said(said, lent, room),
-        Answer::State(_) => answers::say(STATE),
-    }
-}
-
-// What stands behind `state`.
-fn show_state(answer: Answer, row: Row) {
-    if let Answer::State(place) = answer {
-        let devices = row.devices;
-        shown::show(devices[place % MOST]);
+        Answer::State(place) => {
+            let devices = row.devices;
+            shown::show(devices[place % MOST]);
+        }
     }
 }
 
 // The commands at the places 0 to 6.
-fn drive(row: Row, command: usize, asked: Asked) -> Row {
+fn drive(row: Row, command: usize, asked: Asked) -> Row
+    ensures { λ r. ⌜ r ≡ driven command row asked ⌝ }
+{
     let values = asked.values;
-    let room = rows::value(asked, 3);
+    let room = rows::value(values, 3);
     let mut lent = [answers::FILL; answers::ROOM];
     let hex = rows::part(&asked.octets, 0, asked.len as usize);
     let obeyed = drives::obey(row, command, values, hex, rows::front(&mut lent, room));
     let answer = obeyed.answer;
-    say_answer(answer, lent, room);
-    show_state(answer, obeyed.row);
-    obeyed.row
+    let next = obeyed.row;
+    answers::say(Term::Reply(answer));
+    say_behind(answer, next, lent, room);
+    next
 }
 
 // A scan of the row; the scan by hand stands aside.
-fn sweep(row: Row, limit: usize) -> Row {
+fn sweep(row: Row, limit: usize) -> Row
+    ensures { λ r. ⌜ r ≡ swept row (limit % 65536) .row ⌝ }
+{
     let swept = mast::sweep(row, (limit % 65536) as u16);
     scanned::say_scan(swept.scan);
     swept.row
 }
 
 // The commands to the row; any other leaves it alone.
-fn obey(row: Row, command: usize, asked: Asked) -> Row {
+fn obey(row: Row, command: usize, asked: Asked) -> Row
+    ensures { λ r. ⌜ r ≡ rowAfter command row asked ⌝ }
+{
     if command < 7 {
         return drive(row, command, asked);
     }
     if command == 7 {
-        return sweep(row, rows::value(asked, 1));
+        let values = asked.values;
+        return sweep(row, rows::value(values, 1));
     }
     row
 }
@@ -170,5 +150,5 @@ fn play(row: Row) {
 }
 
 fn main() {
-    play(no_devices(b""));
+    play(no_devices());
 }

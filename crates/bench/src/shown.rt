@@ -1,6 +1,7 @@
 // `show`: a device's state in one line. Assumes nothing of the caller.
+ghost use mathlib.Core.Path.{_≡_};
+ghost use Rattle.conduct.specs.Endings.{pendingIn};
 use crate::answers;
-use crate::answers::Name;
 use crate::rows;
 use antenna::Alarms;
 use antenna::Motion;
@@ -9,34 +10,19 @@ use record::Link;
 use record::Payload;
 use record::Pending;
 use record::Station;
+use terms::Term;
 
-const NONE: Name = *b" none.......";
-
-const ASSIGNED: Name = *b" assigned...";
-
-const CONNECTED: Name = *b" connected..";
-
-const NOTHING: Name = *b" -..........";
-
-const INDICATION: Name = *b" i..........";
-
-const STILL: Name = *b" still......";
-
-const MOVING: Name = *b" moving.....";
-
-const REACHED: Name = *b" stopped:ok.";
-
-const JAMMED: Name = *b" stopped:jam";
+// A word behind a space.
+fn say_word(term: Term) {
+    answers::say_octets(b" ");
+    answers::say(term);
+}
 
 fn say_link(link: Link) {
-    match link {
-        Link::NoAddress => answers::say(NONE),
-        Link::AddressAssigned => answers::say(ASSIGNED),
-        Link::Connected(session) => {
-            answers::say(CONNECTED);
-            answers::say_number(b':', session.r as usize);
-            answers::say_number(b':', session.s as usize);
-        }
+    say_word(Term::Link(link));
+    if let Link::Connected(session) = link {
+        answers::say_number(b':', session.r as usize);
+        answers::say_number(b':', session.s as usize);
     }
 }
 
@@ -45,7 +31,9 @@ fn say_payload(mark: u8, payload: Payload, from: usize) {
     answers::say_hex(mark, rows::part(&payload.octets, from, payload.len));
 }
 
-fn pending_of(link: Link) -> Pending {
+fn pending_of(link: Link) -> Pending
+    ensures { λ r. ⌜ r ≡ pendingIn link ⌝ }
+{
     match link {
         Link::NoAddress => Pending::Nothing,
         Link::AddressAssigned => Pending::Nothing,
@@ -55,29 +43,19 @@ fn pending_of(link: Link) -> Pending {
 
 fn say_pending(pending: Pending, station: Station) {
     match pending {
-        Pending::Nothing => answers::say(NOTHING),
+        Pending::Nothing => say_word(Term::Pending(pending)),
         Pending::Answer => say_payload(b' ', station.reply, 0),
         Pending::Indication => {
-            answers::say(INDICATION);
+            say_word(Term::Pending(pending));
             say_payload(b':', report::indication(station.said, station.told), 0);
         }
     }
 }
 
 fn say_drive(motion: Motion) {
-    match motion {
-        Motion::Still => answers::say(STILL),
-        Motion::Moving => answers::say(MOVING),
-        Motion::Owing { asked } => {
-            answers::say(MOVING);
-            answers::say_tilt(b':', asked);
-        }
-        Motion::Stopped { reached } => {
-            if reached {
-                return answers::say(REACHED);
-            }
-            answers::say(JAMMED);
-        }
+    say_word(Term::Drive(motion));
+    if let Motion::Owing { asked } = motion {
+        answers::say_tilt(b':', asked);
     }
 }
 

@@ -1,11 +1,20 @@
--- `in_hex` is safe and ends: the octets passed rise, up to their number or 600. Assumes nothing.
+-- `in_hex` meets its promise: what is left to put makes the row of all. Assumes nothing.
+use mathlib.Core.Path.{_≡_, refl}
+use Prim.Native.Nat.{_+_, _-_, _*_, _≤_}
+use lib.ListN.{take, drop}
+use lib.Seq.{sets}
+use Rattle.bench.specs.Written.{hexed, hexRow}
+use Rattle.bench.proofs.Laws.{hex-turn, hex-done}
 use borrow.Author.Needs.{needs}
-use Prim.Native.Nat.{_-_}
+use native.Mathlib.Omega.{arith}
+use denote.Ref.{now}
+use lib.ListN.{length-take}
 use Rattle.bench.proofs.answers.in_hex.Statement.{statement}
 use Rattle.bench.proofs.answers.in_hex.Tie as tie
 
 abbrev Inv-loop : tie.InvT-loop
-Inv-loop mark s row₀ n i₀ row i = Unit {0}
+Inv-loop mark s row₀ n i₀ row i =
+    (i ≤ n) × (sets row (2 * i + 1) (hexed (drop i (take 600 s))) ≡ hexRow mark s)
 
 abbrev μ-loop : tie.MeasureT-loop
 μ-loop mark s row₀ n i₀ row i = n - i
@@ -17,7 +26,8 @@ fewer-requires : tie.Need-fewer-requires Inv-loop μ-loop
 fewer-requires c κs = search needs
 
 loop-holds : tie.Need-loop-holds Inv-loop μ-loop
-loop-holds c = search needs
+unfolding hexRow
+loop-holds c = (search needs, refl)
 
 shared-slice-read-octet : tie.Need-shared-slice-read-octet Inv-loop μ-loop
 shared-slice-read-octet c = search needs
@@ -53,10 +63,16 @@ loop-less : tie.Need-loop-less Inv-loop μ-loop
 loop-less c = search needs
 
 loop-again : tie.Need-loop-again Inv-loop μ-loop
-loop-again c = search needs
+loop-again c =
+    let loop = c .before .before .before .before .loop in
+    let s = now (c .before .before .before .before .before .before .before .args .s) in
+    (search needs, hex-turn (loop .row) s (loop .i) (omega arith) (c .before .digit .ensures) (c .digit2 .ensures) (loop .inv .1))
 
 returns : tie.Need-returns Inv-loop μ-loop
-returns c = search needs
+returns c =
+    let loop = c .before .loop in
+    let s = now (c .before .before .before .before .args .s) in
+    hex-done (loop .row) (take 600 s) (loop .i) (omega (arith, length-take 600 s, c .before .before .fewer .ensures)) (loop .inv .1)
 
 pub in-hex-spec : {M : Type 1} → statement M
 in-hex-spec =

@@ -1,12 +1,13 @@
--- `front` is safe: the first octets that are lent are as many as asked. Assumes nothing.
+-- `front` meets its promise: the first octets that are lent are as many as asked, or all. Assumes nothing.
 use mathlib.Core.Path.{sym}
-use lib.Seq.{length-take-le}
+use native.Mathlib.Omega.{arith}
+use lib.Seq.{take-all, length-take-le}
 use borrow.Author.Needs.{needs}
 use Rattle.bench.proofs.rows.front.Statement.{statement}
 use Rattle.bench.proofs.rows.front.Tie as tie
 
 returns : tie.Need-returns
-returns c = search needs
+returns c = sym (take-all (c .before .args .n) (c .before .args .s .now) (omega arith))
 
 slice-aggregate-result : tie.Need-slice-aggregate-result
 slice-aggregate-result c = sym (length-take-le (c .before .before .args .n) (c .before .before .args .s .now) (search needs))

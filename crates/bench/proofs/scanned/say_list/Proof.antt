@@ -10,8 +10,14 @@ Inv-loop listed list end mark₀ i₀ mark i = Unit {0}
 abbrev μ-loop : tie.MeasureT-loop
 μ-loop listed list end mark₀ i₀ mark i = end - i
 
-say-requires : tie.Need-say-requires Inv-loop μ-loop
-say-requires c κs = search needs
+slice-aggregate-part : tie.Need-slice-aggregate-part Inv-loop μ-loop
+slice-aggregate-part c = search needs
+
+part-requires : tie.Need-part-requires Inv-loop μ-loop
+part-requires c κs = search needs
+
+say-hex-requires : tie.Need-say-hex-requires Inv-loop μ-loop
+say-hex-requires c κs = search needs
 
 returns : tie.Need-returns Inv-loop μ-loop
 returns c = search needs
@@ -25,17 +31,17 @@ loop-holds c = search needs
 mul-from : tie.Need-mul-from Inv-loop μ-loop
 mul-from c = search needs
 
-slice-aggregate-part : tie.Need-slice-aggregate-part Inv-loop μ-loop
-slice-aggregate-part c = search needs
+slice-aggregate-part-2 : tie.Need-slice-aggregate-part-2 Inv-loop μ-loop
+slice-aggregate-part-2 c = search needs
 
 add-part : tie.Need-add-part Inv-loop μ-loop
 add-part c = search needs
 
-part-requires : tie.Need-part-requires Inv-loop μ-loop
-part-requires c κs = search needs
+part-requires-2 : tie.Need-part-requires-2 Inv-loop μ-loop
+part-requires-2 c κs = search needs
 
-say-hex-requires : tie.Need-say-hex-requires Inv-loop μ-loop
-say-hex-requires c κs = search needs
+say-hex-requires-2 : tie.Need-say-hex-requires-2 Inv-loop μ-loop
+say-hex-requires-2 c κs = search needs
 
 add-i : tie.Need-add-i Inv-loop μ-loop
 add-i c = search needs
@@ -55,15 +61,17 @@ say-list-spec =
     (tie.spec
     Inv-loop
     μ-loop
-    say-requires
+    slice-aggregate-part
+    part-requires
+    say-hex-requires
     returns
     fewer-requires
     loop-holds
     mul-from
-    slice-aggregate-part
+    slice-aggregate-part-2
     add-part
-    part-requires
-    say-hex-requires
+    part-requires-2
+    say-hex-requires-2
     add-i
     loop-less
     loop-again

@@ -1,0 +1,151 @@
+-- What the bench's functions come to, each by what the libraries promise. Assumes nothing.
+use mathlib.Core.Path.{_≡_, refl, sym, ap, ap₂, _∙_}
+use mathlib.Core.Bool.{Bool, true, false, not, false≢true}
+use mathlib.Core.List.{List, []}
+use Prim.Native.Nat.{ℕ, suc, _+_, _-_, _*_, _/_, _%_, _≤_, _<_, min}
+use native.Mathlib.Omega.{arith}
+use lib.Dec.{ltb, eqb}
+use lib.ListN.{length, take, drop, getD, set, length-take, drop-of-length-le}
+use lib.Seq.{sets, getD-take}
+use borrow.Author.Tests.{lt-ltb, le-ltb, eq-eqb, ne-eqb}
+use Rattle.octets.specs.Octets.{lastOf, placeOf}
+use Rattle.octets.proofs.Rest.{rest}
+use Rattle.octets.proofs.Words.{last-at, last-empty}
+use Rattle.refusal.specs.declared.Outcome.{Outcome}
+use Rattle.refusal.specs.declared.Handed.{Handed}
+use Rattle.refusal.specs.Answer.{Changes, stateAfter, answered, Hands}
+use Rattle.refusal.proofs.Answers.{hands-is}
+use Rattle.frame.specs.Decode.{decoded}
+use Rattle.frame.specs.Write.{written}
+use Rattle.identity.specs.Identity.{allowedIdentity}
+use Rattle.record.specs.declared.Device.{Device}
+use Rattle.record.specs.declared.Span.{Span}
+use Rattle.record.specs.Fresh.{freshOf, dataAllowed, textsAllowed, blankDevice}
+use Rattle.scan.specs.declared.Scan.{Scan}
+use Rattle.scan.specs.Scan.{fresh, probed, reported}
+use Rattle.script.specs.declared.Asked.{Asked}
+use Rattle.bus.specs.declared.Row.{Row}
+use Rattle.drives.specs.declared.Obeyed.{Obeyed}
+use Rattle.drives.specs.Drives.{After, Obeys, obeyed}
+use Rattle.mast.specs.Mast.{swept}
+use Rattle.bench.specs.Bench.{hexIn, valueIn, lentOf, driven, rowAfter, scanAfter, handsOut}
+use Rattle.bench.specs.Written.{digitOf, hexed}
+use Rattle.bench.specs.Input.{restOf, takenTo, taken, withoutReturn}
+use Rattle.bench.specs.declared.input.Input.{Input}
+
+-- ---- HEX
+
+module _ (row s : List ℕ) (i : ℕ) {w : List ℕ} where
+  -- one octet more, two digits
+  pub hex-more : i < length s → sets row (2 * i + 1) (hexed (drop i s)) ≡ w
+      → sets (set (set row (2 * i + 1) (digitOf (getD s i 0 / 16))) (2 * i + 2) (digitOf (getD s i 0)))
+      (2 * (i + 1) + 1) (hexed (drop (i + 1) s)) ≡ w
+  unfolding hexed
+  hex-more h e =
+      let m : 2 * i + 2 ≡ suc (2 * i + 1) = omega arith in
+      let n : 2 * (i + 1) + 1 ≡ suc (suc (2 * i + 1)) = omega arith in
+      rw (m, n) (sym (ap (λ (l : List ℕ). sets row (2 * i + 1) (hexed l)) (rest s i h)) ∙ e)
+
+  pub hex-done : length s ≤ i → sets row (2 * i + 1) (hexed (drop i s)) ≡ w → row ≡ w
+  unfolding hexed
+  hex-done h e = sym (ap (λ (l : List ℕ). sets row (2 * i + 1) (hexed l)) (drop-of-length-le s h)) ∙ e
+
+-- a turn of the loop, through the first 600
+pub hex-turn : (row s : List ℕ) (i : ℕ) {x y : ℕ} {w : List ℕ} → i < min (length s) 600
+    → x ≡ digitOf (getD s i 0 / 16) → y ≡ digitOf (getD s i 0)
+    → sets row (2 * i + 1) (hexed (drop i (take 600 s))) ≡ w
+    → sets (set (set row (2 * i + 1) x) (2 * i + 2) y) (2 * (i + 1) + 1) (hexed (drop (i + 1) (take 600 s))) ≡ w
+hex-turn row s i h e f g =
+    let at : getD (take 600 s) i 0 ≡ getD s i 0 = getD-take 600 s i 0 (omega arith) in
+    rw (e, f, ← at) (hex-more row (take 600 s) i (omega (arith, length-take 600 s)) g)
+
+-- ---- a line
+
+module _ (s : List ℕ) where
+  pub return-half : (whole : Bool) → not whole ≡ true → s ≡ withoutReturn whole s
+  unfolding withoutReturn
+  return-half true h = absurd (false≢true h)
+  return-half false h = refl
+
+  pub return-none : (whole : Bool) → length s ≡ 0 → s ≡ withoutReturn whole s
+  unfolding withoutReturn
+  return-none true h = let y : lastOf 0 s ≡ 0 = last-empty 0 s h in rw y
+  return-none false h = refl
+
+  pub return-there : (whole : Bool) → not whole ≡ false → 0 < length s → getD s (length s - 1) 0 ≡ 13
+      → take (length s - 1) s ≡ withoutReturn whole s
+  unfolding withoutReturn
+  return-there true w h e = let y : lastOf 0 s ≡ 13 = last-at 0 s 0 h ∙ e in rw y
+  return-there false w h e = absurd (false≢true (sym w))
+
+  pub return-other : (whole : Bool) → 0 < length s → (getD s (length s - 1) 0 ≡ 13 → ⊥) → s ≡ withoutReturn whole s
+  unfolding withoutReturn
+  return-other true h d = rw (ne-eqb (lastOf 0 s) 13 (λ e. d (sym (last-at 0 s 0 h) ∙ e)))
+  return-other false h d = refl
+
+pub taken-is : (i : Input) {rest line : List ℕ} {n at from len : ℕ} → rest ≡ restOf i → n ≡ placeOf 0x0A rest
+    → line ≡ sets (i .line) (i .len) (take n rest) → at ≡ min (i .from + n) 4096 → from ≡ min (at + 1) 4096
+    → len ≡ min (i .len + n) 2002
+    → record { whole = ltb n (length rest); run = i .run; from = from; end = i .end; line = line; len = len } ≡ taken i
+unfolding taken takenTo
+taken-is i e f g h k l = rw (k, h, l, g, f, e)
+
+-- ---- what is handed out
+
+module _ (c : ℕ) (s : Scan) (a : Asked) (room : ℕ) {o o' : List ℕ} {r : Handed} where
+  pub hands-probe : c ≡ 9 → Hands (probed s room) o r o' → Hands (handsOut c s a room) o r o'
+  unfolding handsOut
+  hands-probe e = hands-is (rw (eq-eqb c 9 e))
+
+  module _ {os : List ℕ} (n : c ≡ 9 → ⊥) (h : os ≡ hexIn a) where
+    pub hands-decode : c ≡ 11 → Hands (decoded 78 os room) o r o' → Hands (handsOut c s a room) o r o'
+    unfolding handsOut
+    hands-decode e = hands-is (rw (ne-eqb c 9 n, eq-eqb c 11 e, h))
+
+    pub hands-write : {x y : ℕ} → (c ≡ 11 → ⊥) → x ≡ valueIn a 1 % 256 → y ≡ valueIn a 2 % 256
+        → Hands (written 78 x y os room) o r o' → Hands (handsOut c s a room) o r o'
+    unfolding handsOut
+    hands-write m e f = hands-is (rw (ne-eqb c 9 n, ne-eqb c 11 m, e, f, h))
+
+-- ---- the row
+
+-- no identity, no device
+pub blank-left : (w : Span) {u : Outcome} {d : Device} → Changes (freshOf [] [] [] [] w) blankDevice u d
+    → d ≡ blankDevice
+unfolding freshOf answered dataAllowed textsAllowed allowedIdentity stateAfter
+blank-left w c = c .state
+
+pub driven-is : (c : ℕ) (row : Row) (a : Asked) {os o o' : List ℕ} {r : Obeyed} → os ≡ hexIn a
+    → o ≡ lentOf (valueIn a 3) → Obeys (obeyed c row (a .values) os o) r o' → r .row ≡ driven c row a
+unfolding driven
+driven-is c row a e f h =
+    ap (λ (x : After). x .row) (h .after)
+    ∙ ap₂ (λ (os o : List ℕ). obeyed c row (a .values) os o .after .row) e f
+
+module _ (c : ℕ) (row : Row) (a : Asked) where
+  pub row-driven : c < 7 → driven c row a ≡ rowAfter c row a
+  unfolding rowAfter
+  row-driven h = rw (lt-ltb c 7 h)
+
+  pub row-swept : {v : ℕ} → 7 ≤ c → c ≡ 7 → v ≡ valueIn a 1 → swept row (v % 65536) .row ≡ rowAfter c row a
+  unfolding rowAfter
+  row-swept h e f = rw (le-ltb c 7 h, eq-eqb c 7 e, f)
+
+  pub row-kept : 7 ≤ c → (c ≡ 7 → ⊥) → row ≡ rowAfter c row a
+  unfolding rowAfter
+  row-kept h n = rw (le-ltb c 7 h, ne-eqb c 7 n)
+
+-- ---- the scan by hand
+
+module _ (c : ℕ) (s : Scan) (v : ℕ) where
+  pub scan-begun : {w : ℕ} → c ≡ 8 → w ≡ v → fresh (w % 65536) ≡ scanAfter c s v
+  unfolding scanAfter
+  scan-begun e f = rw (eq-eqb c 8 e, f)
+
+  pub scan-reported : {w : ℕ} → (c ≡ 8 → ⊥) → c ≡ 10 → w ≡ v → stateAfter (reported s (eqb w 1)) s ≡ scanAfter c s v
+  unfolding scanAfter
+  scan-reported n e f = rw (ne-eqb c 8 n, eq-eqb c 10 e, f)
+
+  pub scan-kept : (c ≡ 8 → ⊥) → (c ≡ 10 → ⊥) → s ≡ scanAfter c s v
+  unfolding scanAfter
+  scan-kept n m = rw (ne-eqb c 8 n, ne-eqb c 10 m)

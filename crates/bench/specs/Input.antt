@@ -1,0 +1,59 @@
+-- Standard input, cut into lines, in the code's own words; what is read is whatever the system gives.
+--   unread               == nothing has been read
+--   restOf i             == the octets of the run that are still to be read
+--   taken i              == what the run has of a line has gone behind what has come
+--   refilled i run end   == another run, of which so many octets are there
+--   withoutReturn whole s == the line s without the 0x0D before its end, of a line that had a 0x0A
+-- Assumes nothing.
+use mathlib.Core.Bool.{Bool, false, cond, _&&_}
+use mathlib.Core.List.{List}
+use Prim.Native.Nat.{ℕ, _+_, _-_, min}
+use lib.Dec.{ltb, eqb}
+use lib.ListN.{length, take, drop, replicate}
+use lib.Seq.{sets}
+use Rattle.octets.specs.Octets.{placeOf, lastOf}
+use Rattle.bench.specs.declared.input.Input.{Input}
+
+-- one octet more than a line and its 0x0D have: "more than 2,000 octets, without the 0x0A and the dropped 0x0D"
+abbrev pub kept : ℕ
+kept = 2002
+
+abbrev pub runMost : ℕ
+runMost = 4096
+
+unfoldable pub unread : Input
+unread =
+    record {
+      whole = false;
+      run = replicate runMost 0;
+      from = 0;
+      end = 0;
+      line = replicate kept 0;
+      len = 0;
+    }
+
+unfoldable pub restOf : Input → List ℕ
+restOf i = drop (i .from) (take (i .end) (i .run))
+
+-- "A line ends with 0x0A"
+unfoldable pub takenTo : Input → ℕ → Input
+takenTo i n =
+    record {
+      whole = ltb n (length (restOf i));
+      run = i .run;
+      from = min (min (i .from + n) runMost + 1) runMost;
+      end = i .end;
+      line = sets (i .line) (i .len) (take n (restOf i));
+      len = min (i .len + n) kept;
+    }
+
+unfoldable pub taken : Input → Input
+taken i = takenTo i (placeOf 0x0A (restOf i))
+
+unfoldable pub refilled : Input → List ℕ → ℕ → Input
+refilled i run end =
+    record { whole = i .whole; run = run; from = 0; end = end; line = i .line; len = i .len }
+
+-- "a 0x0D before it is dropped"; "Only one 0x0D is dropped."
+unfoldable pub withoutReturn : Bool → List ℕ → List ℕ
+withoutReturn whole s = cond (whole && eqb (lastOf 0 s) 0x0D) (take (length s - 1) s) s

@@ -1,0 +1,3 @@
+-- What is proved of the bench's words.
+pub mod Only
+pub mod Said

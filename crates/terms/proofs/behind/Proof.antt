@@ -1,0 +1,56 @@
+-- `terms::behind` meets its promise: each case by itself. Assumes nothing.
+use Rattle.terms.specs.Terms.{behindOf}
+use Rattle.octets.proofs.Rules.{tests}
+use borrow.Author.Needs.{needs}
+use Rattle.terms.proofs.behind.Statement.{statement}
+use Rattle.terms.proofs.behind.Tie as tie
+
+enum-told : tie.Need-enum-told
+enum-told c = search needs
+
+enum-told-2 : tie.Need-enum-told-2
+enum-told-2 c = search needs
+
+enum-told-3 : tie.Need-enum-told-3
+enum-told-3 c = search needs
+
+enum-told-4 : tie.Need-enum-told-4
+enum-told-4 c = search needs
+
+enum-told-5 : tie.Need-enum-told-5
+enum-told-5 c = search needs
+
+returns : tie.Need-returns
+unfolding behindOf
+returns c = search (tests, c .enum-told .given .1)
+
+returns-2 : tie.Need-returns-2
+unfolding behindOf
+returns-2 c = search (tests, c .enum-told2 .given .1)
+
+returns-3 : tie.Need-returns-3
+unfolding behindOf
+returns-3 c = search (tests, c .enum-told3 .given .1)
+
+returns-4 : tie.Need-returns-4
+unfolding behindOf
+returns-4 c = search (tests, c .enum-told4 .given .1)
+
+returns-5 : tie.Need-returns-5
+unfolding behindOf
+returns-5 c = search (tests, c .enum-told5 .given .1)
+
+pub behind-spec : {M : Type 1} → statement M
+behind-spec =
+    tie.close
+    (tie.spec
+    enum-told
+    enum-told-2
+    enum-told-3
+    enum-told-4
+    enum-told-5
+    returns
+    returns-2
+    returns-3
+    returns-4
+    returns-5)

@@ -1,0 +1,2 @@
+-- The words of the bench's answers.
+pub mod Terms

@@ -1,0 +1,244 @@
+// The words of the bench's answers, one for each case of what the libraries answer. Assumes nothing of its caller.
+// Headline: the word is the script's, and `complete` is said of a scan that is complete and of no other
+// (proofs/Said.antt).
+ghost use mathlib.Core.Path.{_≡_};
+ghost use Rattle.terms.specs.Terms.{nameOf, faultWord, outcomeWord, saidWord, replyWord, givenWord};
+ghost use Rattle.terms.specs.Terms.{handedWord, endWord, linkWord, pendingWord, driveWord, wordOf, behindOf};
+use antenna::Motion;
+use device::Said;
+use drives::Answer;
+use record::Link;
+use record::Pending;
+use refusal::Handed;
+use refusal::Outcome;
+use scan::State;
+use script::Fault;
+
+// A word, up to the first full stop.
+pub type Name = [u8; 14];
+
+// What a word is for: a line's fault; the answer of the row, of a report that is refused, of a command that hands out
+// octets; where a scan stands; three words of `show`; a scan by hand that is made anew.
+pub enum Term {
+    Fault(Fault),
+    Reply(Answer),
+    Outcome(Outcome),
+    Handed { command: usize, handed: Handed },
+    End(State),
+    Link(Link),
+    Pending(Pending),
+    Drive(Motion),
+    Begun,
+}
+
+const REFUSED: Name = *b"refused.......";
+
+const ERROR_LONG: Name = *b"error long....";
+
+const ERROR_COMMAND: Name = *b"error command.";
+
+const ERROR_WORDS: Name = *b"error words...";
+
+const ERROR_HEX: Name = *b"error hex.....";
+
+const ERROR_NUMBER: Name = *b"error number..";
+
+const ERROR_ROOM: Name = *b"error room....";
+
+const ERROR_DEVICE: Name = *b"error device..";
+
+const DONE: Name = *b"done..........";
+
+const SILENCE: Name = *b"silence.......";
+
+const ANSWER: Name = *b"answer........";
+
+const ERROR_FULL: Name = *b"error full....";
+
+const DEVICE: Name = *b"device........";
+
+const STATE: Name = *b"state.........";
+
+const PROBE: Name = *b"probe.........";
+
+const FRAME: Name = *b"frame.........";
+
+const LINE: Name = *b"line..........";
+
+const GOING: Name = *b"going.........";
+
+const COMPLETE: Name = *b"complete......";
+
+const DOUBTFUL: Name = *b"doubtful......";
+
+const LIMIT: Name = *b"limit.........";
+
+const FULL: Name = *b"full..........";
+
+const NONE: Name = *b"none..........";
+
+const ASSIGNED: Name = *b"assigned......";
+
+const CONNECTED: Name = *b"connected.....";
+
+const NOTHING: Name = *b"-.............";
+
+const BARE: Name = *b"..............";
+
+const INDICATION: Name = *b"i.............";
+
+const STILL: Name = *b"still.........";
+
+const MOVING: Name = *b"moving........";
+
+const STOPPED_OK: Name = *b"stopped:ok....";
+
+const STOPPED_JAM: Name = *b"stopped:jam...";
+
+const BEGUN: Name = *b"begun.........";
+
+fn fault_word(fault: Fault) -> Name
+    ensures { λ r. ⌜ r ≡ nameOf (faultWord fault) ⌝ }
+{
+    match fault {
+        Fault::Long => ERROR_LONG,
+        Fault::Command => ERROR_COMMAND,
+        Fault::Words => ERROR_WORDS,
+        Fault::Hex => ERROR_HEX,
+        Fault::Number => ERROR_NUMBER,
+        Fault::Room => ERROR_ROOM,
+        Fault::Device => ERROR_DEVICE,
+    }
+}
+
+fn outcome_word(outcome: Outcome) -> Name
+    ensures { λ r. ⌜ r ≡ nameOf (outcomeWord outcome) ⌝ }
+{
+    match outcome {
+        Outcome::Done => DONE,
+        Outcome::Refused(_) => REFUSED,
+    }
+}
+
+fn said_word(said: Said) -> Name
+    ensures { λ r. ⌜ r ≡ nameOf (saidWord said) ⌝ }
+{
+    match said {
+        Said::Silence => SILENCE,
+        Said::Frame(_) => ANSWER,
+        Said::Refused(_) => REFUSED,
+    }
+}
+
+fn reply_word(answer: Answer) -> Name
+    ensures { λ r. ⌜ r ≡ nameOf (replyWord answer) ⌝ }
+{
+    match answer {
+        Answer::NoCommand => ERROR_COMMAND,
+        Answer::NoDevice => ERROR_DEVICE,
+        Answer::Full => ERROR_FULL,
+        Answer::Device(_) => DEVICE,
+        Answer::Outcome(outcome) => outcome_word(outcome),
+        Answer::Said(said) => said_word(said),
+        Answer::State(_) => STATE,
+    }
+}
+
+// The commands by their places among the names: 9 probe, 11 decode, else write.
+fn given_word(command: usize) -> Name
+    ensures { λ r. ⌜ r ≡ nameOf (givenWord command) ⌝ }
+{
+    if command == 9 {
+        return PROBE;
+    }
+    if command == 11 {
+        return FRAME;
+    }
+    LINE
+}
+
+fn handed_word(command: usize, handed: Handed) -> Name
+    ensures { λ r. ⌜ r ≡ nameOf (handedWord command handed) ⌝ }
+{
+    match handed {
+        Handed::Octets(_) => given_word(command),
+        Handed::Refused(_) => REFUSED,
+    }
+}
+
+fn end_word(state: State) -> Name
+    ensures { λ r. ⌜ r ≡ nameOf (endWord state) ⌝ }
+{
+    match state {
+        State::Asking { quiet: _, doubt: _ } => GOING,
+        State::Complete => COMPLETE,
+        State::Doubtful => DOUBTFUL,
+        State::Limit => LIMIT,
+        State::Full => FULL,
+    }
+}
+
+fn link_word(link: Link) -> Name
+    ensures { λ r. ⌜ r ≡ nameOf (linkWord link) ⌝ }
+{
+    match link {
+        Link::NoAddress => NONE,
+        Link::AddressAssigned => ASSIGNED,
+        Link::Connected(_) => CONNECTED,
+    }
+}
+
+fn pending_word(pending: Pending) -> Name
+    ensures { λ r. ⌜ r ≡ nameOf (pendingWord pending) ⌝ }
+{
+    match pending {
+        Pending::Nothing => NOTHING,
+        Pending::Answer => BARE,
+        Pending::Indication => INDICATION,
+    }
+}
+
+fn drive_word(motion: Motion) -> Name
+    ensures { λ r. ⌜ r ≡ nameOf (driveWord motion) ⌝ }
+{
+    match motion {
+        Motion::Still => STILL,
+        Motion::Moving => MOVING,
+        Motion::Owing { asked: _ } => MOVING,
+        Motion::Stopped { reached } => {
+            if reached {
+                return STOPPED_OK;
+            }
+            STOPPED_JAM
+        }
+    }
+}
+
+pub fn word(term: Term) -> Name
+    ensures { λ r. ⌜ r ≡ nameOf (wordOf term) ⌝ }
+{
+    match term {
+        Term::Fault(fault) => fault_word(fault),
+        Term::Reply(answer) => reply_word(answer),
+        Term::Outcome(outcome) => outcome_word(outcome),
+        Term::Handed { command, handed } => handed_word(command, handed),
+        Term::End(state) => end_word(state),
+        Term::Link(link) => link_word(link),
+        Term::Pending(pending) => pending_word(pending),
+        Term::Drive(motion) => drive_word(motion),
+        Term::Begun => BEGUN,
+    }
+}
+
+// How many words stand behind a scan's count: none, the list, or the list and what is named.
+pub fn behind(state: State) -> usize
+    ensures { λ r. ⌜ r ≡ behindOf state ⌝ }
+{
+    match state {
+        State::Asking { quiet: _, doubt: _ } => 0,
+        State::Complete => 1,
+        State::Doubtful => 1,
+        State::Limit => 2,
+        State::Full => 2,
+    }
+}
