@@ -1,11 +1,5 @@
 -- Each promise of this crate allows one result. Assumes nothing.
-use mathlib.Core.Path.{_≡_}
-use mathlib.Core.List.{List}
-use Prim.Native.Nat.{ℕ}
 use Rattle.octets.proofs.Only.{only, AsksNothing, Settles}
-use Rattle.scan.specs.declared.State.{State}
-use Rattle.terms.specs.declared.Term.{Term}
-use Rattle.terms.specs.Terms.{nameOf, wordOf, behindOf}
 use Rattle.terms.proofs.word.Reads as word-reads
 use Rattle.terms.proofs.behind.Reads as behind-reads
 
