@@ -1,20 +1,18 @@
 -- Which events can be, in the words of refusal 8. Assumes nothing.
 use mathlib.Core.Path.{_≡_, refl, sym}
-use mathlib.Core.Bool.{Bool, true, false, cond}
-use mathlib.Core.List.{List, [], _∷_}
+use mathlib.Core.Bool.{Bool, true}
+use mathlib.Core.List.{[], _∷_}
 use mathlib.Core.Logic.{_↔_, Iff·trans, inl, inr, ⊎-elim}
 use Prim.Native.Nat.{ℕ}
-use borrow.Author.Tests.{eqb-true, eqb-false}
-use lib.Dec.{eqb}
 use lib.Signed.{_≤ℤ_}
-use Rattle.octets.specs.Octets.{holds}
-use Rattle.octets.proofs.Words.{true-not-false}
+use Rattle.octets.specs.Octets.{OneOf}
+use Rattle.octets.proofs.Words.{true-not-false, holds-exactly}
 use Rattle.antenna.specs.declared.Angle.{Angle}
 use Rattle.antenna.specs.declared.Antenna.{Antenna}
 use Rattle.antenna.specs.declared.Motion.{Motion}
 use Rattle.antenna.specs.declared.Motion.the-variants.{Still, Moving, Owing, Stopped}
 use Rattle.antenna.specs.Motions.{inRange, runs}
-use Rattle.antenna.specs.Events.{Runs, canStop, isAlarm, OneOf}
+use Rattle.antenna.specs.Events.{Runs, canStop, isAlarm}
 use Rattle.antenna.proofs.Angles.{both-exactly, range-exactly}
 
 still-moving : Still ≡ Moving → ⊥
@@ -53,16 +51,6 @@ stop-exactly n t =
       λ w. let r = range .0 (w .1) in (run .0 (w .0), r .0, r .1),
       λ w. (run .1 (w .0), range .1 (w .1, w .2)),
     )
-
-holds-exactly : (k : ℕ) (cs : List ℕ) → holds k cs ≡ true ↔ OneOf k cs
-unfolding holds
-holds-exactly k [] = (λ e. true-not-false (sym e), λ w. absurd w)
-holds-exactly k (c ∷ cs) = go (eqb c k) refl (holds-exactly k cs)
-  where
-    go : (t : Bool) → eqb c k ≡ t → (holds k cs ≡ true ↔ OneOf k cs)
-        → cond t true (holds k cs) ≡ true ↔ OneOf k (c ∷ cs)
-    go true e less = (λ h. inl (sym (eqb-true c k e)), λ w. refl)
-    go false e less = (λ h. inr (less .0 h), ⊎-elim (λ q. absurd (eqb-false c k e (sym q))) (less .1))
 
 -- "an alarm not among 0x02, 0x03, 0x0E, 0x0F, 0x11, 0x27"
 pub alarm-exactly : (k : ℕ) → isAlarm k ≡ true ↔ OneOf k (0x02 ∷ 0x03 ∷ 0x0E ∷ 0x0F ∷ 0x11 ∷ 0x27 ∷ [])

@@ -1,13 +1,13 @@
 -- What happens to a drive: the motor stops, an alarm rises or falls.
 --   restedOf m t     == the motion after a stop at t
 --   canStop n t      == the motor can stop at t; at n t == the antenna then
---   Runs m           == a movement runs, owed or not; OneOf k ks == k is one of ks: the words of the laws on the tests
+--   Runs m           == a movement runs, owed or not
 --   isAlarm k        == k is the code of an alarm; withAlarm n k on == the antenna with that alarm raised or cleared
 --   stoppedAt n t    == the event "stopped at t"
 --   alarmedOf n k on == the event "alarm k raised" (on) or "cleared"
 -- Assumes nothing.
 use mathlib.Core.Bool.{Bool, not, _&&_}
-use mathlib.Core.List.{List, [], _∷_}
+use mathlib.Core.List.{[], _∷_}
 use mathlib.Core.Logic.{_⊎_}
 use mathlib.Core.Path.{_≡_}
 use Prim.Native.Nat.{ℕ}
@@ -59,10 +59,6 @@ withAlarm n k on =
 -- "an alarm not among .."
 unfoldable pub isAlarm : ℕ → Bool
 isAlarm k = holds k alarmCodes
-
-abbrev pub OneOf : ℕ → List ℕ → Type 0
-OneOf k [] = ⊥
-OneOf k (c ∷ cs) = (k ≡ c) ⊎ OneOf k cs
 
 unfoldable pub alarmedOf : Antenna → ℕ → Bool → Answer Antenna
 alarmedOf n k on = answered (8 when not (isAlarm k) ∷ []) (withAlarm n k on)

@@ -1,17 +1,18 @@
 -- A line that a loop goes through by an index i: what is left to decode at i, against what is left at i + 1; and a
 -- broken line, by its two parts. Assumes nothing.
 use mathlib.Core.Path.{_≡_, refl, sym, ap, _∙_}
-use mathlib.Core.Bool.{Bool, true, false, cond, _||_}
+use mathlib.Core.Bool.{Bool, true, false, cond, _||_, or-true}
 use mathlib.Core.List.{List, [], _∷_}
-use Prim.Native.Nat.{ℕ, suc, _+_, _-_, _*_, _<_, _≤_}
+use mathlib.Core.Logic.{_↔_, _⊎_, inl, inr, ⊎-elim}
+use Prim.Native.Nat.{ℕ, zero, suc, _+_, _-_, _*_, _<_, _≤_}
 use native.Mathlib.Omega.{arith}
-use borrow.Author.Tests.{eq-eqb, ne-eqb, ltb-true, ltb-false}
+use borrow.Author.Tests.{eqb-true, eq-eqb, ne-eqb, ltb-true, ltb-false}
 use lib.Bits.{bitXor}
 use lib.Dec.{eqb, ltb}
 use lib.ListN.{length, getD, drop, drop-of-length-le}
-use Rattle.octets.specs.Octets.{holds, lastOf}
+use Rattle.octets.specs.Octets.{holds, OneOf, lastOf}
 use Rattle.octets.proofs.Rest.{rest}
-use Rattle.octets.proofs.Words.{true-not-false, holds-here, holds-more, holds-done, last-at}
+use Rattle.octets.proofs.Words.{true-not-false, holds-here, holds-more, holds-done, holds-exactly, last-at, last-empty}
 use Rattle.frame.specs.Line.{flag, escape, broken, plainAfter, plain}
 
 module _ (s : List ℕ) (i : ℕ) where
@@ -78,6 +79,10 @@ module _ (s : List ℕ) (i : ℕ) {w : Bool} where
   flag-done true v h = v
   flag-done false v h = holds-done flag s i v h
 
+either : (a b : Bool) → (a || b) ≡ true → (a ≡ true) ⊎ (b ≡ true)
+either true b e = inl refl
+either false b e = inr e
+
 or-parts : (a b : Bool) → (a || b) ≡ false → (a ≡ false) × (b ≡ false)
 or-parts true b e = absurd (true-not-false e)
 or-parts false b e = (refl, e)
@@ -90,3 +95,22 @@ module _ (s : List ℕ) where
   pub unbroken-parts : broken s ≡ false → (holds flag s ≡ false) × (eqb (lastOf 0 s) escape ≡ false)
   unfolding broken
   unbroken-parts e = or-parts (holds flag s) (eqb (lastOf 0 s) escape) e
+
+  -- "0x7E inside, or 0x7D as the last octet", in words
+  pub broken-exactly : broken s ≡ true ↔ OneOf 0x7E s ⊎ ((0 < length s) × (getD s (length s - 1) 0 ≡ 0x7D))
+  unfolding broken
+  broken-exactly = (
+    λ e. ⊎-elim (λ h. inl (holds-exactly flag s .0 h)) (λ h. inr (ended (eqb-true (lastOf 0 s) escape h)))
+        (either (holds flag s) (eqb (lastOf 0 s) escape) e),
+    ⊎-elim (λ w. rw (holds-exactly flag s .1 w))
+        (λ w. rw (last-at 0 s 0 (w .0) ∙ w .1) (or-true (holds flag s))),
+  )
+    where
+      ended : lastOf 0 s ≡ escape → (0 < length s) × (getD s (length s - 1) 0 ≡ escape)
+      ended e = go (length s) refl
+        where
+          go : (n : ℕ) → length s ≡ n → (0 < length s) × (getD s (length s - 1) 0 ≡ escape)
+          go zero n =
+              let none : 0 ≡ escape = sym (last-empty 0 s n) ∙ e in absurd (omega arith)
+          go (suc k) n =
+              let some : 0 < length s = omega (arith, n) in (some, sym (last-at 0 s 0 some) ∙ e)

@@ -10,3 +10,4 @@ pub mod Shapes
 pub mod Stays
 pub mod Tables
 pub mod Tells
+pub mod Words

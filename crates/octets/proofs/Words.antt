@@ -2,13 +2,14 @@
 use mathlib.Core.Path.{_≡_, refl, sym, _∙_}
 use mathlib.Core.Bool.{Bool, true, false, cond}
 use mathlib.Core.List.{List, [], _∷_}
+use mathlib.Core.Logic.{_↔_, inl, inr, ⊎-elim}
 use Prim.Native.Nat.{ℕ, zero, suc, _+_, _-_, _<_, _≤_}
 use native.Mathlib.Nat.{add-zero, le-of-suc-le-suc, not-suc-le-zero}
 use native.Mathlib.Omega.{arith}
-use borrow.Author.Tests.{eq-eqb, ne-eqb, lt-ltb}
+use borrow.Author.Tests.{eqb-true, eqb-false, eq-eqb, ne-eqb, lt-ltb}
 use lib.Dec.{eqb, ltb, leb·suc-suc}
 use lib.ListN.{length, getD, drop, drop-of-length-le}
-use Rattle.octets.specs.Octets.{holds, placeOf, lastOf}
+use Rattle.octets.specs.Octets.{holds, OneOf, placeOf, lastOf}
 use Rattle.octets.proofs.Rest.{rest}
 
 pub true-not-false : true ≡ false → ⊥
@@ -35,6 +36,17 @@ module _ (x y : ℕ) (ys : List ℕ) (h : holds x (y ∷ ys) ≡ false) where
   pub holds-tail : holds x ys ≡ false
   unfolding holds
   holds-tail = rw (ne-eqb y x holds-head) at h
+
+-- the test, in words
+pub holds-exactly : (k : ℕ) (cs : List ℕ) → holds k cs ≡ true ↔ OneOf k cs
+unfolding holds
+holds-exactly k [] = (λ e. absurd (true-not-false (sym e)), λ w. absurd w)
+holds-exactly k (c ∷ cs) = go (eqb c k) refl (holds-exactly k cs)
+  where
+    go : (t : Bool) → eqb c k ≡ t → (holds k cs ≡ true ↔ OneOf k cs)
+        → cond t true (holds k cs) ≡ true ↔ OneOf k (c ∷ cs)
+    go true e less = (λ h. inl (sym (eqb-true c k e)), λ w. refl)
+    go false e less = (λ h. inr (less .0 h), ⊎-elim (λ q. absurd (eqb-false c k e (sym q))) (less .1))
 
 pub holds-not : (x y : ℕ) (ys : List ℕ) → (y ≡ x → ⊥) → holds x ys ≡ false → holds x (y ∷ ys) ≡ false
 unfolding holds

@@ -1,13 +1,15 @@
 -- Lists of octets: the words that every layer above uses of them.
 --   Octets s         == each number of s is an octet
---   holds x s        == x stands somewhere in s
+--   holds x s        == x stands somewhere in s; OneOf x s == the same, in the words of the laws on such tests
 --   placeOf x s      == the place of the first x in s, counted from 0; the length of s where there is none
 --   lastOf d s       == the last of s, or d where s is empty
 --   lowOf n, highOf n == the two octets of a number of 16 bits; pairOf l h == the number they stand for
 --   b atStartOf o    == the octets b stand at the start of the lent output o, the rest unchanged
 -- Stored from an index on, as far as the list goes: `set` and `sets` of the library. Assumes nothing.
+use mathlib.Core.Path.{_≡_}
 use mathlib.Core.Bool.{Bool, true, false, cond}
 use mathlib.Core.List.{List, [], _∷_, _++_}
+use mathlib.Core.Logic.{_⊎_}
 use Prim.Native.Nat.{ℕ, suc, _+_, _*_, _/_, _%_, _<_}
 use lib.Dec.{eqb}
 use lib.ListN.{length, drop}
@@ -20,6 +22,10 @@ Octets (x ∷ xs) = (x < 256) × Octets xs
 unfoldable pub holds : ℕ → List ℕ → Bool
 holds x [] = false
 holds x (y ∷ ys) = cond (eqb y x) true (holds x ys)
+
+abbrev pub OneOf : ℕ → List ℕ → Type 0
+OneOf x [] = ⊥
+OneOf x (y ∷ ys) = (x ≡ y) ⊎ OneOf x ys
 
 unfoldable pub placeOf : ℕ → List ℕ → ℕ
 placeOf x [] = 0

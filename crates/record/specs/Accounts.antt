@@ -15,7 +15,8 @@ use Rattle.antenna.specs.declared.Angle.{Angle}
 use Rattle.antenna.specs.declared.Motion.the-variants.{Still, Moving, Owing}
 use Rattle.antenna.specs.declared.Motion.the-variants as motion
 use Rattle.antenna.specs.Alarms.{codesOf}
-use Rattle.antenna.specs.Events.{Runs, OneOf}
+use Rattle.octets.specs.Octets.{OneOf}
+use Rattle.antenna.specs.Events.{Runs}
 use Rattle.record.specs.Allowed.{identityOf, productOf, hardwareOf, softwareOf}
 use Rattle.record.specs.Fresh.{calm, noReply}
 use Rattle.record.specs.declared.Span.{Span}

@@ -13,7 +13,8 @@ use lib.Signed.{_≤ℤ_}
 use Rattle.refusal.specs.Answer.{Answer, Row, _when_, answered}
 use Rattle.antenna.specs.declared.Antenna.{Antenna}
 use Rattle.antenna.specs.Motions.{unowedOf, moves}
-use Rattle.antenna.specs.Events.{Runs, canStop, at, isAlarm, OneOf, withAlarm}
+use Rattle.octets.specs.Octets.{OneOf}
+use Rattle.antenna.specs.Events.{Runs, canStop, at, isAlarm, withAlarm}
 use Rattle.record.specs.Allowed.{allowedDevice}
 use Rattle.record.specs.Fresh.{calm, noReply}
 use Rattle.record.specs.declared.Link.{Link}
