@@ -52,7 +52,8 @@ pub use Rattle.bus.proofs.Examples.{condition-needed, longer-later}
 pub use Rattle.demands.proofs.One.{hear-defined, judge-defined}
 pub use Rattle.demands.proofs.Two.{written-reads-back, written-heard, tilt-exactly, tilt-number, tilt-once}
 pub use Rattle.demands.proofs.Two.{snrm-heard, never-unallowed}
-pub use Rattle.demands.proofs.Three.{complete-exactly, complete-count, complete-lists, never-more, probes-sent}
+pub use Rattle.demands.proofs.Three.{complete-exactly, says-complete, complete-count, complete-lists, never-more}
+pub use Rattle.demands.proofs.Three.{probes-sent}
 pub use Rattle.demands.proofs.Cable.{heard-when, whole-row, installer}
 pub use Rattle.demands.proofs.Cases.{starred-hold}
 -- ---- and of a scan of a row of devices, in code
@@ -60,3 +61,5 @@ pub use Rattle.mast.proofs.Demand.{sweep-unchanged, sweep-row, sweep-any, sweep
 -- ---- commands to such a row: one result, and a "no" changes nothing
 pub use Rattle.drives.proofs.Only.{obey-only}
 pub use Rattle.drives.proofs.Keeps.{no-keeps}
+-- ---- the bench's words: what is written is the word, and "complete" is said of a complete scan alone
+pub use Rattle.terms.proofs.Said.{word-said, complete-said}

@@ -9,7 +9,7 @@
 use mathlib.Core.Path.{_≡_}
 use mathlib.Core.Bool.{Bool, true, false}
 use mathlib.Core.List.{List, [], map, List·Memᴰ}
-use mathlib.Core.Logic.{_↔_}
+use mathlib.Core.Logic.{_↔_, Iff·trans}
 use Prim.Native.Nat.{ℕ, _+_, _*_, _-_, _<_, _≤_}
 use lib.ListN.{length, getD}
 use Rattle.refusal.specs.Answer.{handedOut}
@@ -24,6 +24,9 @@ use Rattle.scan.specs.Scan.{fresh, driven, probeOf, probed, over, ended, report
 use Rattle.whole_scan.specs.Demand.{OctetBus, Demand3, Demand3Identities, AnyScans}
 use Rattle.scan.specs.declared.Scan.{Scan}
 use Rattle.scan.specs.declared.State.the-variants.{Complete}
+use Rattle.script.specs.Words.{spelled}
+use Rattle.terms.specs.Terms.{endWord}
+use Rattle.terms.proofs.Said.{complete-said}
 use Rattle.whole_scan.proofs.AnyScans.{any-scans}
 use Rattle.whole_scan.proofs.Demand.{demand3-octets, demand3-identities}
 use Rattle.whole_scan.proofs.Run.{run-ends}
@@ -48,6 +51,11 @@ module _ (limit : ℕ) (ids : List (List ℕ)) (heard : Bits → Bool) (b : Octe
     complete-exactly =
         let (all, listed, w) = demand3-octets limit ids heard b in
         rw (← shorter-number depth (map bitsOf ids) listed shorter (w .counted) counted) (w .completes)
+
+    -- and "says" by the word itself, of those that the bench has for where a scan stands
+    pub says-complete : endWord (last .state) ≡ spelled "complete"
+        ↔ (length ids ≤ 32) × (1 + 2 * length shorter ≤ limit)
+    says-complete = Iff·trans (complete-said (last .state)) complete-exactly
 
     -- "with exactly that many probes"
     pub complete-count : last .state ≡ Complete → last .count ≡ 1 + 2 * length shorter
