@@ -1,7 +1,8 @@
 -- What the bench's functions come to, each by what the libraries promise. Assumes nothing.
 use mathlib.Core.Path.{_≡_, refl, sym, ap, ap₂, _∙_}
 use mathlib.Core.Bool.{Bool, true, false, not, false≢true}
-use mathlib.Core.List.{List, []}
+use mathlib.Core.List.{List, [], _∷_}
+use mathlib.Core.Logic.{inl, inr}
 use Prim.Native.Nat.{ℕ, suc, _+_, _-_, _*_, _/_, _%_, _≤_, _<_, min}
 use native.Mathlib.Omega.{arith}
 use lib.Dec.{ltb, eqb}
@@ -30,7 +31,7 @@ use Rattle.drives.specs.Drives.{After, Obeys, obeyed}
 use Rattle.mast.specs.Mast.{swept}
 use Rattle.bench.specs.Bench.{hexIn, valueIn, lentOf, driven, rowAfter, scanAfter, handsOut}
 use Rattle.bench.specs.Written.{digitOf, hexed}
-use Rattle.bench.specs.Input.{restOf, takenTo, taken, withoutReturn}
+use Rattle.bench.specs.Input.{restOf, takenTo, taken, refilled, anew, Run, afterRuns, Comes, withoutReturn}
 use Rattle.bench.specs.declared.input.Input.{Input}
 
 -- ---- HEX
@@ -89,6 +90,25 @@ pub taken-is : (i : Input) {rest line : List ℕ} {n at from len : ℕ} → rest
     → record { whole = ltb n (length rest); run = i .run; from = from; end = i .end; line = line; len = len } ≡ taken i
 unfolding taken takenTo
 taken-is i e f g h k l = rw (k, h, l, g, f, e)
+
+-- so far: the runs that were read, and where they led
+abbrev pub Reads : Input → Input → Type 0
+Reads i next = (runs : List Run) × (next ≡ afterRuns i runs)
+
+module _ (i : Input) {next t r : Input} (reads : Reads i next) (e : t ≡ taken next) where
+  pub run-more : r ≡ refilled t (r .run) (r .end) → Reads i r
+  unfolding afterRuns
+  run-more f = (
+    record { octets = r .run; count = r .end } ∷ reads .0,
+    f ∙ ap (λ (x : Input). refilled x (r .run) (r .end)) (e ∙ ap taken (reads .1)),
+  )
+
+module _ (i : Input) {next : Input} (reads : Reads (anew i) next) where
+  pub comes-ended : Comes i next
+  comes-ended = record { runs = reads .0; came = inr (reads .1) }
+
+  pub comes-whole : {t : Input} → t ≡ taken next → t .whole ≡ true → Comes i t
+  comes-whole e w = record { runs = reads .0; came = inl (w, e ∙ ap taken (reads .1)) }
 
 -- ---- what is handed out
 

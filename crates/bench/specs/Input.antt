@@ -3,10 +3,15 @@
 --   restOf i             == the octets of the run that are still to be read
 --   taken i              == what the run has of a line has gone behind what has come
 --   refilled i run end   == another run, of which so many octets are there
+--   anew i               == nothing of the next line has come
+--   afterRuns i runs     == i after the runs, the last of them first: each was read once the one before it was taken
+--   Comes i r            == r has the next line of i, out of the runs that were read for it; or they ended
 --   withoutReturn whole s == the line s without the 0x0D before its end, of a line that had a 0x0A
 -- Assumes nothing.
-use mathlib.Core.Bool.{Bool, false, cond, _&&_}
-use mathlib.Core.List.{List}
+use mathlib.Core.Path.{_≡_}
+use mathlib.Core.Bool.{Bool, true, false, cond, _&&_}
+use mathlib.Core.List.{List, [], _∷_}
+use mathlib.Core.Logic.{_⊎_}
 use Prim.Native.Nat.{ℕ, _+_, _-_, min}
 use lib.Dec.{ltb, eqb}
 use lib.ListN.{length, take, drop, replicate}
@@ -53,6 +58,22 @@ taken i = takenTo i (placeOf 0x0A (restOf i))
 unfoldable pub refilled : Input → List ℕ → ℕ → Input
 refilled i run end =
     record { whole = i .whole; run = run; from = 0; end = end; line = i .line; len = i .len }
+
+unfoldable pub anew : Input → Input
+anew i = record { whole = i .whole; run = i .run; from = i .from; end = i .end; line = i .line; len = 0 }
+
+pub record Run : Type 0 where
+  pub octets : List ℕ
+  pub count : ℕ
+
+unfoldable pub afterRuns : Input → List Run → Input
+afterRuns i [] = i
+afterRuns i (x ∷ earlier) = refilled (taken (afterRuns i earlier)) (x .octets) (x .count)
+
+-- "Octets after the last 0x0A are a line of their own."
+pub record Comes (i r : Input) : Type 0 where
+  pub runs : List Run
+  pub came : ((r .whole ≡ true) × (r ≡ taken (afterRuns (anew i) runs))) ⊎ (r ≡ afterRuns (anew i) runs)
 
 -- "a 0x0D before it is dropped"; "Only one 0x0D is dropped."
 unfoldable pub withoutReturn : Bool → List ℕ → List ℕ

@@ -1,6 +1,8 @@
 // The workshop's bench: a codec, up to 32 tilt drives and a scanner, played from a script. Each line of standard input is
 // read, and its command carried out; the answer goes to standard output word by word. What a line means and what the
-// commands do is the libraries'; here are the row of devices and the scan by hand that the bench holds.
+// commands do is the libraries', and so is each word of an answer (`terms`); here are the row of devices and the scan by
+// hand that the bench holds. A function that hands back a value promises which (specs/); one that only prints is proved
+// safe and ending, since no promise can speak of what standard output gets.
 mod answers;
 mod handed;
 mod input;

@@ -29,6 +29,8 @@ pub use Rattle.xid.proofs.Probe.{probe-scan, probe-read}
 pub use Rattle.message.proofs.Exact.{given-24, given-25, given-19, given-05, given-13, given-none}
 pub use Rattle.message.proofs.Moves.{moves-exactly, clear-clears, subscribe-subscribes}
 pub use Rattle.message.proofs.Fails.{fails-exactly}
+pub use Rattle.message.proofs.Words.{declared-exactly, barred-exactly, known-exactly, fits-set, fits-other}
+pub use Rattle.message.proofs.Words.{busied-exactly, outside-exactly}
 pub use Rattle.message.proofs.Tells.{status-tells, codes-are, information-tells, tilt-tells, tilt-busy}
 pub use Rattle.payload.proofs.Laws.{success-is, failure-is}
 -- ---- the tests that promises cite, in 01's words, both ways: records, data and events; numbers; silence; what there is to tell
@@ -74,12 +76,14 @@ pub use Rattle.bus.proofs.Examples.{condition-needed, longer-later}
 -- ---- the demands
 pub use Rattle.demands.proofs.One.{hear-defined, judge-defined, decode-answers, write-answers, hand-out-answers}
 pub use Rattle.demands.proofs.One.{c-decode-answers, c-write-answers, probe-answers, report-answers, fresh-answers}
-pub use Rattle.demands.proofs.One.{happen-answers, stopped-answers, alarmed-answers, obey-keeps}
+pub use Rattle.demands.proofs.One.{happen-answers, stopped-answers, alarmed-answers, aim-answers}
+pub use Rattle.demands.proofs.One.{obey-answers, obey-keeps, broken-words}
 pub use Rattle.demands.proofs.Two.{written-reads-back, written-heard, tilt-exactly, tilt-owed, tilt-number, tilt-once}
-pub use Rattle.demands.proofs.Two.{not-accepted, some-case, each-case, judge-case, changes, silent-same}
+pub use Rattle.demands.proofs.Two.{not-accepted, some-case, each-case, each-octet, judge-case}
+pub use Rattle.demands.proofs.Two.{changes, silent-same}
 pub use Rattle.demands.proofs.Two.{snrm-heard, never-unallowed}
 pub use Rattle.demands.proofs.Runs.{runs-exactly, runs-by-exactly, run-ended, runs-end, probe-gives}
-pub use Rattle.demands.proofs.Three.{complete-exactly, complete-count, complete-lists, never-more, probes-sent}
+pub use Rattle.demands.proofs.Three.{complete-exactly, says-complete, complete-count, complete-lists, never-more, probes-sent}
 pub use Rattle.demands.proofs.Three.{complete-probes, count-probes, count-stays, probes-asked, probes-refused}
 pub use Rattle.demands.proofs.Three.{limit-exactly, limit-count, limit-names, limit-list}
 pub use Rattle.demands.proofs.Three.{full-exactly, full-count, full-names, full-list}

@@ -3,18 +3,20 @@
 -- buffers."
 -- Of every public function that can refuse, what a caller learns of its promise, as the source states it (`Learnt`, with the
 -- arguments a, the result r and the exits s in the order of the parameters), is what this page says of it: for any
--- octets, any record of a device and of a scan, any lent buffer. That nothing is asked of the caller stands beside it.
+-- octets, any record of a device and of a scan, any lent buffer. That nothing is asked of the caller (`AsksNothing`) is a
+-- lemma of every public function, FUNCTION-asks of crates/NAME/proofs/Only.antt; those of this page's functions are below.
 -- Proved by citation. Assumes nothing.
 use mathlib.Core.Path.{_≡_, refl, sym, ap, _∙_}
 use mathlib.Core.Bool.{Bool, true, false}
-use mathlib.Core.List.{List, [], _∷_}
+use mathlib.Core.List.{List, _∷_}
 use mathlib.Core.Logic.{_↔_, Iff·trans, _⊎_}
 use mathlib.Core.Option.{none, some}
-use Prim.Native.Nat.{ℕ, _<_, _≤_}
+use Prim.Native.Nat.{ℕ, _-_, _<_, _≤_}
 use native.Mathlib.Omega.{arith}
 use lib.ListN.{length, getD}
-use Rattle.octets.specs.Octets.{holds, _atStartOf_}
-use Rattle.refusal.specs.Answer.{Answer, gives, refuses, handedOut, answerOf, counted, outAfter, Hands, Changes}
+use Rattle.octets.specs.Octets.{OneOf, _atStartOf_}
+use Rattle.refusal.specs.Answer.{Answer, gives, refuses, handedOut, answerOf, counted, outAfter, Hands}
+use Rattle.refusal.specs.Answer.{settled, stateAfter, Changes}
 use Rattle.refusal.specs.Numbers.{numberOf}
 use Rattle.refusal.specs.declared.Refusal.{Refusal}
 use Rattle.refusal.specs.declared.Handed.{Handed}
@@ -36,13 +38,18 @@ use Rattle.alarms.proofs.alarmed.Reads as alarmed-reads
 use Rattle.device.proofs.judge.Reads as judge-reads
 use Rattle.device.proofs.hear.Reads as hear-reads
 use Rattle.drives.proofs.obey.Reads as obey-reads
-use Rattle.drives.specs.Drives.{After, replyOf}
+use Rattle.drives.specs.Drives.{After, obeyed, replyOf}
 use Rattle.drives.proofs.Keeps.{isNo, no-keeps}
 use Rattle.antenna.specs.Events.{stoppedAt, alarmedOf}
+use Rattle.antenna.specs.Motions.{aimedAt, aimNumber, Aims}
+use Rattle.antenna.specs.declared.Antenna.{Antenna}
+use Rattle.antenna.specs.declared.Aimed.{Aimed}
+use Rattle.aim.proofs.aim_at.Reads as aim-reads
 use Rattle.frame.specs.Line.{broken, plain}
 use Rattle.frame.specs.Decode.{body, rightCheck, decoded}
 use Rattle.frame.specs.Write.{lineOf, written}
-use Rattle.frame.proofs.Exact.{Sized, decode-4, decode-1, decode-2, decode-3, decode-5, decode-all}
+use Rattle.frame.proofs.Lines.{broken-exactly}
+use Rattle.frame.proofs.Exact.{Sized, decode-4, decode-1, decode-2, decode-3, decode-5}
 use Rattle.frame.proofs.Exact.{write-9, write-5}
 use Rattle.scan.specs.Scan.{over, probed, reported}
 use Rattle.scan.specs.declared.Scan.{Scan}
@@ -51,10 +58,10 @@ use Rattle.record.specs.declared.Device.{Device}
 use Rattle.record.specs.declared.Event.{Event}
 use Rattle.record.specs.declared.Span.{Span}
 use Rattle.record.specs.Allowed.{allowedDevice, AllowedRecord}
-use Rattle.record.specs.Fresh.{freshOf, dataAllowed, antennaFrom, blankDevice}
-use Rattle.record.specs.Changes.{canBe, happened}
+use Rattle.record.specs.Fresh.{freshOf, dataAllowed, AllowedData, antennaFrom, blankDevice}
+use Rattle.record.specs.Changes.{canBe, CanHappen, happened}
 use Rattle.record.proofs.Only.{fresh-6, happen-6, happen-8}
-use Rattle.record.proofs.Exactly.{allowed-exactly}
+use Rattle.record.proofs.Exactly.{allowed-exactly, data-exactly, can-exactly}
 use Rattle.station.specs.declared.Say.{Say}
 use Rattle.link.specs.Link.{judgedFrame}
 use Rattle.conduct.proofs.Comes.{silence-keeps}
@@ -216,7 +223,28 @@ pub alarmed-answers : (κs : _) (a : _) (r : _) (s : _) → alarmed-reads.Learnt
     → Changes-to (alarmedOf (a .0) (a .1 .0) (a .1 .1 .0)) (a .0) (r .outcome) (r .antenna)
 alarmed-answers κs a r s = changes-to _ (r .outcome)
 
--- a command to a row of devices: a "no" leaves the row and every lent octet as they were
+-- a tilt asked of a drive: a movement; or its return code, and the antenna as it was
+pub data Aims-at (x : Answer Antenna) (n : Antenna) (r : Aimed) : Type 0 where
+  started : x ≡ gives (r .antenna) → aimNumber (r .aim) ≡ gives tt → Aims-at x n r
+  failure : (k : ℕ) → x ≡ refuses k → aimNumber (r .aim) ≡ refuses k → r .antenna ≡ n → Aims-at x n r
+
+aims-at : (x : Answer Antenna) (n : Antenna) (r : Aimed) → Aims x n r → Aims-at x n r
+unfolding settled stateAfter
+aims-at (gives m) n r w = started (ap gives (sym (w .antenna))) (w .aim)
+aims-at (refuses k) n r w = failure k refl (w .aim) (w .antenna)
+
+pub aim-answers : (κs : _) (a : _) (r : _) (s : _) → aim-reads.Learnt κs a r s
+    → Aims-at (aimedAt (a .0) (a .1 .0)) (a .0) r
+aim-answers κs a r s = aims-at _ (a .0) r
+
+-- a command to a row of devices: the row, the answer in the script's words and every lent octet are the definition's
+pub obey-answers : (κs : _) (a : _) (r : _) (s : _) → obey-reads.Learnt κs a r s
+    → let x = obeyed (a .1 .0) (a .0) (a .1 .1 .0) (now (a .1 .1 .1 .0)) (now (a .1 .1 .1 .1 .0)) in
+    (r .row ≡ x .after .row) × (replyOf (r .answer) ≡ x .after .reply) × (now (s .1 .1 .1 .1 .0) ≡ x .lent)
+obey-answers κs a r s w =
+    (ap (λ (x : After). x .row) (w .after), ap (λ (x : After). x .reply) (w .after), w .lent)
+
+-- and a "no", `error` and a word or `refused N`, leaves the row and every lent octet as they were
 pub obey-keeps : (κs : _) (a : _) (r : _) (s : _) → obey-reads.Learnt κs a r s → isNo (replyOf (r .answer)) ≡ true
     → (r .row ≡ a .0) × (now (s .1 .1 .1 .1 .0) ≡ now (a .1 .1 .1 .1 .0))
 obey-keeps κs a r s w said =
@@ -224,6 +252,22 @@ obey-keeps κs a r s w said =
     no-keeps (a .0) (now (a .1 .1 .1 .1 .0)) (a .1 .0) (a .1 .1 .0) (now (a .1 .1 .1 .0))
     (sym (ap (λ (x : After). isNo (x .reply)) (w .after)) ∙ said) in
     (ap (λ (x : After). x .row) (w .after) ∙ kept .0, w .lent ∙ kept .1)
+
+-- ---- "Nothing relies on the caller having checked"
+
+pub use Rattle.device.proofs.Only.{judge-asks, hear-asks}
+pub use Rattle.frame.proofs.Only.{decode-asks}
+pub use Rattle.writer.proofs.Only.{write-asks}
+pub use Rattle.refusal.proofs.Only.{hand-out-asks}
+pub use Rattle.capi.proofs.Only.{gorittaem-check-asks, gorittaem-decode-asks, gorittaem-write-asks}
+pub use Rattle.scan.proofs.Only.{probe-asks}
+pub use Rattle.scanner.proofs.Only.{new-asks, report-asks}
+pub use Rattle.fresh.proofs.Only.{fresh-asks}
+pub use Rattle.event.proofs.Only.{happen-asks}
+pub use Rattle.motor.proofs.Only.{stopped-asks}
+pub use Rattle.alarms.proofs.Only.{alarmed-asks}
+pub use Rattle.aim.proofs.Only.{aim-at-asks}
+pub use Rattle.drives.proofs.Only.{obey-asks}
 
 -- ---- which number, "each exactly then", in the order of 01: "The decoder tests 4, 1, 2, 3, 5"
 
@@ -236,6 +280,10 @@ module _ (s : List ℕ) (room : ℕ) where
       ↔ Sized 78 s room × (rightCheck (plain s) ≡ true) × (room < length (body (plain s))))
   decode-numbers =
       (decode-4 78 s room, decode-1 78 s room, decode-2 78 s room, decode-3 78 s room, decode-5 78 s room)
+
+-- "0x7E inside, or 0x7D as the last octet", in words
+pub broken-words : (s : List ℕ) → broken s ≡ true ↔ OneOf 0x7E s ⊎ ((0 < length s) × (getD s (length s - 1) 0 ≡ 0x7D))
+broken-words = broken-exactly
 
 -- "the writer 9, then 5"
 pub write-numbers : (a c : ℕ) (p : List ℕ) (room : ℕ) → (written 78 a c p room ≡ refuses 9 ↔ 74 < length p)
@@ -264,10 +312,16 @@ pub fresh-numbers : (i p h s : List ℕ) (w : Span)
 fresh-numbers = fresh-6
 
 -- "device data, or a device record handed in, not allowed" and "a device event that can't be", phrase by phrase: the
--- tests that these numbers go by are true exactly of the records, data and events that 01 allows
+-- tests that 6 and 8 go by are true exactly of the records, the data and the events that 01 allows
 pub allowed-words : (d : Device) → length (d .station .said .flags) ≡ length (d .station .told .flags)
     → allowedDevice d ≡ true ↔ AllowedRecord d
 allowed-words = allowed-exactly
+
+pub data-words : (i p h s : List ℕ) (w : Span) → dataAllowed i p h s (antennaFrom w) ≡ true ↔ AllowedData i p h s w
+data-words = data-exactly
+
+pub event-words : (n : Antenna) (e : Event) → canBe n e ≡ true ↔ CanHappen n e
+event-words = can-exactly
 
 -- octets from the line: the decoder's numbers at once, then 6, then 5
 module _ (d : Device) (s : List ℕ) (room : ℕ) where

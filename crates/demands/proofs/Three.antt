@@ -7,12 +7,11 @@
 -- `Runs heard limit n last`, from `new` on by n reports, each of what `heard` says of the beginning that is asked.
 -- Cable.antt has the same of a row of devices, where "heard" is what writing the probe, decoding and judging it at each
 -- device comes to: there no premise about hearing is left. Proved by citation. Assumes nothing.
-use mathlib.Core.Path.{_≡_, refl, sym, ap, _∙_, subst}
+use mathlib.Core.Path.{_≡_, sym, ap, _∙_, subst}
 use mathlib.Core.Bool.{Bool, true, false}
 use mathlib.Core.List.{List, [], map, List·Memᴰ}
 use mathlib.Core.Logic.{_↔_, _⊎_, Iff·trans}
 use Prim.Native.Nat.{ℕ, _+_, _*_, _-_, _<_, _≤_}
-use native.Mathlib.Omega.{arith}
 use lib.ListN.{length, take, getD}
 use Rattle.refusal.specs.declared.Handed.{Handed}
 use Rattle.refusal.specs.Answer.{Answer, refuses, handedOut, Hands}
@@ -28,6 +27,9 @@ use Rattle.whole_scan.specs.Demand.{OctetBus, AsksExactly, AnyScan, BusScan}
 use Rattle.whole_scan.specs.Demand.{Demand3, Demand3Identities, AnyScans, RunsExactly}
 use Rattle.scan.specs.declared.Scan.{Scan}
 use Rattle.scan.specs.declared.State.the-variants.{Complete, Limit, Full}
+use Rattle.script.specs.Words.{spelled}
+use Rattle.terms.specs.Terms.{endWord}
+use Rattle.terms.proofs.Said.{complete-said}
 use Rattle.whole_scan.proofs.AnyScans.{any-scans}
 use Rattle.whole_scan.proofs.Demand.{demand3-octets, demand3-identities}
 use Rattle.whole_scan.proofs.Run.{run-ends}
@@ -94,6 +96,11 @@ module _ (limit : ℕ) (ids : List (List ℕ)) (heard : Bits → Bool) (b : Octe
       complete-exactly =
           let (all, listed, w) = whole-run in
           rw (← shorter-number depth (map bitsOf ids) listed shorter (w .counted) counted) (w .completes)
+
+      -- and "says" by the word itself, of those that the bench has for where a scan stands
+      pub says-complete : endWord (last .state) ≡ spelled "complete"
+          ↔ (length ids ≤ 32) × (1 + 2 * length shorter ≤ limit)
+      says-complete = Iff·trans (complete-said (last .state)) complete-exactly
 
       -- "with exactly that many probes": the count;
       pub complete-count : last .state ≡ Complete → last .count ≡ 1 + 2 * length shorter

@@ -67,6 +67,7 @@ use Rattle.speech.specs.Speech.{isSilent, controlBy, payloadBy, frameBy}
 use Rattle.device.specs.Judge.{Reaction, reacts, reactionOf, judged, heardBy, heard, saidOf, sizeOf, toldOf, deviceAfter}
 use Rattle.device.specs.Judge.{frameAt, bufferAfter}
 use Rattle.device.proofs.judge.Reads as judge-reads
+use Rattle.device.proofs.Says.{judged-octets}
 use Rattle.device.proofs.Exact.{judge-answer}
 use Rattle.device.proofs.Fits.{address-fits}
 
@@ -177,15 +178,13 @@ module _ (d : Device) (f : List ℕ) where
 -- every octet of the buffer are those of the case
 pub judge-case : (κs : _) (a : _) (r : _) (s : _) → judge-reads.Learnt κs a r s → allowedDevice (a .0) ≡ true
     → 76 ≤ length (now (a .1 .1 .0)) → (c : Comes (a .0) (now (a .1 .0)))
-    → let e = left (a .0) (now (a .1 .0)) c in let g = frameBy e (says (a .0) (now (a .1 .0)) c) in
-    (r .device ≡ e) × (saidOf (r .said) ≡ gives (sizeOf g)) × (now (s .1 .1 .0) ≡ frameAt g (now (a .1 .1 .0)))
-unfolding saying reacts toldOf deviceAfter bufferAfter
+    → let g = octetsSaid (a .0) (now (a .1 .0)) c in (r .device ≡ left (a .0) (now (a .1 .0)) c)
+    × (saidOf (r .said) ≡ gives (sizeOf g)) × (now (s .1 .1 .0) ≡ frameAt g (now (a .1 .1 .0)))
+unfolding toldOf deviceAfter bufferAfter
 judge-case κs a r s w allowed room c =
     let d = a .0 in
-    let f = now (a .1 .0) in
     let o = now (a .1 .1 .0) in
-    let is : judged d f (length o) ≡ gives (reacts (left d f c) (says d f c)) =
-    judge-answer d f (length o) _ .1 (allowed, room, ap reactionOf (comes-so d f c)) in (
+    let is = judged-octets d (now (a .1 .0)) c (length o) allowed room in (
       w .device ∙ ap (λ (x : Answer Reaction). deviceAfter x d) is,
       w .said ∙ ap toldOf is,
       w .buffer ∙ ap (λ (x : Answer Reaction). bufferAfter x o) is,

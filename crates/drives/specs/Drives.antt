@@ -3,6 +3,7 @@
 --   After             == the row after a command, and the answer to it; Came == that, and the lent output, BUFFER
 --   value v n         == what the word n stands for; textIn os from end == the octets of one HEX word of several
 --   isTilt v          == the number v is a tilt's pattern; tiltOf v == that tilt; areTilts v == the three of `device` are
+--   freshWith v os    == the fresh device of the words; freshBy v os == that, or 6 for a number that is no tilt
 --   adds row v os     == `device`: one more, if there is room and its data is allowed
 --   isDevice n k      == K is a device of a row with n of them; deviceAt row place == the one at a place
 --   isValue c v       == the number v is a value of the event c; eventOf c v == that event

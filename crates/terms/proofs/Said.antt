@@ -3,6 +3,7 @@
 use mathlib.Core.Path.{_≡_, refl, ap}
 use mathlib.Core.Bool.{Bool, true, false, cond}
 use mathlib.Core.List.{List, _∷_}
+use mathlib.Core.Logic.{_↔_}
 use Prim.Native.Nat.{ℕ}
 use native.Mathlib.Omega.{arith}
 use lib.Dec.{eqb}
@@ -121,10 +122,14 @@ first-differs : {x y : ℕ} {v w : List ℕ} → x ∷ v ≡ y ∷ w → (x ≡ 
 first-differs e d = d (ap (λ (l : List ℕ). getD l 0 0) e)
 
 -- "complete" is said exactly of a scan that is complete
-pub complete-said : (s : State) → endWord s ≡ spelled "complete" → s ≡ scan.Complete
+complete-alone : (s : State) → endWord s ≡ spelled "complete" → s ≡ scan.Complete
 unfolding endWord spelled
-complete-said (scan.Asking quiet doubt) e = absurd (first-differs e (λ q. omega arith))
-complete-said scan.Complete e = refl
-complete-said scan.Doubtful e = absurd (first-differs e (λ q. omega arith))
-complete-said scan.Limit e = absurd (first-differs e (λ q. omega arith))
-complete-said scan.Full e = absurd (first-differs e (λ q. omega arith))
+complete-alone (scan.Asking quiet doubt) e = absurd (first-differs e (λ q. omega arith))
+complete-alone scan.Complete e = refl
+complete-alone scan.Doubtful e = absurd (first-differs e (λ q. omega arith))
+complete-alone scan.Limit e = absurd (first-differs e (λ q. omega arith))
+complete-alone scan.Full e = absurd (first-differs e (λ q. omega arith))
+
+pub complete-said : (s : State) → endWord s ≡ spelled "complete" ↔ s ≡ scan.Complete
+unfolding endWord
+complete-said s = (complete-alone s, λ e. ap endWord e)

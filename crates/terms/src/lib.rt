@@ -17,8 +17,8 @@ use script::Fault;
 // A word, up to the first full stop.
 pub type Name = [u8; 14];
 
-// What a word is for: a line's fault; the answer of the row, of a report that is refused, of a command that hands out
-// octets; where a scan stands; three words of `show`; a scan by hand that is made anew.
+// What a word is for: a line's fault; an answer of the row of devices; an outcome; what a command handed out, by its place
+// among the names; where a scan stands; LINK, PENDING and DRIVE of `show`; a scan by hand that is made anew.
 pub enum Term {
     Fault(Fault),
     Reply(Answer),
@@ -31,8 +31,29 @@ pub enum Term {
     Begun,
 }
 
+// ---- the words
+
 const REFUSED: Name = *b"refused.......";
 
+const DONE: Name = *b"done..........";
+
+const SILENCE: Name = *b"silence.......";
+
+const ANSWER: Name = *b"answer........";
+
+const DEVICE: Name = *b"device........";
+
+const STATE: Name = *b"state.........";
+
+const PROBE: Name = *b"probe.........";
+
+const FRAME: Name = *b"frame.........";
+
+const LINE: Name = *b"line..........";
+
+const BEGUN: Name = *b"begun.........";
+
+// Faults.
 const ERROR_LONG: Name = *b"error long....";
 
 const ERROR_COMMAND: Name = *b"error command.";
@@ -47,24 +68,9 @@ const ERROR_ROOM: Name = *b"error room....";
 
 const ERROR_DEVICE: Name = *b"error device..";
 
-const DONE: Name = *b"done..........";
-
-const SILENCE: Name = *b"silence.......";
-
-const ANSWER: Name = *b"answer........";
-
 const ERROR_FULL: Name = *b"error full....";
 
-const DEVICE: Name = *b"device........";
-
-const STATE: Name = *b"state.........";
-
-const PROBE: Name = *b"probe.........";
-
-const FRAME: Name = *b"frame.........";
-
-const LINE: Name = *b"line..........";
-
+// Where a scan stands.
 const GOING: Name = *b"going.........";
 
 const COMPLETE: Name = *b"complete......";
@@ -75,6 +81,7 @@ const LIMIT: Name = *b"limit.........";
 
 const FULL: Name = *b"full..........";
 
+// Of `show`.
 const NONE: Name = *b"none..........";
 
 const ASSIGNED: Name = *b"assigned......";
@@ -95,7 +102,7 @@ const STOPPED_OK: Name = *b"stopped:ok....";
 
 const STOPPED_JAM: Name = *b"stopped:jam...";
 
-const BEGUN: Name = *b"begun.........";
+// ---- which word
 
 fn fault_word(fault: Fault) -> Name
     ensures { λ r. ⌜ r ≡ nameOf (faultWord fault) ⌝ }

@@ -3,7 +3,7 @@ use Rattle.terms.specs.Terms.{nameOf, wordOf}
 use Rattle.octets.specs.Octets.{_atStartOf_}
 use Rattle.script.specs.Words.{spelled}
 use Rattle.octets.proofs.Rules.{tests}
-use mathlib.Core.Path.{sym, _∙_}
+use mathlib.Core.Path.{sym}
 use borrow.Author.Needs.{needs}
 use Rattle.terms.proofs.word.Statement.{statement}
 use Rattle.terms.proofs.word.Tie as tie
@@ -60,35 +60,35 @@ enum-told : tie.Need-enum-told
 enum-told c = search needs
 
 returns : tie.Need-returns
-unfolding nameOf wordOf spelled _atStartOf_
+unfolding wordOf
 returns c = search (tests, sym (c .fault-word .ensures), c .before .before .term .given .1)
 
 returns-2 : tie.Need-returns-2
-unfolding nameOf wordOf spelled _atStartOf_
+unfolding wordOf
 returns-2 c = search (tests, sym (c .reply-word .ensures), c .before .before .term2 .given .1)
 
 returns-3 : tie.Need-returns-3
-unfolding nameOf wordOf spelled _atStartOf_
+unfolding wordOf
 returns-3 c = search (tests, sym (c .outcome-word .ensures), c .before .before .term3 .given .1)
 
 returns-4 : tie.Need-returns-4
-unfolding nameOf wordOf spelled _atStartOf_
+unfolding wordOf
 returns-4 c = search (tests, sym (c .handed-word .ensures), c .before .before .term4 .given .1)
 
 returns-5 : tie.Need-returns-5
-unfolding nameOf wordOf spelled _atStartOf_
+unfolding wordOf
 returns-5 c = search (tests, sym (c .end-word .ensures), c .before .before .term5 .given .1)
 
 returns-6 : tie.Need-returns-6
-unfolding nameOf wordOf spelled _atStartOf_
+unfolding wordOf
 returns-6 c = search (tests, sym (c .link-word .ensures), c .before .before .term6 .given .1)
 
 returns-7 : tie.Need-returns-7
-unfolding nameOf wordOf spelled _atStartOf_
+unfolding wordOf
 returns-7 c = search (tests, sym (c .pending-word .ensures), c .before .before .term7 .given .1)
 
 returns-8 : tie.Need-returns-8
-unfolding nameOf wordOf spelled _atStartOf_
+unfolding wordOf
 returns-8 c = search (tests, sym (c .drive-word .ensures), c .before .before .term8 .given .1)
 
 returns-9 : tie.Need-returns-9
