@@ -73,6 +73,20 @@ pub use Rattle.bus.proofs.Lines.{turn-gives, turn-refused, scan-lines, scan-lin
 pub use Rattle.bus.proofs.Needs.{installed-exactly}
 pub use Rattle.bus.proofs.Job.{scan-installed, job-done}
 pub use Rattle.bus.proofs.Examples.{condition-needed, longer-later}
+-- ---- "Nothing relies on the caller having checked": nothing is asked, of each function of demand 1
+pub use Rattle.device.proofs.Only.{judge-asks, hear-asks}
+pub use Rattle.frame.proofs.Only.{decode-asks}
+pub use Rattle.writer.proofs.Only.{write-asks}
+pub use Rattle.refusal.proofs.Only.{hand-out-asks}
+pub use Rattle.capi.proofs.Only.{gorittaem-check-asks, gorittaem-decode-asks, gorittaem-write-asks}
+pub use Rattle.scan.proofs.Only.{probe-asks}
+pub use Rattle.scanner.proofs.Only.{new-asks, report-asks}
+pub use Rattle.fresh.proofs.Only.{fresh-asks}
+pub use Rattle.event.proofs.Only.{happen-asks}
+pub use Rattle.motor.proofs.Only.{stopped-asks}
+pub use Rattle.alarms.proofs.Only.{alarmed-asks}
+pub use Rattle.aim.proofs.Only.{aim-at-asks}
+pub use Rattle.drives.proofs.Only.{obey-asks}
 -- ---- the demands
 pub use Rattle.demands.proofs.One.{hear-defined, judge-defined, decode-answers, write-answers, hand-out-answers}
 pub use Rattle.demands.proofs.One.{c-decode-answers, c-write-answers, probe-answers, report-answers, fresh-answers}

@@ -4,7 +4,7 @@
 -- Of every public function that can refuse, what a caller learns of its promise, as the source states it (`Learnt`, with the
 -- arguments a, the result r and the exits s in the order of the parameters), is what this page says of it: for any
 -- octets, any record of a device and of a scan, any lent buffer. That nothing is asked of the caller (`AsksNothing`) is a
--- lemma of every public function, FUNCTION-asks of crates/NAME/proofs/Only.antt; those of this page's functions are below.
+-- lemma of every public function, FUNCTION-asks of crates/NAME/proofs/Only.antt; Index.antt has those of these functions.
 -- Proved by citation. Assumes nothing.
 use mathlib.Core.Path.{_≡_, refl, sym, ap, _∙_}
 use mathlib.Core.Bool.{Bool, true, false}
@@ -252,22 +252,6 @@ obey-keeps κs a r s w said =
     no-keeps (a .0) (now (a .1 .1 .1 .1 .0)) (a .1 .0) (a .1 .1 .0) (now (a .1 .1 .1 .0))
     (sym (ap (λ (x : After). isNo (x .reply)) (w .after)) ∙ said) in
     (ap (λ (x : After). x .row) (w .after) ∙ kept .0, w .lent ∙ kept .1)
-
--- ---- "Nothing relies on the caller having checked"
-
-pub use Rattle.device.proofs.Only.{judge-asks, hear-asks}
-pub use Rattle.frame.proofs.Only.{decode-asks}
-pub use Rattle.writer.proofs.Only.{write-asks}
-pub use Rattle.refusal.proofs.Only.{hand-out-asks}
-pub use Rattle.capi.proofs.Only.{gorittaem-check-asks, gorittaem-decode-asks, gorittaem-write-asks}
-pub use Rattle.scan.proofs.Only.{probe-asks}
-pub use Rattle.scanner.proofs.Only.{new-asks, report-asks}
-pub use Rattle.fresh.proofs.Only.{fresh-asks}
-pub use Rattle.event.proofs.Only.{happen-asks}
-pub use Rattle.motor.proofs.Only.{stopped-asks}
-pub use Rattle.alarms.proofs.Only.{alarmed-asks}
-pub use Rattle.aim.proofs.Only.{aim-at-asks}
-pub use Rattle.drives.proofs.Only.{obey-asks}
 
 -- ---- which number, "each exactly then", in the order of 01: "The decoder tests 4, 1, 2, 3, 5"
 

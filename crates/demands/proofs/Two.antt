@@ -184,7 +184,7 @@ unfolding toldOf deviceAfter bufferAfter
 judge-case κs a r s w allowed room c =
     let d = a .0 in
     let o = now (a .1 .1 .0) in
-    let is = judged-octets d (now (a .1 .0)) c (length o) allowed room in (
+    let is = judged-octets d (now (a .1 .0)) (length o) allowed room c in (
       w .device ∙ ap (λ (x : Answer Reaction). deviceAfter x d) is,
       w .said ∙ ap toldOf is,
       w .buffer ∙ ap (λ (x : Answer Reaction). bufferAfter x o) is,
