@@ -1,6 +1,7 @@
 -- The laws of a drive that the layers above cite.
 pub mod Aims
 pub mod Angles
+pub mod Awaits
 pub mod Differ
 pub mod Can
 pub mod Codes

@@ -14,7 +14,7 @@ pub owes-only : Settles owes-reads.Learnt
 owes-only κs a r q s t = only
 
 pub waiting-only : Settles waiting-reads.Learnt
-waiting-only κs a r q s t = only
+waiting-only κs a r q s t x y = only (x .waits) (y .waits)
 
 pub unowed-only : Settles unowed-reads.Learnt
 unowed-only κs a r q s t = only

@@ -11,6 +11,7 @@
 --   aimNumber a    == the paper's return code, or none, for each case of the code's answer
 --   Aims x n r     == the code's answer r for the antenna n, its case and its antenna, is the answer x
 --   started n t a  == the antenna after the case a of the answer
+--   codeWaiting m  == the return code of the result that waits; Awaits m r == the code's answer r is that result
 --   resultCode reached == the return code of a result; returnCode w == of what waits, for each case, or none
 -- Assumes nothing.
 use mathlib.Core.Path.{_≡_}
@@ -98,3 +99,15 @@ resultCode reached = cond reached 0x00 0x02
 unfoldable pub returnCode : Waits → Option ℕ
 returnCode Nothing = none
 returnCode (Result reached) = some (resultCode reached)
+
+-- the return code of the result that waits in the motion m, if one does
+unfoldable pub codeWaiting : Motion → Option ℕ
+codeWaiting Still = none
+codeWaiting Moving = none
+codeWaiting (Owing asked) = none
+codeWaiting (Stopped reached) = some (resultCode reached)
+
+-- the code's answer r is the result that waits in m, by the paper's return code of each case
+pub record Awaits (m : Motion) (r : Waits) : Type 0 where
+  pub waits : r ≡ waitingOf m
+  pub code : returnCode r ≡ codeWaiting m

@@ -2,7 +2,7 @@
 // `motor` and `alarms`; the definitions of all three and the laws about them are here. Assumes nothing of its caller.
 // Headline: a movement starts only where nothing moves or waits and the tilt asked is in range (proofs/Movements.antt).
 ghost use mathlib.Core.Path.{_≡_};
-ghost use Rattle.antenna.specs.Motions.{busyOf, owesOf, waitingOf, moves, unowedOf};
+ghost use Rattle.antenna.specs.Motions.{busyOf, owesOf, Awaits, moves, unowedOf};
 use refusal::Outcome;
 
 // Tenths of a degree.
@@ -83,7 +83,7 @@ pub fn owes(motion: Motion) -> bool
 
 // The result that waits, if one does.
 pub fn waiting(motion: Motion) -> Waits
-    ensures { λ r. ⌜ r ≡ waitingOf motion ⌝ }
+    ensures { λ r. ⌜ Awaits motion r ⌝ }
 {
     match motion {
         Motion::Still => Waits::Nothing,

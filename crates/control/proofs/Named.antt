@@ -11,7 +11,7 @@ use borrow.Author.Tests.{eq-eqb, ne-eqb}
 use lib.Dec.{T, eqb, ltb, lit<, eqb→eq, ltb→lt}
 use lib.ListN.{replicate, length-replicate}
 use Rattle.octets.proofs.Every.{at}
-use Rattle.control.specs.Control.{polled, nextOf, infoOf, rrOf, rnrOf, controlFor, UpTo7, numberedBy, askedBy}
+use Rattle.control.specs.Control.{polled, nextOf, infoOf, rrOf, rnrOf, controlFor, UpTo7, numberedBy, askedBy, Asks}
 use Rattle.control.specs.declared.Order.{Order}
 use Rattle.control.specs.declared.Order.the-variants.{Xid, Snrm, Disc, Info, Rr, Rnr, Unknown}
 
@@ -181,6 +181,10 @@ module _ (c : ℕ) (h : c < 256) (p : polled c ≡ true) where
       none-has : (o ≡ Unknown) × ((q : Order) → controlFor q ≡ some c → ⊥) → askedBy c ≡ o
       none-has w =
           ⊎-elim (λ u. u ∙ sym (w .0)) (λ k. absurd (w .1 (askedBy c) (k .0))) (rightly-named c (askedBy c) named)
+
+-- what a caller learns of what an octet asks
+pub asks : {c : ℕ} {r : Order} → r ≡ askedBy c → Asks c r
+asks {c} {r} e = record { order = e; control = λ h p. asked-exactly c h p r .0 (sym e) }
 
 -- the controls that 01 names are read as what they are
 pub asked-info : (ns nr : ℕ) → ns < 8 → nr < 8 → askedBy (infoOf ns nr) ≡ Info ns nr

@@ -11,7 +11,7 @@ pub polls-only : Settles polls-reads.Learnt
 polls-only κs a r q s t = only
 
 pub asked-only : Settles asked-reads.Learnt
-asked-only κs a r q s t = only
+asked-only κs a r q s t x y = only (x .order) (y .order)
 
 pub next-only : Settles next-reads.Learnt
 next-only κs a r q s t = only

@@ -4,8 +4,11 @@
 --   nextOf n   == the number after n: "Numbers run 0 to 7 and round"
 --   infoOf s r, rrOf r, rnrOf r == the controls of an I-frame, of RR and of RNR, by their numbers N(S) and N(R)
 --   controlFor o == the paper's control octet of the order o, for each case; UpTo7 o == the numbers of o are 0 to 7
+--   Asks c r   == the code's answer r is what c asks, by these
 -- Assumes nothing.
-use mathlib.Core.Bool.{Bool, cond}
+use mathlib.Core.Path.{_≡_}
+use mathlib.Core.Bool.{Bool, true, cond}
+use mathlib.Core.Logic.{_⊎_}
 use mathlib.Core.Option.{Option, none, some}
 use Prim.Native.Nat.{ℕ, _+_, _*_, _/_, _%_, _<_}
 use lib.Dec.{eqb}
@@ -58,3 +61,10 @@ numberedBy c =
 -- with its poll bit set, the order that has this control, or Unknown (`asked-exactly` of proofs/Named)
 unfoldable pub askedBy : ℕ → Order
 askedBy c = cond (eqb c 0xBF) Xid (cond (eqb c 0x93) Snrm (cond (eqb c 0x53) Disc (numberedBy c)))
+
+-- the code's answer r to the octet c, by the paper's control of each order: with the poll bit set, r has this control, or
+-- r is Unknown and no order has it
+pub record Asks (c : ℕ) (r : Order) : Type 0 where
+  pub order : r ≡ askedBy c
+  pub control : c < 256 → polled c ≡ true
+      → ((r ≡ Unknown) × ((o : Order) → controlFor o ≡ some c → ⊥)) ⊎ ((controlFor r ≡ some c) × UpTo7 r)

@@ -2,7 +2,7 @@
 // Headline: the controls that 01 names are read as what they are, and no other is (proofs/Named.antt).
 // Assumes nothing of its caller.
 ghost use mathlib.Core.Path.{_≡_};
-ghost use Rattle.control.specs.Control.{polled, numberedBy, askedBy, nextOf, infoOf, rrOf};
+ghost use Rattle.control.specs.Control.{polled, numberedBy, Asks, nextOf, infoOf, rrOf};
 
 // What a control octet with its poll bit set asks.
 pub enum Order {
@@ -43,7 +43,7 @@ fn numbered(control: u8) -> Order
 
 // What a control octet with its poll bit set asks; of one whose poll bit is clear it means nothing, and `polls` tells.
 pub fn asked(control: u8) -> Order
-    ensures { λ r. ⌜ r ≡ askedBy control ⌝ }
+    ensures { λ r. ⌜ Asks control r ⌝ }
 {
     if control == 0xBF {
         return Order::Xid;

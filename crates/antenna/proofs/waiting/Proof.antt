@@ -2,6 +2,7 @@
 use Rattle.antenna.specs.Motions.{waitingOf}
 use Rattle.octets.proofs.Rules.{tests}
 use borrow.Author.Needs.{needs}
+use Rattle.antenna.proofs.Awaits.{awaits}
 use Rattle.antenna.proofs.waiting.Statement.{statement}
 use Rattle.antenna.proofs.waiting.Tie as tie
 
@@ -19,19 +20,19 @@ enum-known-motion c = search needs
 
 returns : tie.Need-returns
 unfolding waitingOf
-returns c = search (tests, c .enum-told .given .1)
+returns c = awaits (search (tests, c .enum-told .given .1))
 
 returns-2 : tie.Need-returns-2
 unfolding waitingOf
-returns-2 c = search (tests, c .enum-told2 .given .1)
+returns-2 c = awaits (search (tests, c .enum-told2 .given .1))
 
 returns-3 : tie.Need-returns-3
 unfolding waitingOf
-returns-3 c = search (tests, c .enum-told3 .given .1)
+returns-3 c = awaits (search (tests, c .enum-told3 .given .1))
 
 returns-4 : tie.Need-returns-4
 unfolding waitingOf
-returns-4 c = search (tests, c .before .motion .given .1)
+returns-4 c = awaits (search (tests, c .before .motion .given .1))
 
 pub waiting-spec : {M : Type 1} → statement M
 waiting-spec =

@@ -24,7 +24,7 @@ own-requires c κs = search needs
 
 returns-2 : tie.Need-returns-2
 unfolding addressedBy
-returns-2 c = search (tests, sym (c .own .ensures), sym (c .before .asked .ensures), sym (c .before .before .before .is-own .ensures) ∙ c .before .before .if2 .taken)
+returns-2 c = search (tests, sym (c .own .ensures), sym (c .before .asked .ensures .order), sym (c .before .before .before .is-own .ensures) ∙ c .before .before .if2 .taken)
 
 say-requires : tie.Need-say-requires
 say-requires c κs = search needs

@@ -25,7 +25,7 @@ poll-waiting-requires c κs = search needs
 
 returns-2 : tie.Need-returns-2
 unfolding pollOf saying
-returns-2 c = search (tests, sym (c .poll-waiting .ensures), sym (c .before .waiting .ensures), sym (c .before .before .before .before .is-pending .ensures) ∙ c .before .before .before .if1 .left)
+returns-2 c = search (tests, sym (c .poll-waiting .ensures), sym (c .before .waiting .ensures .waits), sym (c .before .before .before .before .is-pending .ensures) ∙ c .before .before .before .if1 .left)
 
 pub poll-spec : {M : Type 1} → statement M
 poll-spec =
