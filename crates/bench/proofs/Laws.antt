@@ -29,9 +29,9 @@ use Rattle.bus.specs.declared.Row.{Row}
 use Rattle.drives.specs.declared.Obeyed.{Obeyed}
 use Rattle.drives.specs.Drives.{After, Obeys, obeyed}
 use Rattle.mast.specs.Mast.{swept}
-use Rattle.bench.specs.Bench.{hexIn, valueIn, lentOf, driven, rowAfter, scanAfter, handsOut}
+use Rattle.bench.specs.Bench.{hexIn, valueIn, lentOf, rowDriven, rowAfter, scanAfter, handsOut}
 use Rattle.bench.specs.Written.{digitOf, hexed}
-use Rattle.bench.specs.Input.{restOf, takenTo, taken, refilled, anew, Run, afterRuns, Comes, withoutReturn}
+use Rattle.bench.specs.Input.{restOf, takenTo, taken, refilled, anew, Run, afterRuns, Arrives, withoutReturn}
 use Rattle.bench.specs.declared.input.Input.{Input}
 
 -- ---- HEX
@@ -104,10 +104,10 @@ module _ (i : Input) {next t r : Input} (reads : Reads i next) (e : t ≡ taken 
   )
 
 module _ (i : Input) {next : Input} (reads : Reads (anew i) next) where
-  pub comes-ended : Comes i next
+  pub comes-ended : Arrives i next
   comes-ended = record { runs = reads .0; came = inr (reads .1) }
 
-  pub comes-whole : {t : Input} → t ≡ taken next → t .whole ≡ true → Comes i t
+  pub comes-whole : {t : Input} → t ≡ taken next → t .whole ≡ true → Arrives i t
   comes-whole e w = record { runs = reads .0; came = inl (w, e ∙ ap taken (reads .1)) }
 
 -- ---- what is handed out
@@ -136,14 +136,14 @@ unfolding freshOf answered dataAllowed textsAllowed allowedIdentity stateAfter
 blank-left w c = c .state
 
 pub driven-is : (c : ℕ) (row : Row) (a : Asked) {os o o' : List ℕ} {r : Obeyed} → os ≡ hexIn a
-    → o ≡ lentOf (valueIn a 3) → Obeys (obeyed c row (a .values) os o) r o' → r .row ≡ driven c row a
-unfolding driven
+    → o ≡ lentOf (valueIn a 3) → Obeys (obeyed c row (a .values) os o) r o' → r .row ≡ rowDriven c row a
+unfolding rowDriven
 driven-is c row a e f h =
     ap (λ (x : After). x .row) (h .after)
     ∙ ap₂ (λ (os o : List ℕ). obeyed c row (a .values) os o .after .row) e f
 
 module _ (c : ℕ) (row : Row) (a : Asked) where
-  pub row-driven : c < 7 → driven c row a ≡ rowAfter c row a
+  pub row-driven : c < 7 → rowDriven c row a ≡ rowAfter c row a
   unfolding rowAfter
   row-driven h = rw (lt-ltb c 7 h)
 

@@ -4,7 +4,7 @@
 --   commandIn l       == the command that the line l asks for; 13 with a fault, 14 where it gets no answer
 --   hexIn a           == the octets of the HEX words of a; valueIn a n == what its word n stands for
 --   lentOf room       == a lent output of so many octets
---   driven c row a    == the row after the command c, 0 to 6; rowAfter c row a == after any
+--   rowDriven c row a    == the row after the command c, 0 to 6; rowAfter c row a == after any
 --   scanAfter c s v   == the scan by hand after any command with the value v
 --   handsOut c s a room == what 9 `probe`, 11 `decode` and 12 `write` hand out
 -- Assumes nothing.
@@ -45,13 +45,13 @@ hexIn a = take (a .len) (a .octets)
 unfoldable pub lentOf : ℕ → List ℕ
 lentOf room = take room (replicate 600 0xA5)
 
-unfoldable pub driven : ℕ → Row → Asked → Row
-driven c row a = obeyed c row (a .values) (hexIn a) (lentOf (valueIn a 3)) .after .row
+unfoldable pub rowDriven : ℕ → Row → Asked → Row
+rowDriven c row a = obeyed c row (a .values) (hexIn a) (lentOf (valueIn a 3)) .after .row
 
 -- "a scan of the bench from its start to its end"
 unfoldable pub rowAfter : ℕ → Row → Asked → Row
 rowAfter c row a =
-    cond (ltb c 7) (driven c row a) (cond (eqb c 7) (swept row (valueIn a 1 % 65536) .row) row)
+    cond (ltb c 7) (rowDriven c row a) (cond (eqb c 7) (swept row (valueIn a 1 % 65536) .row) row)
 
 -- "the bench's one scan record is made anew"; "an answer to it", 1 where it was heard
 unfoldable pub scanAfter : ℕ → Scan → ℕ → Scan

@@ -5,7 +5,7 @@
 --   refilled i run end   == another run, of which so many octets are there
 --   anew i               == nothing of the next line has come
 --   afterRuns i runs     == i after the runs, the last of them first: each was read once the one before it was taken
---   Comes i r            == r has the next line of i, out of the runs that were read for it; or they ended
+--   Arrives i r            == r has the next line of i, out of the runs that were read for it; or they ended
 --   withoutReturn whole s == the line s without the 0x0D before its end, of a line that had a 0x0A
 -- Assumes nothing.
 use mathlib.Core.Path.{_≡_}
@@ -71,7 +71,7 @@ afterRuns i [] = i
 afterRuns i (x ∷ earlier) = refilled (taken (afterRuns i earlier)) (x .octets) (x .count)
 
 -- "Octets after the last 0x0A are a line of their own."
-pub record Comes (i r : Input) : Type 0 where
+pub record Arrives (i r : Input) : Type 0 where
   pub runs : List Run
   pub came : ((r .whole ≡ true) × (r ≡ taken (afterRuns (anew i) runs))) ⊎ (r ≡ afterRuns (anew i) runs)
 

@@ -3,7 +3,7 @@ ghost use mathlib.Core.Path.{_≡_};
 ghost use Prim.Native.Nat.{_%_};
 ghost use lib.ListN.{take};
 ghost use Rattle.script.specs.Script.{readLine};
-ghost use Rattle.bench.specs.Input.{unread, taken, refilled, Comes, withoutReturn};
+ghost use Rattle.bench.specs.Input.{unread, taken, refilled, Arrives, withoutReturn};
 use crate::rows;
 use libc::STDIN_FILENO;
 use script::Asked;
@@ -72,7 +72,7 @@ fn refill(input: Input) -> Input
 
 // A proved loop has to end, and nothing says that a line does.
 pub fn next_line(input: Input) -> Input
-    ensures { λ r. ⌜ Comes input r ⌝ }
+    ensures { λ r. ⌜ Arrives input r ⌝ }
 {
     let mut next = input;
     next.len = 0;

@@ -14,7 +14,7 @@ mod shown;
 ghost use mathlib.Core.Path.{_≡_};
 ghost use Prim.Native.Nat.{_%_};
 ghost use Rattle.mast.specs.Mast.{swept};
-ghost use Rattle.bench.specs.Bench.{noDevices, commandIn, driven, rowAfter};
+ghost use Rattle.bench.specs.Bench.{noDevices, commandIn, rowDriven, rowAfter};
 use antenna::Angle;
 use bus::MOST;
 use bus::Row;
@@ -85,7 +85,7 @@ fn say_behind(answer: Answer, row: Row, lent: [u8; answers::ROOM], room: usize) 
 
 // The commands at the places 0 to 6.
 fn drive(row: Row, command: usize, asked: Asked) -> Row
-    ensures { λ r. ⌜ r ≡ driven command row asked ⌝ }
+    ensures { λ r. ⌜ r ≡ rowDriven command row asked ⌝ }
 {
     let values = asked.values;
     let room = rows::value(values, 3);

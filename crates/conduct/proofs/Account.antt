@@ -24,7 +24,7 @@ use Rattle.conduct.specs.Conduct.{after}
 use Rattle.conduct.specs.Endings.{Assigns, Ends, Drops}
 use Rattle.conduct.specs.Alarms.{Subscribes}
 use Rattle.conduct.specs.Comes.{Comes, left}
-use Rattle.conduct.specs.Account.{Counted, Account}
+use Rattle.conduct.specs.Account.{Continues, Account}
 use Rattle.conduct.proofs.Settles.{address-kept, subscribed-kept, settled-link, assigned-apart}
 use Rattle.conduct.proofs.Numbers.{r-moves-exactly, r-stays-exactly, s-moves-exactly, s-stays-exactly}
 use Rattle.conduct.proofs.Told.{raised-cases, told-cases, clears-both, indicated-tells}
@@ -125,7 +125,7 @@ module _ (d : Device) (f : List ℕ) where
     drops-end (inr (inr (a, w))) = Ends.assigns s a w here
 
     module _ (lasts : Ends d f → ⊥) where
-      counted : (t : Session) → after d f .station .link ≡ Connected t → Counted d f s t
+      counted : (t : Session) → after d f .station .link ≡ Connected t → Continues d f s t
       counted t there =
           let new : Own d f Snrm → ⊥ = λ w. lasts (Ends.renews s w here) in
           record {
@@ -136,13 +136,13 @@ module _ (d : Device) (f : List ℕ) where
           }
 
       goes-on : Drops d f ⊎ ((after d f .station .link ≡ d .station .link) ⊎ Goes (after d f))
-          → (t : Session) × (after d f .station .link ≡ Connected t) × Counted d f s t
+          → (t : Session) × (after d f .station .link ≡ Connected t) × Continues d f s t
       goes-on (inl w) = absurd (lasts (drops-end w))
       goes-on (inr (inl same)) = (s, same ∙ here, counted s (same ∙ here))
       goes-on (inr (inr (k, t, was, is))) = (t, is, counted t is)
 
       -- a session that does not end goes on, and its numbers are known
-      pub session-kept : (t : Session) × (after d f .station .link ≡ Connected t) × Counted d f s t
+      pub session-kept : (t : Session) × (after d f .station .link ≡ Connected t) × Continues d f s t
       session-kept = goes-on link-cases
 
   link-kept : ((s : Session) → d .station .link ≡ Connected s → ⊥) → (Drops d f → ⊥)

@@ -32,7 +32,7 @@ use Rattle.link.specs.Frames.{numberIn, Numbered}
 use Rattle.conduct.specs.Conduct.{after, Accepted, TiltDue}
 use Rattle.conduct.specs.Endings.{Assigns, Ends, Drops}
 use Rattle.conduct.specs.Alarms.{Clears, Subscribes}
-use Rattle.conduct.specs.Comes.{Comes, left, heard, replied}
+use Rattle.conduct.specs.Comes.{Comes, left, unansweredAs, answeredAs}
 use Rattle.conduct.specs.Account.{Answered, Delivers, Tells}
 use Rattle.conduct.proofs.Comes.{comes, comes-leaves}
 
@@ -74,16 +74,16 @@ module _ (d : Device) (f : List ℕ) where
       (ended : Drops d f → (l : Link) → P (endedAs d (d .station .address) l))
       (settled : (o : Order) (r : ℕ) (s : Session) → numberIn o ≡ some r → Numbered d f o r s → P (acknowledged d s r))
       (heeded : (s : Session) (n r : ℕ) → Accepted d f s n r
-      → P (heard d s r (d .antenna) (told s r) (d .station .subscribed)))
+      → P (unansweredAs d s r (d .antenna) (told s r) (d .station .subscribed)))
       (started : (w : TiltDue d f)
-      → P (heard d (w .session) (w .nr) (moves (d .antenna) (Owing (askedOf (drop 2 f)))) (told (w .session) (w .nr))
+      → P (unansweredAs d (w .session) (w .nr) (moves (d .antenna) (Owing (askedOf (drop 2 f)))) (told (w .session) (w .nr))
       (d .station .subscribed)))
       (cleared : (w : Clears d f)
-      → P (replied d (w .session) (w .nr) (quieted (d .antenna)) calm (d .station .subscribed) (successOf 0x06 [])))
+      → P (answeredAs d (w .session) (w .nr) (quieted (d .antenna)) calm (d .station .subscribed) (successOf 0x06 [])))
       (subscribed : (w : Subscribes d f)
-      → P (replied d (w .session) (w .nr) (d .antenna) (told (w .session) (w .nr)) true (successOf 0x12 [])))
+      → P (answeredAs d (w .session) (w .nr) (d .antenna) (told (w .session) (w .nr)) true (successOf 0x12 [])))
       (answered : (w : Answered d f) (b : List ℕ)
-      → P (replied d (w .session) (w .nr) (d .antenna) (told (w .session) (w .nr)) (d .station .subscribed) b))
+      → P (answeredAs d (w .session) (w .nr) (d .antenna) (told (w .session) (w .nr)) (d .station .subscribed) b))
       (delivered : (b : Bool) (w : Delivers d f b)
       → let s = w .collects .session in let r = w .collects .nr in
       P (deviceOf d (answersWith (there s r) (sessionAfter s r) (payloadOf (resultOf b))) (moves (d .antenna) Still)))

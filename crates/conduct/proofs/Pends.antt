@@ -38,7 +38,7 @@ use Rattle.link.specs.Frames.{numberIn, Numbered}
 use Rattle.link.proofs.Cases.{order-cases}
 use Rattle.conduct.specs.Conduct.{after, Accepted}
 use Rattle.conduct.specs.Endings.{pendingIn, Drops, Collects}
-use Rattle.conduct.specs.Comes.{Comes, left, heard}
+use Rattle.conduct.specs.Comes.{Comes, left, unansweredAs}
 use Rattle.conduct.specs.Account.{Answered, Delivers, Tells, Acknowledges}
 use Rattle.conduct.proofs.Settles.{device-kept, info-is}
 use Rattle.conduct.proofs.Turns.{inform-cases}
@@ -99,7 +99,7 @@ module _ (d : Device) (f : List ℕ) where
 
     module _ (s : Session) (r : ℕ) (removes : acknowledges s r ≡ true) where
       -- nothing is left of it, whatever else the message changes
-      heard-empty : (n : Antenna) (told : Alarms) (sub : Bool) → Empty (heard d s r n told sub)
+      heard-empty : (n : Antenna) (told : Alarms) (sub : Bool) → Empty (unansweredAs d s r n told sub)
       unfolding deviceOf heeded taken sessionAfter stationAfter emptied settled unsaidAt
       heard-empty n told sub = rw removes (refl, refl, refl)
 
@@ -166,7 +166,7 @@ module _ (d : Device) (f : List ℕ) where
           go false b = b
 
       heard-kept : (s : Session) (n r : ℕ) → Accepted d f s n r → (a : Antenna) (told : Alarms) (sub : Bool)
-          → Kept (heard d s r a told sub)
+          → Kept (unansweredAs d s r a told sub)
       unfolding deviceOf heeded taken
       heard-kept s n r w a told sub =
           let same = behind (Info n r) r s refl (w .numbered) in

@@ -43,7 +43,7 @@ use Rattle.link.specs.Link.{judgedFrame}
 use Rattle.link.specs.Frames.{controlOf}
 use Rattle.conduct.specs.Comes.{Comes, unread, scans, assigns, begins, declines, renews, leaves, miscounts}
 use Rattle.conduct.specs.Comes.{unknown, starts, clears, subscribes, answers, murmurs, repeats, resends}
-use Rattle.conduct.specs.Comes.{delivers, indicates, rests, pauses, heard, replied, left, says}
+use Rattle.conduct.specs.Comes.{delivers, indicates, rests, pauses, unansweredAs, answeredAs, left, says}
 use Rattle.conduct.specs.Spelt.{rr, info, kept, indication, pendingSaid, again, sentNumber, frmr, resultSaid}
 use Rattle.conduct.specs.Spelt.{scanSaid, assignmentSaid, octetsSaid}
 use Rattle.conduct.proofs.Settles.{r-kept}
@@ -211,14 +211,14 @@ module _ (d : Device) (s : Session) (r : ℕ) (good : goodNumber s r ≡ true) w
     rests-says = same-frame (address-kept (d .station) s r) (ap rrOf (r-kept s r) ∙ rr-control (s .r)) refl
 
     heard-says : (told : Alarms) (sub : Bool)
-        → frameBy (heard d s r n told sub) (ready (taken (sessionAfter s r))) ≡ rr (d .station .address) (s .r + 1)
+        → frameBy (unansweredAs d s r n told sub) (ready (taken (sessionAfter s r))) ≡ rr (d .station .address) (s .r + 1)
     unfolding frameBy isSilent controlBy payloadBy deviceOf heeded taken rr
     heard-says told sub =
         same-frame (address-kept (d .station) s r) (ap (λ (k : ℕ). rrOf (nextOf k)) (r-kept s r) ∙ rr-next (s .r)) refl
 
     -- an answer
     replied-says : (told : Alarms) (sub : Bool) (b : List ℕ)
-        → frameBy (replied d s r n told sub b) (pend (taken (sessionAfter s r)))
+        → frameBy (answeredAs d s r n told sub b) (pend (taken (sessionAfter s r)))
         ≡ info (d .station .address) r (s .r + 1) b
     unfolding frameBy isSilent controlBy payloadBy deviceOf answersWith awaiting heeded taken linkOctets pendingOctets
         info

@@ -4,7 +4,7 @@
 --   Delivers d f b  == f is RR, and collects the waiting result b
 --   Tells d f       == f is RR, and gets an alarm indication
 --   Acknowledges d f == f has a good N(R) that removes the pending answer
---   counted d f s t == t is the session s after f: R moved by an acceptance alone, S by an acknowledgement alone
+--   Continues d f s t == t is the session s after f: R moved by an acceptance alone, S by an acknowledgement alone
 --   Account d f     == what f changes of d
 -- Assumes nothing.
 use mathlib.Core.Path.{_≡_}
@@ -58,7 +58,7 @@ abbrev pub Acknowledges : Device → List ℕ → Type 0
 Acknowledges d f = (s : Session) × Acknowledging d f s
 
 -- the session t after the frame f, where f does not end the session s
-pub record Counted (d : Device) (f : List ℕ) (s t : Session) : Type 0 where
+pub record Continues (d : Device) (f : List ℕ) (s t : Session) : Type 0 where
   -- "an I-frame with N(S) = R and nothing pending is accepted: R moves on"
   pub accepted : AnyAccepted d f s → t .r ≡ nextOf (s .r)
   pub unaccepted : (AnyAccepted d f s → ⊥) → t .r ≡ s .r
@@ -82,7 +82,7 @@ pub record Account (d : Device) (f : List ℕ) : Type 0 where
       → after d f .station .link ≡ Connected newSession
   pub link-ended : Ends d f → (Own d f Snrm → ⊥) → after d f .station .link ≡ AddressAssigned
   pub link-counted : (s : Session) → d .station .link ≡ Connected s → (Ends d f → ⊥)
-      → (t : Session) × (after d f .station .link ≡ Connected t) × Counted d f s t
+      → (t : Session) × (after d f .station .link ≡ Connected t) × Continues d f s t
   pub link-kept : ((s : Session) → d .station .link ≡ Connected s → ⊥) → (Drops d f → ⊥)
       → after d f .station .link ≡ d .station .link
   -- "raised and told become empty"; no other message, and no other frame, changes what is raised

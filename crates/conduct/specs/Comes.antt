@@ -1,6 +1,8 @@
 -- What comes of a frame, whole: 01, "The link", case by case. Every frame is one of these to a device, whatever the
 -- record (proofs/Comes.antt), and each says which device the frame leaves, and what is said.
 --   Comes d f    == what the frame f is to the device d
+--   unansweredAs d s r n told sub, answeredAs d s r n told sub b == d after a message that was accepted in its session s with
+--                   N(R) = r: the antenna, what was told and the subscription as the message leaves them, and the answer b
 --   left d f c   == the device after it; says d f c == what it says
 -- Assumes nothing.
 use mathlib.Core.Path.{_≡_}
@@ -86,12 +88,12 @@ pub data Comes (d : Device) (f : List ℕ) : Type 0 where
 
 -- after an accepted I-frame with N(R) = r: "R moves on", with the antenna n, what was told and the subscription; an
 -- answer b becomes pending, too
-abbrev pub heard : Device → Session → ℕ → Antenna → Alarms → Bool → Device
-heard d s r n told sub =
+abbrev pub unansweredAs : Device → Session → ℕ → Antenna → Alarms → Bool → Device
+unansweredAs d s r n told sub =
     deviceOf d (heeded (stationAfter (d .station) s r) (taken (sessionAfter s r)) told sub) n
 
-abbrev pub replied : Device → Session → ℕ → Antenna → Alarms → Bool → List ℕ → Device
-replied d s r n told sub b =
+abbrev pub answeredAs : Device → Session → ℕ → Antenna → Alarms → Bool → List ℕ → Device
+answeredAs d s r n told sub b =
     let t = taken (sessionAfter s r) in
     deviceOf d (answersWith (heeded (stationAfter (d .station) s r) t told sub) t (payloadOf b)) n
 
@@ -106,15 +108,15 @@ left d f (leaves s w l) = released d
 left d f (miscounts s o r w l n b) = released d
 left d f (unknown s w l) = released d
 left d f (starts s n r w due) =
-    heard d s r (moves (d .antenna) (Owing (askedOf (drop 2 f)))) (stationAfter (d .station) s r .told)
+    unansweredAs d s r (moves (d .antenna) (Owing (askedOf (drop 2 f)))) (stationAfter (d .station) s r .told)
     (d .station .subscribed)
-left d f (clears s n r w m) = replied d s r (quieted (d .antenna)) calm (d .station .subscribed) (successOf 0x06 [])
+left d f (clears s n r w m) = answeredAs d s r (quieted (d .antenna)) calm (d .station .subscribed) (successOf 0x06 [])
 left d f (subscribes s n r w m) =
-    replied d s r (d .antenna) (stationAfter (d .station) s r .told) true (successOf 0x12 [])
+    answeredAs d s r (d .antenna) (stationAfter (d .station) s r .told) true (successOf 0x12 [])
 left d f (answers s n r b w e) =
-    replied d s r (d .antenna) (stationAfter (d .station) s r .told) (d .station .subscribed) b
+    answeredAs d s r (d .antenna) (stationAfter (d .station) s r .told) (d .station .subscribed) b
 left d f (murmurs s n r w h) =
-    heard d s r (d .antenna) (stationAfter (d .station) s r .told) (d .station .subscribed)
+    unansweredAs d s r (d .antenna) (stationAfter (d .station) s r .told) (d .station .subscribed)
 left d f (repeats s n r w a) = acknowledged d s r
 left d f (resends s r w p) = acknowledged d s r
 left d f (delivers s r reached w p q) =

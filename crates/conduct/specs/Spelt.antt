@@ -1,5 +1,7 @@
 -- What is said of a frame, octet by octet: 01, "The link", "XID: scan and assignment" and "Messages". A row for each
--- case of specs/Comes, in 01's octets; `says-octets` of proofs/Says says that this is what a device says.
+-- case of specs/Comes, in 01's octets; `says-octets` of proofs/Says says that this is what a device says. The row of a
+-- message that is answered at once and changes nothing has its answer b, whose octets are message's (message/proofs/Tells
+-- for 0x04, 0x05 and 0x34, message/proofs/Fails, Exact and Words for each failure).
 --   rr a r              == RR from the address a, with N(R) = r
 --   info a s r m        == the I-frame from a with N(S) = s, N(R) = r and the payload m
 --   kept s r            == what is pending in the session s after a good N(R) = r
