@@ -1,7 +1,7 @@
 -- What an acknowledgement does to a session and its station. 01, "The link".
 --   emptied s       == the session s once its pending answer is acknowledged: S moves on
---   toldAfter t p   == what is told once p, pending, is acknowledged
---   settled t s     == the station t once the pending answer of its session s is acknowledged
+--   toldAfter k p   == what is told once p, pending at the desk k, is acknowledged
+--   relieved t s    == the station t once the pending answer of its session s is acknowledged
 --   sessionAfter s n, stationAfter t s n == after a good N(R) = n
 --   acknowledged d s n == the device d, in its session s, after a good N(R) = n
 -- Assumes nothing.
@@ -13,9 +13,11 @@ use Rattle.record.specs.declared.Pending.{Pending}
 use Rattle.record.specs.declared.Pending.the-variants.{Nothing, Answer, Indication}
 use Rattle.record.specs.declared.Session.{Session}
 use Rattle.record.specs.declared.Link.the-variants.{Connected}
+use Rattle.record.specs.declared.Desk.{Desk}
 use Rattle.record.specs.declared.Station.{Station}
 use Rattle.record.specs.declared.Device.{Device}
-use Rattle.record.specs.Changes.{unsaidAt, deviceOf}
+use Rattle.record.specs.Desk.{withTold, unsaid}
+use Rattle.record.specs.Changes.{deviceOf}
 use Rattle.session.specs.Session.{acknowledges}
 
 -- "which removes it and moves S on"
@@ -23,30 +25,23 @@ unfoldable pub emptied : Session → Session
 emptied s = record { r = s .r; s = nextOf (s .s); pending = Nothing }
 
 -- "Told is updated when the indication is acknowledged, to what it said."
-unfoldable pub toldAfter : Station → Pending → Alarms
-toldAfter t Nothing = t .told
-toldAfter t Answer = t .told
-toldAfter t Indication = t .said
+unfoldable pub toldAfter : Desk → Pending → Alarms
+toldAfter k Nothing = k .told
+toldAfter k Answer = k .told
+toldAfter k Indication = k .said
 
-unfoldable pub retold : Station → Alarms → Station
-retold t a =
+unfoldable pub relieved : Station → Session → Station
+relieved t s =
     record {
-      address = t .address;
-      link = t .link;
-      subscribed = t .subscribed;
-      told = a;
-      said = t .said;
-      reply = t .reply;
+      link = Connected (emptied s);
+      desk = unsaid (withTold (t .desk) (toldAfter (t .desk) (s .pending)));
     }
-
-unfoldable pub settled : Station → Session → Station
-settled t s = unsaidAt (retold t (toldAfter t (s .pending))) (t .address) (Connected (emptied s))
 
 unfoldable pub sessionAfter : Session → ℕ → Session
 sessionAfter s n = cond (acknowledges s n) (emptied s) s
 
 unfoldable pub stationAfter : Station → Session → ℕ → Station
-stationAfter t s n = cond (acknowledges s n) (settled t s) t
+stationAfter t s n = cond (acknowledges s n) (relieved t s) t
 
 unfoldable pub acknowledged : Device → Session → ℕ → Device
 acknowledged d s n = deviceOf d (stationAfter (d .station) s n) (d .antenna)

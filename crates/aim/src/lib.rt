@@ -21,8 +21,9 @@ fn at_most(a: Angle, b: Angle) -> bool
 pub fn in_range(antenna: Antenna, t: Angle) -> bool
     ensures { λ r. ⌜ r ≡ inRange antenna t ⌝ }
 {
-    let lowest = antenna.lowest;
-    let highest = antenna.highest;
+    let drive = antenna.drive;
+    let lowest = drive.lowest;
+    let highest = drive.highest;
     if at_most(lowest, t) {
         at_most(t, highest)
     } else {
@@ -42,10 +43,14 @@ pub fn aim_at(antenna: Antenna, t: Angle) -> Aimed
         };
     }
     if in_range(antenna, t) {
-        let moved = antenna::in_motion(antenna, Motion::Owing { asked: t });
+        let drive = antenna.drive;
+        let antenna = Antenna {
+            motion: Motion::Owing { asked: t },
+            drive,
+        };
         return Aimed {
             aim: Aim::Started,
-            antenna: moved,
+            antenna,
         };
     }
     Aimed {

@@ -55,10 +55,10 @@ both-exactly a b = (and-parts a b, λ w. rw (w .0, w .1))
 
 -- "lowest ≤ present ≤ highest", and "out of range"
 pub range-exactly : (n : Antenna) (t : Angle)
-    → inRange n t ≡ true ↔ (n .lowest .tenths ≤ℤ t .tenths) × (t .tenths ≤ℤ n .highest .tenths)
+    → inRange n t ≡ true ↔ (n .drive .lowest .tenths ≤ℤ t .tenths) × (t .tenths ≤ℤ n .drive .highest .tenths)
 unfolding inRange
 range-exactly n t =
-    let low = at-most-exactly (n .lowest) t in
-    let high = at-most-exactly t (n .highest) in
-    Iff·trans (both-exactly (atMost (n .lowest) t) (atMost t (n .highest)))
+    let low = at-most-exactly (n .drive .lowest) t in
+    let high = at-most-exactly t (n .drive .highest) in
+    Iff·trans (both-exactly (atMost (n .drive .lowest) t) (atMost t (n .drive .highest)))
     (λ w. (low .0 (w .0), high .0 (w .1)), λ w. (low .1 (w .0), high .1 (w .1)))

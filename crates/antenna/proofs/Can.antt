@@ -42,7 +42,7 @@ runs-exactly (Stopped reached) = (
 
 -- "a stop with no movement, t outside lowest to highest": it can be exactly if neither is so
 pub stop-exactly : (n : Antenna) (t : Angle) → canStop n t ≡ true
-    ↔ Runs (n .motion) × (n .lowest .tenths ≤ℤ t .tenths) × (t .tenths ≤ℤ n .highest .tenths)
+    ↔ Runs (n .motion) × (n .drive .lowest .tenths ≤ℤ t .tenths) × (t .tenths ≤ℤ n .drive .highest .tenths)
 unfolding canStop
 stop-exactly n t =
     let run = runs-exactly (n .motion) in

@@ -14,6 +14,7 @@ use Rattle.antenna.specs.Alarms.{alarmCodes}
 use Rattle.antenna.specs.Motions.{inRange, runs}
 use Rattle.antenna.specs.declared.Motion.{Motion}
 use Rattle.antenna.specs.Events.{restedOf, at, canStop, stoppedAt, withAlarm, isAlarm, alarmedOf}
+use Rattle.antenna.specs.Events.{tilted, marked}
 
 and-false : (a : Bool) → (a && false) ≡ false
 and-false true = refl
@@ -22,7 +23,7 @@ and-false false = refl
 module _ (n : Antenna) (t : Angle) where
   pub stops : {m : Motion} → runs (n .motion) ≡ true → inRange n t ≡ true → m ≡ restedOf (n .motion) t
       → stoppedAt n t
-      ≡ gives (record { lowest = n .lowest; highest = n .highest; tilt = t; motion = m; raised = n .raised })
+      ≡ gives (record { motion = m; drive = tilted (n .drive) t })
   unfolding stoppedAt canStop answered at
   stops r h e = rw (r, h, e)
 
@@ -38,11 +39,8 @@ module _ (n : Antenna) (k : ℕ) (on : Bool) {place : ℕ} (e : place ≡ placeO
   pub known : place < 6 → alarmedOf n k on
       ≡ gives
       (record {
-        lowest = n .lowest;
-        highest = n .highest;
-        tilt = n .tilt;
         motion = n .motion;
-        raised = record { flags = set (n .raised .flags) place on };
+        drive = marked (n .drive) (record { flags = set (n .drive .raised .flags) place on });
       })
   unfolding alarmedOf isAlarm answered withAlarm
   known h = rw (place-held k alarmCodes, ← e, lt-ltb place 6 h)

@@ -2,7 +2,7 @@
 pub mod Aims
 pub mod Angles
 pub mod Awaits
-pub mod Differ
+pub mod Differences
 pub mod Can
 pub mod Codes
 pub mod Flags

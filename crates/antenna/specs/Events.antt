@@ -1,5 +1,6 @@
 -- What happens to a drive: the motor stops, an alarm rises or falls.
 --   restedOf m t     == the motion after a stop at t
+--   tilted v t, marked v a == the drive v at the tilt t; with the alarms a raised
 --   canStop n t      == the motor can stop at t; at n t == the antenna then
 --   Runs m           == a movement runs, owed or not
 --   isAlarm k        == k is the code of an alarm; withAlarm n k on == the antenna with that alarm raised or cleared
@@ -14,8 +15,10 @@ use Prim.Native.Nat.{ℕ}
 use lib.ListN.{set}
 use Rattle.octets.specs.Octets.{holds, placeOf}
 use Rattle.refusal.specs.Answer.{Answer, _when_, answered}
+use Rattle.antenna.specs.declared.Alarms.{Alarms}
 use Rattle.antenna.specs.declared.Angle.{Angle}
 use Rattle.antenna.specs.declared.Antenna.{Antenna}
+use Rattle.antenna.specs.declared.Drive.{Drive}
 use Rattle.antenna.specs.declared.Motion.{Motion}
 use Rattle.antenna.specs.declared.Motion.the-variants.{Still, Moving, Owing, Stopped}
 use Rattle.antenna.specs.Angles.{sameAs}
@@ -29,10 +32,16 @@ restedOf Moving t = Still
 restedOf (Owing asked) t = Stopped (sameAs asked t)
 restedOf (Stopped reached) t = Stopped reached
 
+-- a drive with one of its fields changed
+abbrev pub tilted : Drive → Angle → Drive
+tilted v t = record { lowest = v .lowest; highest = v .highest; tilt = t; raised = v .raised }
+
+abbrev pub marked : Drive → Alarms → Drive
+marked v a = record { lowest = v .lowest; highest = v .highest; tilt = v .tilt; raised = a }
+
 -- "the tilt is t"
 unfoldable pub at : Antenna → Angle → Antenna
-at n t =
-    record { lowest = n .lowest; highest = n .highest; tilt = t; motion = restedOf (n .motion) t; raised = n .raised }
+at n t = record { motion = restedOf (n .motion) t; drive = tilted (n .drive) t }
 
 -- "Refusal 8: a stop with no movement, t outside lowest to highest"
 unfoldable pub canStop : Antenna → Angle → Bool
@@ -49,11 +58,8 @@ stoppedAt n t = answered (8 when not (canStop n t) ∷ []) (at n t)
 unfoldable pub withAlarm : Antenna → ℕ → Bool → Antenna
 withAlarm n k on =
     record {
-      lowest = n .lowest;
-      highest = n .highest;
-      tilt = n .tilt;
       motion = n .motion;
-      raised = record { flags = set (n .raised .flags) (placeOf k alarmCodes) on };
+      drive = marked (n .drive) (record { flags = set (n .drive .raised .flags) (placeOf k alarmCodes) on });
     }
 
 -- "an alarm not among .."

@@ -32,7 +32,7 @@ use Rattle.antenna.specs.declared.Aimed.{Aimed}
 use Rattle.antenna.specs.Angles.{atMost}
 
 unfoldable pub inRange : Antenna → Angle → Bool
-inRange n t = atMost (n .lowest) t && atMost t (n .highest)
+inRange n t = atMost (n .drive .lowest) t && atMost t (n .drive .highest)
 
 -- "Set and get tilt are busy while moving or while a result waits"
 unfoldable pub busyOf : Motion → Bool
@@ -67,7 +67,7 @@ unowedOf (Owing asked) = Moving
 unowedOf (Stopped reached) = Still
 
 unfoldable pub moves : Antenna → Motion → Antenna
-moves n m = record { lowest = n .lowest; highest = n .highest; tilt = n .tilt; motion = m; raised = n .raised }
+moves n m = record { motion = m; drive = n .drive }
 
 -- "busy, 0x05; out of range, 0x13"
 abbrev pub driveRows : Bool → Bool → List Row

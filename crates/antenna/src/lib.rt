@@ -1,9 +1,9 @@
 // One drive: its range, its tilt, its movement and its alarms. What is asked of it is in `aim`, what happens to it in
-// `motor` and `alarms`; the definitions of all three and the laws about them are here. Assumes nothing of its caller.
+// `event`; the definitions of both and the laws about them are here. Assumes nothing of its caller.
 // Headline: a movement starts only where nothing moves or waits and the tilt asked is in range (proofs/Movements.antt).
 ghost use mathlib.Core.Path.{_≡_};
-ghost use Rattle.antenna.specs.Motions.{busyOf, owesOf, Awaits, moves, unowedOf};
-use refusal::Outcome;
+ghost use Rattle.antenna.specs.Alarms.{differs, anyDiffer};
+ghost use Rattle.antenna.specs.Motions.{busyOf};
 
 // Tenths of a degree.
 pub struct Angle {
@@ -17,6 +17,9 @@ pub struct Alarms {
 
 pub const CODES: [u8; 6] = [0x02, 0x03, 0x0E, 0x0F, 0x11, 0x27];
 
+// No alarm.
+pub const CALM: Alarms = Alarms { flags: [false; 6] };
+
 // Nothing moves or waits; a movement that owes nothing; one whose result is owed; a result that waits.
 pub enum Motion {
     Still,
@@ -25,12 +28,17 @@ pub enum Motion {
     Stopped { reached: bool },
 }
 
-pub struct Antenna {
+// All of an antenna but its motion: who changes one field copies the rest as one.
+pub struct Drive {
     pub lowest: Angle,
     pub highest: Angle,
     pub tilt: Angle,
-    pub motion: Motion,
     pub raised: Alarms,
+}
+
+pub struct Antenna {
+    pub motion: Motion,
+    pub drive: Drive,
 }
 
 // What becomes of a tilt that is asked.
@@ -46,14 +54,9 @@ pub enum Waits {
     Result { reached: bool },
 }
 
-// An antenna after a tilt was asked, and after an event.
+// An antenna after a tilt was asked.
 pub struct Aimed {
     pub aim: Aim,
-    pub antenna: Antenna,
-}
-
-pub struct Changed {
-    pub outcome: Outcome,
     pub antenna: Antenna,
 }
 
@@ -69,55 +72,22 @@ pub fn busy(motion: Motion) -> bool
     }
 }
 
-// Whether a tilt result is owed: a running movement's, or one that waits.
-pub fn owes(motion: Motion) -> bool
-    ensures { λ r. ⌜ r ≡ owesOf motion ⌝ }
+fn differs(a: bool, b: bool) -> bool
+    ensures { λ r. ⌜ r ≡ differs a b ⌝ }
 {
-    match motion {
-        Motion::Still => false,
-        Motion::Moving => false,
-        Motion::Owing { asked: _ } => true,
-        Motion::Stopped { reached: _ } => true,
-    }
+    if a { !b } else { b }
 }
 
-// The result that waits, if one does.
-pub fn waiting(motion: Motion) -> Waits
-    ensures { λ r. ⌜ Awaits motion r ⌝ }
+// Whether two rows of alarm flags differ somewhere.
+pub fn differ(a: [bool; 6], b: [bool; 6]) -> bool
+    ensures { λ r. ⌜ r ≡ anyDiffer a b ⌝ }
 {
-    match motion {
-        Motion::Still => Waits::Nothing,
-        Motion::Moving => Waits::Nothing,
-        Motion::Owing { asked: _ } => Waits::Nothing,
-        Motion::Stopped { reached } => Waits::Result { reached },
+    let mut i = 0;
+    while i < 6 {
+        if differs(a[i], b[i]) {
+            return true;
+        }
+        i += 1;
     }
-}
-
-// A result owed is dropped; a running movement stays.
-pub fn unowed(motion: Motion) -> Motion
-    ensures { λ r. ⌜ r ≡ unowedOf motion ⌝ }
-{
-    match motion {
-        Motion::Still => Motion::Still,
-        Motion::Moving => Motion::Moving,
-        Motion::Owing { asked: _ } => Motion::Moving,
-        Motion::Stopped { reached: _ } => Motion::Still,
-    }
-}
-
-// The antenna with another motion.
-pub fn in_motion(antenna: Antenna, motion: Motion) -> Antenna
-    ensures { λ r. ⌜ r ≡ moves antenna motion ⌝ }
-{
-    let lowest = antenna.lowest;
-    let highest = antenna.highest;
-    let tilt = antenna.tilt;
-    let raised = antenna.raised;
-    Antenna {
-        lowest,
-        highest,
-        tilt,
-        motion,
-        raised,
-    }
+    false
 }

@@ -9,7 +9,7 @@ use record::Device;
 use record::Link;
 use record::Payload;
 use record::Pending;
-use record::Station;
+use record::Desk;
 use terms::Term;
 
 // A word behind a space.
@@ -41,13 +41,13 @@ fn pending_of(link: Link) -> Pending
     }
 }
 
-fn say_pending(pending: Pending, station: Station) {
+fn say_pending(pending: Pending, desk: Desk) {
     match pending {
         Pending::Nothing => say_word(Term::Pending(pending)),
-        Pending::Answer => say_payload(b' ', station.reply, 0),
+        Pending::Answer => say_payload(b' ', desk.reply, 0),
         Pending::Indication => {
             say_word(Term::Pending(pending));
-            say_payload(b':', report::indication(station.said, station.told), 0);
+            say_payload(b':', report::indication(desk.said, desk.told), 0);
         }
     }
 }
@@ -68,13 +68,15 @@ pub fn show(device: Device) {
     let station = device.station;
     let antenna = device.antenna;
     let link = station.link;
+    let desk = station.desk;
     let motion = antenna.motion;
+    let drive = antenna.drive;
     say_link(link);
-    answers::say_number(b' ', station.address as usize);
-    say_pending(pending_of(link), station);
+    answers::say_number(b' ', desk.address as usize);
+    say_pending(pending_of(link), desk);
     say_drive(motion);
-    answers::say_tilt(b' ', antenna.tilt);
-    say_alarms(antenna.raised);
-    say_alarms(station.told);
-    answers::say_number(b' ', station.subscribed as usize);
+    answers::say_tilt(b' ', drive.tilt);
+    say_alarms(drive.raised);
+    say_alarms(desk.told);
+    answers::say_number(b' ', desk.subscribed as usize);
 }

@@ -109,7 +109,7 @@ whole-end i =
 
 pub each-holds : (xs : List (List ℕ)) (a : ℕ) (d : Device) → Listed a xs → allowedDevice d ≡ true → NoRightEnd xs
     → (k : ℕ) → k < length xs → paddedIn d ≡ getD xs k []
-    → (each a xs d .station .address ≡ a + k) × (each a xs d .station .link ≡ AddressAssigned)
+    → (each a xs d .station .desk .address ≡ a + k) × (each a xs d .station .link ≡ AddressAssigned)
 unfolding afterLines assignments endedAs unsaidAt
 each-holds [] a d l e ends k h p = absurd (not-suc-le-zero h)
 each-holds (x ∷ xs) a d l e ends zero h p =
@@ -125,8 +125,8 @@ each-holds (x ∷ xs) a d l e ends zero h p =
     at (ap (each (suc a) xs) now ∙ rest)
   where
     at : {b : Device} → b ≡ endedAs d a AddressAssigned
-        → (b .station .address ≡ a + 0) × (b .station .link ≡ AddressAssigned)
-    at g = (ap (λ (b : Device). b .station .address) g ∙ omega arith, ap (λ (b : Device). b .station .link) g)
+        → (b .station .desk .address ≡ a + 0) × (b .station .link ≡ AddressAssigned)
+    at g = (ap (λ (b : Device). b .station .desk .address) g ∙ omega arith, ap (λ (b : Device). b .station .link) g)
 each-holds (x ∷ xs) a d l e ends (suc k) h p =
     let one = line-kept a x xs l d e in
     let same : paddedIn (afterLine d (assigning a x)) ≡ getD xs k [] =

@@ -40,7 +40,7 @@ abbrev pub after : ℕ → List Device → List Device
 after limit ds = assignedAll (listOf (scanned limit ds .scan)) (scanned limit ds .devices)
 
 abbrev pub addressesAfter : ℕ → List Device → List ℕ
-addressesAfter limit ds = map (λ (d : Device). d .station .address) (after limit ds)
+addressesAfter limit ds = map (λ (d : Device). d .station .desk .address) (after limit ds)
 
 fresh-good : (i : List ℕ) → dataAllowed i [] [] [] (freshAntenna level level level) ≡ true
     → allowedDevice (freshNamed i) ≡ true

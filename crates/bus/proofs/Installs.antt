@@ -54,7 +54,7 @@ module _ (ds : List Device) (c : Cabled ds) (xs : List (List ℕ)) (few : length
 
   module _ (ends : NoRightEnd xs) where
     held : (d : Device) → List·Memᴰ d ds → (k : ℕ) → k < length xs → paddedIn d ≡ getD xs k []
-        → (last d .station .address ≡ suc k) × (last d .station .link ≡ AddressAssigned)
+        → (last d .station .desk .address ≡ suc k) × (last d .station .link ≡ AddressAssigned)
     held d m k h p =
         let (a, l) = each-holds xs 1 d row-listed (c .allowed d m) ends k h p in
         (a ∙ omega arith, l)
@@ -64,7 +64,7 @@ module _ (ds : List Device) (c : Cabled ds) (xs : List (List ℕ)) (few : length
         let (k, h, p) = device-place d m in
         record { allowed = last-kept d m .allowed; has = ap hasAddress (held d m k h p .1) }
 
-    tells : (d e : Device) → List·Memᴰ d ds → List·Memᴰ e ds → last d .station .address ≡ last e .station .address
+    tells : (d e : Device) → List·Memᴰ d ds → List·Memᴰ e ds → last d .station .desk .address ≡ last e .station .desk .address
         → paddedIn d ≡ paddedIn e
     tells d e m n q =
         let (j, h, p) = device-place d m in
@@ -72,10 +72,10 @@ module _ (ds : List Device) (c : Cabled ds) (xs : List (List ℕ)) (few : length
         let same : j ≡ k = omega (arith, held d m j h p .0, held e n k i r .0, q) in
         p ∙ ap (λ (x : ℕ). getD xs x []) same ∙ sym r
 
-    differ : Different (map (λ (e : Device). e .station .address) (map last ds))
+    differ : Different (map (λ (e : Device). e .station .desk .address) (map last ds))
     differ =
-        subst Different (sym (map-twice (λ (e : Device). e .station .address) last ds))
-        (different-by paddedIn (λ (d : Device). last d .station .address) ds tells (c .apart))
+        subst Different (sym (map-twice (λ (e : Device). e .station .desk .address) last ds))
+        (different-by paddedIn (λ (d : Device). last d .station .desk .address) ds tells (c .apart))
 
     each-installed : Installed xs ds (map last ds)
     each-installed =
@@ -89,7 +89,7 @@ module _ (ds : List Device) (c : Cabled ds) (xs : List (List ℕ)) (few : length
           holds = λ e m k h p.
               let (d, n, q) = map-in last ds e m in
               let (a, l) = held d n k h (sym (ap paddedIn q ∙ last-padded d n) ∙ p) in (
-                ap (λ (b : Device). b .station .address) q ∙ a,
+                ap (λ (b : Device). b .station .desk .address) q ∙ a,
                 ap (λ (b : Device). b .station .link) q ∙ l,
               );
           differ = differ;
@@ -99,9 +99,9 @@ module _ (ds : List Device) (c : Cabled ds) (xs : List (List ℕ)) (few : length
           alone = λ e o m n other.
               let (d, k, q) = map-in last ds e m in
               let (b, i, r) = map-in last ds o n in
-              let apart : (last b .station .address ≡ last d .station .address → ⊥) =
-              λ w. other (ap (λ (x : Device). x .station .address) r ∙ w
-              ∙ sym (ap (λ (x : Device). x .station .address) q)) in
+              let apart : (last b .station .desk .address ≡ last d .station .desk .address → ⊥) =
+              λ w. other (ap (λ (x : Device). x .station .desk .address) r ∙ w
+              ∙ sym (ap (λ (x : Device). x .station .desk .address) q)) in
               rw (q, r) (snrm-alone (last d) (ready d k) (last b) (last-kept b i .allowed) apart);
           connected = all-begin (map last ds)
               (λ e m. let (d, n, q) = map-in last ds e m in rw q (ready d n)) differ;

@@ -28,25 +28,25 @@ use Rattle.bus.proofs.Installs.{row-listed, last-padded, row-installed}
 
 -- addresses only rise
 each-rises : (xs : List (List ℕ)) (a b : ℕ) (d : Device) → Listed a xs → allowedDevice d ≡ true
-    → b ≤ a → b ≤ d .station .address → b ≤ each a xs d .station .address
+    → b ≤ a → b ≤ d .station .desk .address → b ≤ each a xs d .station .desk .address
 unfolding afterLines assignments endedAs unsaidAt
 each-rises [] a b d l e h k = k
 each-rises (x ∷ xs) a b d l e h k =
     each-rises xs (suc a) b (afterLine d (assigning a x)) (listed-more l) (line-kept a x xs l d e .allowed)
     (omega arith) (rw (line-is a x xs l d e) (go (endsWith (identityIn d) (unpadded x))))
   where
-    go : (t : Bool) → b ≤ cond t (endedAs d a AddressAssigned) d .station .address
+    go : (t : Bool) → b ≤ cond t (endedAs d a AddressAssigned) d .station .desk .address
     go true = h
     go false = k
 
 -- an assignment to a right end is taken
 each-late : (xs : List (List ℕ)) (a : ℕ) (d : Device) → Listed a xs → allowedDevice d ≡ true
-    → (k : ℕ) → k < length xs → EndOf (identityIn d) (unpadded (getD xs k [])) → a + k ≤ each a xs d .station .address
+    → (k : ℕ) → k < length xs → EndOf (identityIn d) (unpadded (getD xs k [])) → a + k ≤ each a xs d .station .desk .address
 unfolding afterLines assignments endedAs unsaidAt
 each-late [] a d l e k h w = absurd (not-suc-le-zero h)
 each-late (x ∷ xs) a d l e zero h w =
-    let now : afterLine d (assigning a x) .station .address ≡ a =
-    ap (λ (b : Device). b .station .address) (taken a x xs l d e w) in
+    let now : afterLine d (assigning a x) .station .desk .address ≡ a =
+    ap (λ (b : Device). b .station .desk .address) (taken a x xs l d e w) in
     each-rises xs (suc a) (a + 0) (afterLine d (assigning a x)) (listed-more l) (line-kept a x xs l d e .allowed)
     (omega arith) (omega (arith, now))
 each-late (x ∷ xs) a d l e (suc k) h w =
@@ -84,9 +84,9 @@ module _ (ds : List Device) (c : Cabled ds) (xs : List (List ℕ)) (few : length
           let e : Device = each 1 xs d in
           let own : unpadded (getD xs j []) ≡ identityIn d =
           ap unpadded p ∙ unpadded-padded (identityIn d) (identity-allowed d (c .allowed d m)) in
-          let here : e .station .address ≡ suc j =
+          let here : e .station .desk .address ≡ suc j =
           es .holds e (map-out (each 1 xs) ds d m) j (omega arith) (last-padded ds c xs few members d m ∙ sym p) .0 in
-          let late : 1 + k ≤ e .station .address =
+          let late : 1 + k ≤ e .station .desk .address =
           each-late xs 1 d (row-listed ds c xs few members) (c .allowed d m) k i
           (subst (λ (v : List ℕ). EndOf v (unpadded (getD xs k []))) own q) in
           omega arith

@@ -70,7 +70,7 @@ module _ (d e : Device) (good : allowedDevice d ≡ true) (fine : allowedDevice 
 
   -- the second is the right end of the first: both take its address
   pub pair-moved : EndOf (identityIn d) (identityIn e)
-      → map (λ (b : Device). b .station .address)
+      → map (λ (b : Device). b .station .desk .address)
       (assignedAll (listOf (scanned limit pair .scan)) (scanned limit pair .devices))
       ≡ 2 ∷ 2 ∷ []
   unfolding afterLines assignments endedAs unsaidAt
@@ -79,18 +79,18 @@ module _ (d e : Device) (good : allowedDevice d ≡ true) (fine : allowedDevice 
       (ap₂ (λ (m n : ℕ). m ∷ n ∷ []) (late d good w) (late e fine (whole-end (identityIn e))))
     where
       late : (b : Device) → allowedDevice b ≡ true → EndOf (identityIn b) (identityIn e)
-          → each 1 both b .station .address ≡ 2
+          → each 1 both b .station .desk .address ≡ 2
       late b a v =
           let kept = line-kept 1 (paddedIn d) (paddedIn e ∷ []) listed b a in
           let own : identityIn (afterLine b (assigning 1 (paddedIn d))) ≡ identityIn b = ap identityOf (kept .plate) in
           let end : EndOf (identityIn (afterLine b (assigning 1 (paddedIn d)))) (unpadded (paddedIn e)) =
           rw (own, unpadded-padded (identityIn e) (identity-allowed e fine)) v in
-          ap (λ (z : Device). z .station .address)
+          ap (λ (z : Device). z .station .desk .address)
           (taken 2 (paddedIn e) [] (listed-more listed) (afterLine b (assigning 1 (paddedIn d))) (kept .allowed) end)
 
   -- it is not: each has its own
   pub pair-kept : (EndOf (identityIn d) (identityIn e) → ⊥)
-      → map (λ (b : Device). b .station .address)
+      → map (λ (b : Device). b .station .desk .address)
       (assignedAll (listOf (scanned limit pair .scan)) (scanned limit pair .devices))
       ≡ 1 ∷ 2 ∷ []
   pair-kept other =
@@ -111,5 +111,5 @@ module _ (d e : Device) (good : allowedDevice d ≡ true) (fine : allowedDevice 
       )
 
       held : (b : Device) → allowedDevice b ≡ true → (k : ℕ) → k < 2 → paddedIn b ≡ getD both k []
-          → each 1 both b .station .address ≡ 1 + k
+          → each 1 both b .station .desk .address ≡ 1 + k
       held b a k h p = each-holds both 1 b listed a apart k h p .0

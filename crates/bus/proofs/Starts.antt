@@ -54,44 +54,44 @@ pub record Ready (d : Device) : Type 0 where
 
 module _ (d : Device) (w : Ready d) where
   -- the address is one of 1 to 254
-  address-bounds : (1 ≤ d .station .address) × (d .station .address ≤ 254)
+  address-bounds : (1 ≤ d .station .desk .address) × (d .station .desk .address ≤ 254)
   unfolding stationAllowed addressed
   address-bounds =
-      let a = d .station .address in
+      let a = d .station .desk .address in
       let parts =
       and-parts (ltb 0 a) (ltb a 255)
       (has-addressed (d .station) (d .station .link) (sound d (w .allowed) .station) (w .has)) in
       (ltb-true 0 a (parts .0), omega (arith, ltb-true a 255 (parts .1)))
 
   pub snrm-heard : hears d (snrmFor d)
-      ≡ gives (record { device = begun d; frame = some (d .station .address ∷ 0x73 ∷ []) })
+      ≡ gives (record { device = begun d; frame = some (d .station .desk .address ∷ 0x73 ∷ []) })
   unfolding saying reacts frameBy isSilent controlBy payloadBy begun endedAs unsaidAt
   snrm-heard =
       let (least, most) = address-bounds in
-      hears-written d (d .station .address) 0x93 [] (w .allowed) (omega arith) (omega arith)
+      hears-written d (d .station .desk .address) 0x93 [] (w .allowed) (omega arith) (omega arith)
       ∙ ap (λ (t : Turn). gives (reactionOf t)) (snrm-answered d (w .allowed) (w .has))
 
-  pub snrm-alone : (o : Device) → allowedDevice o ≡ true → (o .station .address ≡ d .station .address → ⊥)
+  pub snrm-alone : (o : Device) → allowedDevice o ≡ true → (o .station .desk .address ≡ d .station .desk .address → ⊥)
       → hears o (snrmFor d) ≡ gives (record { device = o; frame = none })
   unfolding saying reacts frameBy isSilent controlledBy addressedBy isOwn polled
   snrm-alone o fine other =
       let (least, most) = address-bounds in
-      let a = d .station .address in
+      let a = d .station .desk .address in
       let silent : judgedFrame o (a ∷ 0x93 ∷ []) ≡ mute o =
       judged-is o (a ∷ 0x93 ∷ []) (omega arith) (omega arith)
-      ∙ rw (ne-eqb a 0xFF (λ e. omega arith), ne-eqb a (o .station .address) (λ e. other (sym e))) in
+      ∙ rw (ne-eqb a 0xFF (λ e. omega arith), ne-eqb a (o .station .desk .address) (λ e. other (sym e))) in
       hears-written o a 0x93 [] fine (omega arith) (omega arith) ∙ ap (λ (t : Turn). gives (reactionOf t)) silent
 
   begun-allowed : allowedDevice (begun d) ≡ true
   unfolding saying
   begun-allowed =
       rw (← ap (λ (t : Turn). t .device) (snrm-answered d (w .allowed) (w .has)))
-      (stays-allowed d (d .station .address ∷ 0x93 ∷ []) (w .allowed))
+      (stays-allowed d (d .station .desk .address ∷ 0x93 ∷ []) (w .allowed))
 
 -- ---- SNRM to each address in turn
 
 abbrev address : Device → ℕ
-address d = d .station .address
+address d = d .station .desk .address
 
 -- none of the addresses is the device's
 none-begins : (es : List Device) → ((e : Device) → List·Memᴰ e es → Ready e) → (o : Device) → allowedDevice o ≡ true

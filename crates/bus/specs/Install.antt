@@ -63,7 +63,7 @@ NoRightEnd [] = Unit {0}
 NoRightEnd (x ∷ xs) = ((y : List ℕ) → List·Memᴰ y xs → EndOf (unpadded x) (unpadded y) → ⊥) × NoRightEnd xs
 
 abbrev pub snrmFor : Device → List ℕ
-snrmFor d = lineFor (d .station .address ∷ 0x93 ∷ [])
+snrmFor d = lineFor (d .station .desk .address ∷ 0x93 ∷ [])
 
 pub record Installed (xs : List (List ℕ)) (ds es : List Device) : Type 0 where
   -- the same devices, in their order, and each is listed
@@ -71,16 +71,16 @@ pub record Installed (xs : List (List ℕ)) (ds es : List Device) : Type 0 where
   pub listed : (e : Device) → List·Memᴰ e es → (k : ℕ) × (k < length xs) × (paddedIn e ≡ getD xs k [])
   -- "each device holds exactly its address": the place of its identity in the list, counted from 1
   pub holds : (e : Device) → List·Memᴰ e es → (k : ℕ) → k < length xs → paddedIn e ≡ getD xs k []
-      → (e .station .address ≡ suc k) × (e .station .link ≡ AddressAssigned)
+      → (e .station .desk .address ≡ suc k) × (e .station .link ≡ AddressAssigned)
   -- "all addresses differ"
-  pub differ : Different (map (λ (e : Device). e .station .address) es)
+  pub differ : Different (map (λ (e : Device). e .station .desk .address) es)
   -- "each then answers SNRM with UA", and a session begins
   pub answers : (e : Device) → List·Memᴰ e es
       → hears e (snrmFor e)
-      ≡ gives (record { device = begun e; frame = some (e .station .address ∷ 0x73 ∷ []) })
+      ≡ gives (record { device = begun e; frame = some (e .station .desk .address ∷ 0x73 ∷ []) })
   -- nobody else answers it, or changes
   pub alone : (e o : Device) → List·Memᴰ e es → List·Memᴰ o es
-      → (o .station .address ≡ e .station .address → ⊥)
+      → (o .station .desk .address ≡ e .station .desk .address → ⊥)
       → hears o (snrmFor e) ≡ gives (record { device = o; frame = none })
   -- so that, SNRM written to each address in turn, a session begins in every device
   pub connected : allAfterLines (map snrmFor es) es ≡ map begun es

@@ -37,7 +37,7 @@ use Rattle.conduct.proofs.Pends.{pending-kept}
 
 -- what no frame changes
 abbrev parts : Device → Plate × Angle × Angle × Angle
-parts e = (e .plate, e .antenna .lowest, e .antenna .highest, e .antenna .tilt)
+parts e = (e .plate, e .antenna .drive .lowest, e .antenna .drive .highest, e .antenna .drive .tilt)
 
 module _ (d : Device) (f : List ℕ) where
   parts-kept : parts (after d f) ≡ parts d
@@ -48,38 +48,38 @@ module _ (d : Device) (f : List ℕ) where
 
   -- ---- the address and the subscription
 
-  address-cases : ((a : ℕ) × Assigns d f a) ⊎ (after d f .station .address ≡ d .station .address)
+  address-cases : ((a : ℕ) × Assigns d f a) ⊎ (after d f .station .desk .address ≡ d .station .desk .address)
   unfolding deviceOf endedAs unsaidAt acknowledged heeded answersWith poll.indicates
   address-cases =
       let kept = address-kept d in
-      after-cases d f (λ (e : Device). ((a : ℕ) × Assigns d f a) ⊎ (e .station .address ≡ d .station .address))
+      after-cases d f (λ (e : Device). ((a : ℕ) × Assigns d f a) ⊎ (e .station .desk .address ≡ d .station .desk .address))
       (inr refl) (λ a w. inl (a, w)) (λ w l. inr refl) (λ o r s e w. inr (kept s r)) (λ s n r w. inr (kept s r))
       (λ w. inr (kept (w .session) (w .nr))) (λ w. inr (kept (w .session) (w .nr)))
       (λ w. inr (kept (w .session) (w .nr))) (λ w b. inr (kept (w .session) (w .nr)))
       (λ b w. inr (kept (w .collects .session) (w .collects .nr)))
       (λ w. inr (kept (w .collects .session) (w .collects .nr)))
 
-  subscribed-cases : Subscribes d f ⊎ (after d f .station .subscribed ≡ d .station .subscribed)
+  subscribed-cases : Subscribes d f ⊎ (after d f .station .desk .subscribed ≡ d .station .desk .subscribed)
   unfolding deviceOf endedAs unsaidAt acknowledged heeded answersWith poll.indicates
   subscribed-cases =
       let kept = subscribed-kept d in
-      after-cases d f (λ (e : Device). Subscribes d f ⊎ (e .station .subscribed ≡ d .station .subscribed))
+      after-cases d f (λ (e : Device). Subscribes d f ⊎ (e .station .desk .subscribed ≡ d .station .desk .subscribed))
       (inr refl) (λ a w. inr refl) (λ w l. inr refl) (λ o r s e w. inr (kept s r))
       (λ s n r w. inr refl) (λ w. inr refl) (λ w. inr refl) inl (λ w b. inr refl)
       (λ b w. inr (kept (w .collects .session) (w .collects .nr)))
       (λ w. inr (kept (w .collects .session) (w .collects .nr)))
 
   assigned : (a : ℕ) → Assigns d f a
-      → (after d f .station .address ≡ a) × (after d f .station .link ≡ AddressAssigned)
+      → (after d f .station .desk .address ≡ a) × (after d f .station .link ≡ AddressAssigned)
   unfolding left endedAs unsaidAt
   assigned a w =
       let is = comes-leaves d f (Comes.assigns a w) in
-      (ap (λ (e : Device). e .station .address) is, ap (λ (e : Device). e .station .link) is)
+      (ap (λ (e : Device). e .station .desk .address) is, ap (λ (e : Device). e .station .link) is)
 
-  subscribes : Subscribes d f → after d f .station .subscribed ≡ true
+  subscribes : Subscribes d f → after d f .station .desk .subscribed ≡ true
   unfolding left deviceOf answersWith heeded
   subscribes w =
-      ap (λ (e : Device). e .station .subscribed)
+      ap (λ (e : Device). e .station .desk .subscribed)
       (comes-leaves d f (Comes.subscribes (w .session) (w .ns) (w .nr) (w .frame) (w .message)))
 
   -- ---- the link state

@@ -34,7 +34,7 @@ use Rattle.conduct.proofs.Runs.{events-antenna}
 use Rattle.conduct.proofs.Due.{starts-exactly}
 
 -- a frame read at the own address is read so by every device of that address
-own-at : (d e : Device) (f : List ℕ) (n r : ℕ) → e .station .address ≡ d .station .address → Own d f (Info n r)
+own-at : (d e : Device) (f : List ℕ) (n r : ℕ) → e .station .desk .address ≡ d .station .desk .address → Own d f (Info n r)
     → Own e f (Info n r)
 unfolding isOwn
 own-at d e f n r a w =
@@ -81,7 +81,7 @@ module _ (d : Device) (f : List ℕ) (s : Session) (n r : ℕ) (w : Accepted d f
         let sent : n ≡ s .r = accepts-exactly (sessionAfter s r) n .0 (w .accepted) .1 ∙ r-kept s r in
         let due : t .r ≡ nextOf n = ap (λ (x : Session). x .r) (sym one) ∙ counted .due ∙ ap nextOf (sym sent) in
         let none = again-acknowledges t n r number due in
-        let address = ap (λ (x : Turn). x .device .station .address) (info-is d f s n r (w .numbered))
+        let address = ap (λ (x : Turn). x .device .station .desk .address) (info-is d f s n r (w .numbered))
         ∙ inform-address d s r (w .numbered .link) n (drop 2 f) in
         info-is e f t n r
         (record {

@@ -69,10 +69,10 @@ pub snrm-begins : (d : Device) (f : List ℕ) → Own d f Snrm → hasAddress (d
 snrm-begins d f w h = own-is d f Snrm w ∙ snrm-linked d (d .station .link) (controlOf f) (drop 2 f) h
 
 module _ (d : Device) (allowed : allowedDevice d ≡ true) (assigned : hasAddress (d .station .link) ≡ true) where
-  snrm-own : Own d (d .station .address ∷ 0x93 ∷ []) Snrm
+  snrm-own : Own d (d .station .desk .address ∷ 0x93 ∷ []) Snrm
   unfolding stationAllowed polled askedBy quiet isOwn
   snrm-own =
-      let a = d .station .address in
+      let a = d .station .desk .address in
       let bounds =
       addressed-bounds a
       (link-addressed (d .station) (d .station .link) (sound d allowed .station) assigned) in
@@ -88,10 +88,10 @@ module _ (d : Device) (allowed : allowedDevice d ≡ true) (assigned : hasAddres
         read = refl;
       }
 
-  pub snrm-answered : judgedFrame d (d .station .address ∷ 0x93 ∷ []) ≡ saying (begun d) ua
-  snrm-answered = snrm-begins d (d .station .address ∷ 0x93 ∷ []) snrm-own assigned
+  pub snrm-answered : judgedFrame d (d .station .desk .address ∷ 0x93 ∷ []) ≡ saying (begun d) ua
+  snrm-answered = snrm-begins d (d .station .desk .address ∷ 0x93 ∷ []) snrm-own assigned
 
-  pub snrm-connects : after d (d .station .address ∷ 0x93 ∷ []) .station .link ≡ Connected newSession
+  pub snrm-connects : after d (d .station .desk .address ∷ 0x93 ∷ []) .station .link ≡ Connected newSession
   unfolding saying begun endedAs unsaidAt
   snrm-connects = ap (λ (t : Turn). t .device .station .link) snrm-answered
 
@@ -140,11 +140,11 @@ module _ (d : Device) (m : List ℕ) (fits : length m + 2 ≤ frameMost) where
 
     -- "the address is taken, the state is AddressAssigned"
     pub assignment-addresses : Takes (identityOf (d .plate)) m a
-        → (after d (0xFF ∷ 0xBF ∷ m) .station .address ≡ a)
+        → (after d (0xFF ∷ 0xBF ∷ m) .station .desk .address ≡ a)
         × (after d (0xFF ∷ 0xBF ∷ m) .station .link ≡ AddressAssigned)
     unfolding saying endedAs unsaidAt
     assignment-addresses w = (
-      ap (λ (t : Turn). t .device .station .address) (assignment-taken w),
+      ap (λ (t : Turn). t .device .station .desk .address) (assignment-taken w),
       ap (λ (t : Turn). t .device .station .link) (assignment-taken w),
     )
 

@@ -66,7 +66,7 @@ module _ (d : Device) (f : List ℕ) where
 
   accepted-comes : (s : Session) (n r : ℕ) → Accepted d f s n r → Comes d f
   accepted-comes s n r w =
-      carried-cases (d .plate) (d .antenna) (stationAfter (d .station) s r .told) (d .station .subscribed) (drop 2 f)
+      carried-cases (d .plate) (d .antenna) (stationAfter (d .station) s r .told) (d .station .desk .subscribed) (drop 2 f)
       (λ x. carriedHere (acknowledged d s r) (drop 2 f) ≡ x → Comes d f)
       (λ few e. murmurs s n r w few) (λ b h e. answers s n r b w e) (λ m e. clears s n r w m)
       (λ m e. subscribes s n r w m) (λ due e. starts s n r w due) (carried-kept d s r (drop 2 f))

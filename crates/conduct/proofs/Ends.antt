@@ -44,20 +44,20 @@ module _ (d : Device) where
   -- SNRM
   pub begun-drops : Dropped (begun d)
   unfolding begun
-  begun-drops = ended-drops (d .station .address) (Connected newSession) refl
+  begun-drops = ended-drops (d .station .desk .address) (Connected newSession) refl
 
   pub begun-survives : Survives d (begun d)
   unfolding begun
-  begun-survives = ended-survives (d .station .address) (Connected newSession)
+  begun-survives = ended-survives (d .station .desk .address) (Connected newSession)
 
   -- DISC
   pub released-drops : Dropped (released d)
   unfolding released
-  released-drops = ended-drops (d .station .address) AddressAssigned refl
+  released-drops = ended-drops (d .station .desk .address) AddressAssigned refl
 
   pub released-survives : Survives d (released d)
   unfolding released
-  released-survives = ended-survives (d .station .address) AddressAssigned
+  released-survives = ended-survives (d .station .desk .address) AddressAssigned
 
   -- FRMR
   pub rejected-drops : (s : Session) (c why : ℕ) → Dropped (rejected d s c why .device)
@@ -77,14 +77,14 @@ module _ (d : Device) where
     pub drops-as : Drops d f → (a : ℕ) × (l : Link) × (pendingIn l ≡ Nothing) × (after d f ≡ endedAs d a l)
     unfolding endedBy begun released left
     drops-as (inl (renews s w l)) =
-        (d .station .address, Connected newSession, refl, ends-leaves d f (renews s w l))
-    drops-as (inl (leaves s w l)) = (d .station .address, AddressAssigned, refl, ends-leaves d f (leaves s w l))
+        (d .station .desk .address, Connected newSession, refl, ends-leaves d f (renews s w l))
+    drops-as (inl (leaves s w l)) = (d .station .desk .address, AddressAssigned, refl, ends-leaves d f (leaves s w l))
     drops-as (inl (miscounts s o r w l n b)) =
-        (d .station .address, AddressAssigned, refl, ends-leaves d f (miscounts s o r w l n b))
-    drops-as (inl (unknown s w l)) = (d .station .address, AddressAssigned, refl, ends-leaves d f (unknown s w l))
+        (d .station .desk .address, AddressAssigned, refl, ends-leaves d f (miscounts s o r w l n b))
+    drops-as (inl (unknown s w l)) = (d .station .desk .address, AddressAssigned, refl, ends-leaves d f (unknown s w l))
     drops-as (inl (assigns s a w l)) = (a, AddressAssigned, refl, ends-leaves d f (assigns s a w l))
     drops-as (inr (inl w)) =
-        (d .station .address, Connected newSession, refl, comes-leaves d f (come.begins (w .own) (w .link)))
+        (d .station .desk .address, Connected newSession, refl, comes-leaves d f (come.begins (w .own) (w .link)))
     drops-as (inr (inr (a, w))) = (a, AddressAssigned, refl, comes-leaves d f (come.assigns a w))
 
     pub drops-drop : Drops d f → Dropped (after d f)

@@ -29,18 +29,18 @@ module _ (d : Device) (f : List ℕ) (r : ℕ) (s : Session) (w : Numbered d f (
     (news : toTell (stationAfter (d .station) s r) (d .antenna) ≡ true) where
   pub indication-sent : judgedFrame d f
       ≡ saying
-      (deviceOf d (indicates (stationAfter (d .station) s r) (sessionAfter s r) (d .antenna .raised)) (d .antenna))
+      (deviceOf d (indicates (stationAfter (d .station) s r) (sessionAfter s r) (d .antenna .drive .raised)) (d .antenna))
       (pend (sessionAfter s r))
   unfolding left says
   indication-sent = comes-so d f (come.indicates s r w free none news)
 
   -- it pends, it says what is raised, and told is not yet changed by it
   pub indication-pends : (after d f .station .link ≡ Connected (awaiting (sessionAfter s r) Indication))
-      × (after d f .station .said ≡ d .antenna .raised)
-      × (after d f .station .told ≡ stationAfter (d .station) s r .told)
+      × (after d f .station .desk .said ≡ d .antenna .drive .raised)
+      × (after d f .station .desk .told ≡ stationAfter (d .station) s r .told)
   unfolding saying deviceOf indicates
   indication-pends = (
     ap (λ (t : Turn). t .device .station .link) indication-sent,
-    ap (λ (t : Turn). t .device .station .said) indication-sent,
-    ap (λ (t : Turn). t .device .station .told) indication-sent,
+    ap (λ (t : Turn). t .device .station .desk .said) indication-sent,
+    ap (λ (t : Turn). t .device .station .desk .told) indication-sent,
   )

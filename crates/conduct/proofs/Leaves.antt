@@ -17,7 +17,7 @@ use Rattle.record.specs.declared.Link.{Link}
 use Rattle.record.specs.declared.Link.the-variants.{AddressAssigned, Connected}
 use Rattle.record.specs.declared.Station.{Station}
 use Rattle.record.specs.declared.Device.{Device}
-use Rattle.record.specs.Fresh.{calm}
+use Rattle.record.specs.Desk.{calm}
 use Rattle.record.specs.Changes.{deviceOf, endedAs}
 use Rattle.payload.specs.Payloads.{payloadOf, successOf, resultOf}
 use Rattle.message.specs.Messages.{askedOf}
@@ -71,25 +71,25 @@ module _ (d : Device) (f : List ℕ) where
   module _ (P : Device → Type 0)
       (same : P d)
       (assigned : (a : ℕ) → Assigns d f a → P (endedAs d a AddressAssigned))
-      (ended : Drops d f → (l : Link) → P (endedAs d (d .station .address) l))
+      (ended : Drops d f → (l : Link) → P (endedAs d (d .station .desk .address) l))
       (settled : (o : Order) (r : ℕ) (s : Session) → numberIn o ≡ some r → Numbered d f o r s → P (acknowledged d s r))
       (heeded : (s : Session) (n r : ℕ) → Accepted d f s n r
-      → P (unansweredAs d s r (d .antenna) (told s r) (d .station .subscribed)))
+      → P (unansweredAs d s r (d .antenna) (told s r) (d .station .desk .subscribed)))
       (started : (w : TiltDue d f)
       → P (unansweredAs d (w .session) (w .nr) (moves (d .antenna) (Owing (askedOf (drop 2 f)))) (told (w .session) (w .nr))
-      (d .station .subscribed)))
+      (d .station .desk .subscribed)))
       (cleared : (w : Clears d f)
-      → P (answeredAs d (w .session) (w .nr) (quieted (d .antenna)) calm (d .station .subscribed) (successOf 0x06 [])))
+      → P (answeredAs d (w .session) (w .nr) (quieted (d .antenna)) calm (d .station .desk .subscribed) (successOf 0x06 [])))
       (subscribed : (w : Subscribes d f)
       → P (answeredAs d (w .session) (w .nr) (d .antenna) (told (w .session) (w .nr)) true (successOf 0x12 [])))
       (answered : (w : Answered d f) (b : List ℕ)
-      → P (answeredAs d (w .session) (w .nr) (d .antenna) (told (w .session) (w .nr)) (d .station .subscribed) b))
+      → P (answeredAs d (w .session) (w .nr) (d .antenna) (told (w .session) (w .nr)) (d .station .desk .subscribed) b))
       (delivered : (b : Bool) (w : Delivers d f b)
       → let s = w .collects .session in let r = w .collects .nr in
       P (deviceOf d (answersWith (there s r) (sessionAfter s r) (payloadOf (resultOf b))) (moves (d .antenna) Still)))
       (indicated : (w : Tells d f)
       → let s = w .collects .session in let r = w .collects .nr in
-      P (deviceOf d (poll.indicates (there s r) (sessionAfter s r) (d .antenna .raised)) (d .antenna))) where
+      P (deviceOf d (poll.indicates (there s r) (sessionAfter s r) (d .antenna .drive .raised)) (d .antenna))) where
     left-cases : (c : Comes d f) → P (left d f c)
     unfolding left begun released replies
     left-cases (Comes.unread w) = same

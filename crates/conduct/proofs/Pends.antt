@@ -19,7 +19,7 @@ use Rattle.record.specs.declared.Pending.{Pending}
 use Rattle.record.specs.declared.Pending.the-variants.{Answer, Indication}
 use Rattle.record.specs.declared.Session.{Session}
 use Rattle.record.specs.declared.Device.{Device}
-use Rattle.record.specs.Fresh.{calm, noReply}
+use Rattle.record.specs.Desk.{calm, noReply}
 use Rattle.record.specs.Changes.{unsaidAt, deviceOf}
 use Rattle.session.specs.Session.{pends, acknowledges, taken}
 use Rattle.payload.specs.Payloads.{payloadOf, resultOf}
@@ -49,8 +49,8 @@ module _ (d : Device) (f : List ℕ) where
   -- ---- sent
 
   pub answered-pends : (w : Answered d f) → (pendingIn (after d f .station .link) ≡ Answer)
-      × (after d f .station .reply ≡ carriedHere (acknowledged d (w .session) (w .nr)) (drop 2 f) .payload)
-      × (after d f .station .said ≡ stationAfter (d .station) (w .session) (w .nr) .said)
+      × (after d f .station .desk .reply ≡ carriedHere (acknowledged d (w .session) (w .nr)) (drop 2 f) .payload)
+      × (after d f .station .desk .said ≡ stationAfter (d .station) (w .session) (w .nr) .said)
   unfolding informedBy informOf carriedBy repliedBy saying acknowledged deviceOf answersWith awaiting heeded
   answered-pends w =
       let s = w .session in
@@ -59,34 +59,34 @@ module _ (d : Device) (f : List ℕ) where
       ≡ repliedBy e (taken (sessionAfter s (w .nr))) (carriedHere e (drop 2 f)) Reply.Answer =
       info-is d f s (w .ns) (w .nr) (w .frame .numbered) ∙ rw (w .frame .accepted, w .answers) in (
         ap (λ (t : Turn). pendingIn (t .device .station .link)) is,
-        ap (λ (t : Turn). t .device .station .reply) is,
-        ap (λ (t : Turn). t .device .station .said) is,
+        ap (λ (t : Turn). t .device .station .desk .reply) is,
+        ap (λ (t : Turn). t .device .station .desk .said) is,
       )
 
   pub delivered-pends : (reached : Bool) (w : Delivers d f reached) → (pendingIn (after d f .station .link) ≡ Answer)
-      × (after d f .station .reply ≡ payloadOf (resultOf reached))
-      × (after d f .station .said ≡ stationAfter (d .station) (w .collects .session) (w .collects .nr) .said)
+      × (after d f .station .desk .reply ≡ payloadOf (resultOf reached))
+      × (after d f .station .desk .said ≡ stationAfter (d .station) (w .collects .session) (w .collects .nr) .said)
   unfolding left deviceOf answersWith awaiting
   delivered-pends reached w =
       let c = w .collects in
       let is =
       comes-leaves d f (Comes.delivers (c .session) (c .nr) reached (c .numbered) (c .free) (w .waits)) in (
         ap (λ (e : Device). pendingIn (e .station .link)) is,
-        ap (λ (e : Device). e .station .reply) is,
-        ap (λ (e : Device). e .station .said) is,
+        ap (λ (e : Device). e .station .desk .reply) is,
+        ap (λ (e : Device). e .station .desk .said) is,
       )
 
   pub tells-pends : (w : Tells d f) → (pendingIn (after d f .station .link) ≡ Indication)
-      × (after d f .station .said ≡ d .antenna .raised)
-      × (after d f .station .reply ≡ stationAfter (d .station) (w .collects .session) (w .collects .nr) .reply)
+      × (after d f .station .desk .said ≡ d .antenna .drive .raised)
+      × (after d f .station .desk .reply ≡ stationAfter (d .station) (w .collects .session) (w .collects .nr) .reply)
   unfolding left deviceOf poll.indicates awaiting
   tells-pends w =
       let c = w .collects in
       let is =
       comes-leaves d f (Comes.indicates (c .session) (c .nr) (c .numbered) (c .free) (w .idle) (w .news)) in (
         ap (λ (e : Device). pendingIn (e .station .link)) is,
-        ap (λ (e : Device). e .station .said) is,
-        ap (λ (e : Device). e .station .reply) is,
+        ap (λ (e : Device). e .station .desk .said) is,
+        ap (λ (e : Device). e .station .desk .reply) is,
       )
 
   module _ (unanswered : Answered d f → ⊥) (undelivered : (reached : Bool) → Delivers d f reached → ⊥)
@@ -95,7 +95,7 @@ module _ (d : Device) (f : List ℕ) where
 
     abbrev Empty : Device → Type 0
     Empty e =
-        (pendingIn (e .station .link) ≡ Pending.Nothing) × (e .station .reply ≡ noReply) × (e .station .said ≡ calm)
+        (pendingIn (e .station .link) ≡ Pending.Nothing) × (e .station .desk .reply ≡ noReply) × (e .station .desk .said ≡ calm)
 
     module _ (s : Session) (r : ℕ) (removes : acknowledges s r ≡ true) where
       -- nothing is left of it, whatever else the message changes
@@ -153,8 +153,8 @@ module _ (d : Device) (f : List ℕ) where
     module _ (unacknowledged : Acknowledges d f → ⊥) (undropped : Drops d f → ⊥) where
       abbrev Kept : Device → Type 0
       Kept e =
-          (pendingIn (e .station .link) ≡ pendingIn (d .station .link)) × (e .station .reply ≡ d .station .reply)
-          × (e .station .said ≡ d .station .said)
+          (pendingIn (e .station .link) ≡ pendingIn (d .station .link)) × (e .station .desk .reply ≡ d .station .desk .reply)
+          × (e .station .desk .said ≡ d .station .desk .said)
 
       behind : (o : Order) (r : ℕ) (s : Session) → numberIn o ≡ some r → Numbered d f o r s
           → acknowledges s r ≡ false

@@ -49,11 +49,11 @@ module _ (d : Device) (f : List ℕ) (r : ℕ) (s : Session) (reached : Bool) (w
 
   -- it is the pending answer, and nothing waits any more
   pub result-pends : (after d f .station .link ≡ Connected (awaiting (sessionAfter s r) Answer))
-      × (after d f .station .reply ≡ payloadOf (resultOf reached)) × (after d f .antenna .motion ≡ Still)
+      × (after d f .station .desk .reply ≡ payloadOf (resultOf reached)) × (after d f .antenna .motion ≡ Still)
   unfolding saying deviceOf answersWith moves
   result-pends = (
     ap (λ (t : Turn). t .device .station .link) result-sent,
-    ap (λ (t : Turn). t .device .station .reply) result-sent,
+    ap (λ (t : Turn). t .device .station .desk .reply) result-sent,
     ap (λ (t : Turn). t .device .antenna .motion) result-sent,
   )
 

@@ -206,12 +206,12 @@ module _ (d : Device) (s : Session) (r : ℕ) (good : goodNumber s r ≡ true) w
   -- RR, before and after R moves on
   module _ (n : Antenna) where
     rests-says : frameBy (deviceOf d (stationAfter (d .station) s r) n) (ready (sessionAfter s r))
-        ≡ rr (d .station .address) (s .r)
+        ≡ rr (d .station .desk .address) (s .r)
     unfolding frameBy isSilent controlBy payloadBy deviceOf rr
     rests-says = same-frame (address-kept (d .station) s r) (ap rrOf (r-kept s r) ∙ rr-control (s .r)) refl
 
     heard-says : (told : Alarms) (sub : Bool)
-        → frameBy (unansweredAs d s r n told sub) (ready (taken (sessionAfter s r))) ≡ rr (d .station .address) (s .r + 1)
+        → frameBy (unansweredAs d s r n told sub) (ready (taken (sessionAfter s r))) ≡ rr (d .station .desk .address) (s .r + 1)
     unfolding frameBy isSilent controlBy payloadBy deviceOf heeded taken rr
     heard-says told sub =
         same-frame (address-kept (d .station) s r) (ap (λ (k : ℕ). rrOf (nextOf k)) (r-kept s r) ∙ rr-next (s .r)) refl
@@ -219,7 +219,7 @@ module _ (d : Device) (s : Session) (r : ℕ) (good : goodNumber s r ≡ true) w
     -- an answer
     replied-says : (told : Alarms) (sub : Bool) (b : List ℕ)
         → frameBy (answeredAs d s r n told sub b) (pend (taken (sessionAfter s r)))
-        ≡ info (d .station .address) r (s .r + 1) b
+        ≡ info (d .station .desk .address) r (s .r + 1) b
     unfolding frameBy isSilent controlBy payloadBy deviceOf answersWith awaiting heeded taken linkOctets pendingOctets
         info
     replied-says told sub b = same-frame (address-kept (d .station) s r) next (payload-says b)
@@ -227,14 +227,14 @@ module _ (d : Device) (s : Session) (r : ℕ) (good : goodNumber s r ≡ true) w
     delivers-says : (b : List ℕ)
         → frameBy (deviceOf d (answersWith (stationAfter (d .station) s r) (sessionAfter s r) (payloadOf b)) n)
         (pend (sessionAfter s r))
-        ≡ info (d .station .address) r (s .r) b
+        ≡ info (d .station .desk .address) r (s .r) b
     unfolding frameBy isSilent controlBy payloadBy deviceOf answersWith awaiting linkOctets pendingOctets info
     delivers-says b = same-frame (address-kept (d .station) s r) now (payload-says b)
 
     indicates-says : (a : Alarms)
         → frameBy (deviceOf d (poll.indicates (stationAfter (d .station) s r) (sessionAfter s r) a) n)
         (pend (sessionAfter s r))
-        ≡ info (d .station .address) r (s .r)
+        ≡ info (d .station .desk .address) r (s .r)
         (indication (changesOf (a .flags) (stationAfter (d .station) s r .told .flags)))
     unfolding frameBy isSilent controlBy payloadBy deviceOf poll.indicates awaiting linkOctets pendingOctets info
         indicationOf messageOf indication
@@ -243,13 +243,13 @@ module _ (d : Device) (s : Session) (r : ℕ) (good : goodNumber s r ≡ true) w
   -- what was pending
   module _ (link : d .station .link ≡ Connected s) where
     pends-says : r ≡ s .s → frameBy (deviceOf d (d .station) (d .antenna)) (pend s)
-        ≡ info (d .station .address) r (s .r) (pendingSaid (d .station) (s .pending))
+        ≡ info (d .station .desk .address) r (s .r) (pendingSaid (d .station) (s .pending))
     unfolding frameBy isSilent controlBy payloadBy deviceOf linkOctets info
     pends-says e =
         same-frame refl (ap (λ (k : ℕ). infoOf k (s .r)) (sym e) ∙ info-control r (s .r))
         (ap (linkOctets (d .station)) link ∙ pending-is (d .station) (s .pending))
 
-    ready-says : frameBy (deviceOf d (d .station) (d .antenna)) (ready s) ≡ rr (d .station .address) (s .r)
+    ready-says : frameBy (deviceOf d (d .station) (d .antenna)) (ready s) ≡ rr (d .station .desk .address) (s .r)
     unfolding frameBy isSilent controlBy payloadBy deviceOf rr
     ready-says = same-frame refl (rr-control (s .r)) refl
 
@@ -262,11 +262,11 @@ module _ (d : Device) (s : Session) (r : ℕ) (good : goodNumber s r ≡ true) w
     again-says e Answer h =
         ap (λ (p : Pending). frameBy (deviceOf d (d .station) (d .antenna)) (cond (pends p) (pend s) (ready s))) h
         ∙ pends-says e
-        ∙ ap (λ (p : Pending). info (d .station .address) r (s .r) (pendingSaid (d .station) p)) h
+        ∙ ap (λ (p : Pending). info (d .station .desk .address) r (s .r) (pendingSaid (d .station) p)) h
     again-says e Indication h =
         ap (λ (p : Pending). frameBy (deviceOf d (d .station) (d .antenna)) (cond (pends p) (pend s) (ready s))) h
         ∙ pends-says e
-        ∙ ap (λ (p : Pending). info (d .station .address) r (s .r) (pendingSaid (d .station) p)) h
+        ∙ ap (λ (p : Pending). info (d .station .desk .address) r (s .r) (pendingSaid (d .station) p)) h
 
 module _ (d : Device) (f : List ℕ) where
   repeats-says : (s : Session) (r : ℕ) → d .station .link ≡ Connected s → goodNumber s r ≡ true
@@ -290,31 +290,31 @@ module _ (d : Device) (f : List ℕ) where
   resends-says : (s : Session) (r : ℕ) → d .station .link ≡ Connected s → goodNumber s r ≡ true
       → pends (sessionAfter s r .pending) ≡ true
       → frameBy (acknowledged d s r) (pend (sessionAfter s r))
-      ≡ info (d .station .address) r (s .r) (pendingSaid (d .station) (s .pending))
+      ≡ info (d .station .desk .address) r (s .r) (pendingSaid (d .station) (s .pending))
   unfolding acknowledged sessionAfter emptied pends
   resends-says s r link good p = ⊎-elim stays removes (good-cases s r good)
     where
       stays : Stays s r → frameBy (acknowledged d s r) (pend (sessionAfter s r))
-          ≡ info (d .station .address) r (s .r) (pendingSaid (d .station) (s .pending))
+          ≡ info (d .station .desk .address) r (s .r) (pendingSaid (d .station) (s .pending))
       stays (a, e, k) =
           ap₂ (λ (t : Station) (z : Session). frameBy (deviceOf d t (d .antenna)) (pend z))
           (station-kept (d .station) s r a) (session-kept (d .station) s r a)
           ∙ pends-says d s r good link e
 
       removes : Removes s r → frameBy (acknowledged d s r) (pend (sessionAfter s r))
-          ≡ info (d .station .address) r (s .r) (pendingSaid (d .station) (s .pending))
+          ≡ info (d .station .desk .address) r (s .r) (pendingSaid (d .station) (s .pending))
       removes (a, e, k) = absurd (true-not-false (sym p ∙ rw a))
 
-  rejects : (s : Session) (why : ℕ) → some (d .station .address ∷ 0x97 ∷ controlOf f ∷ countsOf s ∷ why ∷ [])
-      ≡ frmr (d .station .address) (controlOf f) s why
+  rejects : (s : Session) (why : ℕ) → some (d .station .desk .address ∷ 0x97 ∷ controlOf f ∷ countsOf s ∷ why ∷ [])
+      ≡ frmr (d .station .desk .address) (controlOf f) s why
   unfolding frmr
-  rejects s why = ap (λ (k : ℕ). some (d .station .address ∷ 0x97 ∷ controlOf f ∷ k ∷ why ∷ [])) (counts-are s)
+  rejects s why = ap (λ (k : ℕ). some (d .station .desk .address ∷ 0x97 ∷ controlOf f ∷ k ∷ why ∷ [])) (counts-are s)
 
   -- what a device says of a frame, of each case, octet by octet
   pub says-octets : (c : Comes d f) → frameBy (left d f c) (says d f c) ≡ octetsSaid d f c
   unfolding left says octetsSaid frameBy isSilent controlBy payloadBy begun released endedAs unsaidAt frmr acknowledged
   says-octets (unread w) = refl
-  says-octets (scans w a) = ap some (scan-is (d .station .address) (identityOf (d .plate)))
+  says-octets (scans w a) = ap some (scan-is (d .station .desk .address) (identityOf (d .plate)))
   says-octets (assigns a w) = ap some (assignment-is a (identityOf (d .plate)))
   says-octets (begins w l) = refl
   says-octets (declines o w n l) = refl
@@ -325,16 +325,16 @@ module _ (d : Device) (f : List ℕ) where
   says-octets (starts s n r w due) = heard-says d s r (w .numbered .good) _ _ _
   says-octets (clears s n r w m) =
       replied-says d s r (w .numbered .good) _ _ _ _
-      ∙ ap (info (d .station .address) r (s .r + 1)) (success-is 0x06 [])
+      ∙ ap (info (d .station .desk .address) r (s .r + 1)) (success-is 0x06 [])
   says-octets (subscribes s n r w m) =
       replied-says d s r (w .numbered .good) _ _ _ _
-      ∙ ap (info (d .station .address) r (s .r + 1)) (success-is 0x12 [])
+      ∙ ap (info (d .station .desk .address) r (s .r + 1)) (success-is 0x12 [])
   says-octets (answers s n r b w e) = replied-says d s r (w .numbered .good) _ _ _ b
   says-octets (murmurs s n r w few) = heard-says d s r (w .numbered .good) _ _ _
   says-octets (repeats s n r w a) = repeats-says s r (w .link) (w .good)
   says-octets (resends s r w p) = resends-says s r (w .link) (w .good) p
   says-octets (delivers s r reached w p q) =
-      delivers-says d s r (w .good) _ _ ∙ ap (info (d .station .address) r (s .r)) (result-is reached)
+      delivers-says d s r (w .good) _ _ ∙ ap (info (d .station .desk .address) r (s .r)) (result-is reached)
   says-octets (indicates s r w p q t) = indicates-says d s r (w .good) _ _
   says-octets (rests s r w p q t) = rests-says d s r (w .good) (d .antenna)
   says-octets (pauses s r w) = rests-says d s r (w .good) (d .antenna)

@@ -81,12 +81,12 @@ module _ (d : Device) (s : Session) (r : ℕ) (l : d .station .link ≡ Connecte
         (λ a. rw a (kept-counted _ refl))
 
     -- an I-frame leaves the address
-    pub inform-address : informedBy d s n r m .device .station .address ≡ d .station .address
+    pub inform-address : informedBy d s n r m .device .station .desk .address ≡ d .station .desk .address
     unfolding informedBy saying repliedBy deviceOf heeded answersWith
     inform-address =
         let kept = address-kept d s r in
         inform-cases (acknowledged d s r) (sessionAfter s r)
-        (λ (t : Turn). t .device .station .address ≡ d .station .address) n m (λ a e. kept) (λ a e. kept) (λ a. kept)
+        (λ (t : Turn). t .device .station .desk .address ≡ d .station .desk .address) n m (λ a e. kept) (λ a e. kept) (λ a. kept)
 
 -- the session after a frame that is read in the session s with a good N(R)
 module _ (d : Device) (f : List ℕ) (s : Session) where

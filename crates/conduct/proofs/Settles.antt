@@ -54,19 +54,19 @@ module _ (d : Device) (s : Session) (r : ℕ) where
   unfolding acknowledged deviceOf
   antenna-kept = refl
 
-  pub address-kept : acknowledged d s r .station .address ≡ d .station .address
+  pub address-kept : acknowledged d s r .station .desk .address ≡ d .station .desk .address
   unfolding acknowledged deviceOf stationAfter settled unsaidAt
   address-kept = go (acknowledges s r)
     where
-      go : (b : Bool) → (cond b (settled (d .station) s) (d .station)) .address ≡ d .station .address
+      go : (b : Bool) → (cond b (settled (d .station) s) (d .station)) .address ≡ d .station .desk .address
       go true = refl
       go false = refl
 
-  pub subscribed-kept : acknowledged d s r .station .subscribed ≡ d .station .subscribed
+  pub subscribed-kept : acknowledged d s r .station .desk .subscribed ≡ d .station .desk .subscribed
   unfolding acknowledged deviceOf stationAfter settled unsaidAt retold
   subscribed-kept = go (acknowledges s r)
     where
-      go : (b : Bool) → (cond b (settled (d .station) s) (d .station)) .subscribed ≡ d .station .subscribed
+      go : (b : Bool) → (cond b (settled (d .station) s) (d .station)) .subscribed ≡ d .station .desk .subscribed
       go true = refl
       go false = refl
 
@@ -87,7 +87,7 @@ module _ (d : Device) (s : Session) (r : ℕ) where
 module _ (d : Device) (s : Session) (r : ℕ) (m : List ℕ) where
   -- so a message is carried out as by d, but for what is told
   pub carried-kept : carriedHere (acknowledged d s r) m
-      ≡ carriedOf (d .plate) (d .antenna) (stationAfter (d .station) s r .told) (d .station .subscribed) m
+      ≡ carriedOf (d .plate) (d .antenna) (stationAfter (d .station) s r .told) (d .station .desk .subscribed) m
   unfolding acknowledged deviceOf
   carried-kept =
       ap (λ b. carriedOf (d .plate) (d .antenna) (stationAfter (d .station) s r .told) b m) (subscribed-kept d s r)

@@ -72,17 +72,17 @@ module _ (d : Device) (allowed : allowedDevice d ≡ true) where
   assigned-stays a e = end-stays d a AddressAssigned allowed e
 
   module _ (has : hasAddress (d .station .link) ≡ true) where
-    own-address : addressed (d .station .address) ≡ true
+    own-address : addressed (d .station .desk .address) ≡ true
     unfolding stationAllowed
     own-address = has-addressed (d .station) (d .station .link) (sound d allowed .station) has
 
     begun-stays : allowedDevice (begun d) ≡ true
     unfolding begun linkAllowed unsaidAt sessionAllowed numbersAllowed pendingFits
-    begun-stays = end-stays d (d .station .address) _ allowed (rw own-address)
+    begun-stays = end-stays d (d .station .desk .address) _ allowed (rw own-address)
 
     released-stays : allowedDevice (released d) ≡ true
     unfolding released
-    released-stays = assigned-stays (d .station .address) own-address
+    released-stays = assigned-stays (d .station .desk .address) own-address
 
 -- ---- in a session, the acknowledged answer being removed
 
@@ -108,17 +108,17 @@ module _ (d : Device) (s : Session) (w : Within d s) where
       })
 
   indication-stays : toTell (d .station) (d .antenna) ≡ true
-      → allowedDevice (deviceOf d (indicates (d .station) s (d .antenna .raised)) (d .antenna)) ≡ true
+      → allowedDevice (deviceOf d (indicates (d .station) s (d .antenna .drive .raised)) (d .antenna)) ≡ true
   unfolding deviceOf indicates awaiting pendingFits numbersAllowed toTell
   indication-stays e =
-      allowed-within (deviceOf d (indicates (d .station) s (d .antenna .raised)) (d .antenna)) (awaiting s Indication)
+      allowed-within (deviceOf d (indicates (d .station) s (d .antenna .drive .raised)) (d .antenna)) (awaiting s Indication)
       (record {
         plate = w .plate;
         range = w .range;
         address = w .address;
         link = refl;
         numbers = w .numbers;
-        fits = and-parts (d .station .subscribed) _ e .1;
+        fits = and-parts (d .station .desk .subscribed) _ e .1;
       })
 
   poll-stays : Good (pollOf d s)

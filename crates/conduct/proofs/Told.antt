@@ -15,7 +15,7 @@ use Rattle.record.specs.declared.Pending.the-variants.{Nothing, Answer, Indicat
 use Rattle.record.specs.declared.Session.{Session}
 use Rattle.record.specs.declared.Station.{Station}
 use Rattle.record.specs.declared.Device.{Device}
-use Rattle.record.specs.Fresh.{calm}
+use Rattle.record.specs.Desk.{calm}
 use Rattle.record.specs.Changes.{unsaidAt, endedAs}
 use Rattle.session.specs.Session.{acknowledges, accepts}
 use Rattle.acknowledge.specs.Acknowledge.{sessionAfter, stationAfter, settled, retold, toldAfter}
@@ -66,24 +66,24 @@ module _ (d : Device) (f : List ℕ) where
   abbrev Changed : Type 0
   Changed =
       Clears d f
-      ⊎ ((after d f .antenna .raised ≡ d .antenna .raised)
-      × ((after d f .station .told ≡ d .station .told)
-      ⊎ (Indicated d f × (after d f .station .told ≡ d .station .said))))
+      ⊎ ((after d f .antenna .drive .raised ≡ d .antenna .drive .raised)
+      × ((after d f .station .desk .told ≡ d .station .desk .told)
+      ⊎ (Indicated d f × (after d f .station .desk .told ≡ d .station .desk .said))))
 
   -- the turn t leaves both
-  stay : (t : Turn) → t .device .antenna .raised ≡ d .antenna .raised → t .device .station .told ≡ d .station .told
+  stay : (t : Turn) → t .device .antenna .drive .raised ≡ d .antenna .drive .raised → t .device .station .desk .told ≡ d .station .desk .told
       → judgedFrame d f ≡ t → Changed
   stay t raised told e =
       inr (
-        ap (λ (x : Turn). x .device .antenna .raised) e ∙ raised,
-        inl (ap (λ (x : Turn). x .device .station .told) e ∙ told),
+        ap (λ (x : Turn). x .device .antenna .drive .raised) e ∙ raised,
+        inl (ap (λ (x : Turn). x .device .station .desk .told) e ∙ told),
       )
 
   -- raised is as it was, and told as the good N(R) = r of the session s leaves it
   abbrev Settled : Session → ℕ → Turn → Type 0
   Settled s r t =
-      (t .device .antenna .raised ≡ d .antenna .raised)
-      × (t .device .station .told ≡ stationAfter (d .station) s r .told)
+      (t .device .antenna .drive .raised ≡ d .antenna .drive .raised)
+      × (t .device .station .desk .told ≡ stationAfter (d .station) s r .told)
 
   -- nothing but the acknowledgement changes them
   settles : (o : Order) (r : ℕ) (s : Session) → numberIn o ≡ some r → Numbered d f o r s
@@ -92,7 +92,7 @@ module _ (d : Device) (f : List ℕ) where
       inr (k .0, ⊎-elim (λ same. inl (k .1 ∙ same)) (λ i. inr (indicated i)) (station-told (d .station) s r))
     where
       indicated : (s .pending ≡ Indication) × (acknowledges s r ≡ true)
-          → Indicated d f × (after d f .station .told ≡ d .station .said)
+          → Indicated d f × (after d f .station .desk .told ≡ d .station .desk .said)
       indicated i = (
         record {
           session = s;
@@ -125,7 +125,7 @@ module _ (d : Device) (f : List ℕ) where
       where
         carried : accepts (sessionAfter s r) n ≡ true
             → Clears d f
-            ⊎ ((carriedHere (acknowledged d s r) (drop 2 f) .antenna .raised ≡ d .antenna .raised)
+            ⊎ ((carriedHere (acknowledged d s r) (drop 2 f) .antenna .drive .raised ≡ d .antenna .drive .raised)
             × (carriedHere (acknowledged d s r) (drop 2 f) .told ≡ stationAfter (d .station) s r .told))
         carried a =
             ⊎-elim
@@ -147,9 +147,9 @@ module _ (d : Device) (f : List ℕ) where
 
   -- clear alarms; or raised stays, and told does too but where an indication is acknowledged
   pub alarms-cases : Clears d f
-      ⊎ ((after d f .antenna .raised ≡ d .antenna .raised)
-      × ((after d f .station .told ≡ d .station .told)
-      ⊎ (Indicated d f × (after d f .station .told ≡ d .station .said))))
+      ⊎ ((after d f .antenna .drive .raised ≡ d .antenna .drive .raised)
+      × ((after d f .station .desk .told ≡ d .station .desk .told)
+      ⊎ (Indicated d f × (after d f .station .desk .told ≡ d .station .desk .said))))
   unfolding saying endedAs unsaidAt moves begun released rejected
   alarms-cases =
       judged-cases d f (λ t. judgedFrame d f ≡ t → Changed) (λ u. stay _ refl refl) (λ w x. stay _ refl refl)
@@ -159,24 +159,24 @@ module _ (d : Device) (f : List ℕ) where
       (λ s r w e. numbered-changes (Rr r) r s refl w) (λ s r w e. numbered-changes (Rnr r) r s refl w) refl
 
   -- "clear alarms: raised and told become empty"
-  pub clears-both : Clears d f → (after d f .antenna .raised ≡ calm) × (after d f .station .told ≡ calm)
+  pub clears-both : Clears d f → (after d f .antenna .drive .raised ≡ calm) × (after d f .station .desk .told ≡ calm)
   unfolding left deviceOf answersWith heeded quieted
   clears-both c =
       let e = comes-leaves d f (come.clears (c .session) (c .ns) (c .nr) (c .frame) (c .message)) in
-      (ap (λ (x : Device). x .antenna .raised) e, ap (λ (x : Device). x .station .told) e)
+      (ap (λ (x : Device). x .antenna .drive .raised) e, ap (λ (x : Device). x .station .desk .told) e)
 
-  pub raised-cases : (after d f .antenna .raised ≡ d .antenna .raised)
-      ⊎ (Clears d f × (after d f .antenna .raised ≡ calm))
+  pub raised-cases : (after d f .antenna .drive .raised ≡ d .antenna .drive .raised)
+      ⊎ (Clears d f × (after d f .antenna .drive .raised ≡ calm))
   raised-cases = ⊎-elim (λ c. inr (c, clears-both c .0)) (λ k. inl (k .0)) alarms-cases
 
-  pub told-cases : (after d f .station .told ≡ d .station .told)
-      ⊎ ((Clears d f × (after d f .station .told ≡ calm))
-      ⊎ (Indicated d f × (after d f .station .told ≡ d .station .said)))
+  pub told-cases : (after d f .station .desk .told ≡ d .station .desk .told)
+      ⊎ ((Clears d f × (after d f .station .desk .told ≡ calm))
+      ⊎ (Indicated d f × (after d f .station .desk .told ≡ d .station .desk .said)))
   told-cases =
       ⊎-elim (λ c. inr (inl (c, clears-both c .1))) (λ k. ⊎-elim inl (λ i. inr (inr i)) (k .1)) alarms-cases
 
   -- "Told is updated when the indication is acknowledged, to what it said."
-  pub indicated-tells : Indicated d f → (Clears d f → ⊥) → after d f .station .told ≡ d .station .said
+  pub indicated-tells : Indicated d f → (Clears d f → ⊥) → after d f .station .desk .told ≡ d .station .desk .said
   indicated-tells i other =
       ⊎-elim (λ c. absurd (other c))
       (λ k. k .1 ∙ told-said (d .station) (i .session) (i .nr) (i .removes) (i .pending))

@@ -29,7 +29,7 @@ module _ (d : Device) (s : Session) (P : Turn → Type 0) where
       (saying (deviceOf d (answersWith (d .station) s (payloadOf (resultOf b))) (moves (d .antenna) Still)) (pend s)))
       (tells : pends (s .pending) ≡ false → waitingOf (d .antenna .motion) ≡ Waits.Nothing
       → toTell (d .station) (d .antenna) ≡ true → P
-      (saying (deviceOf d (indicates (d .station) s (d .antenna .raised)) (d .antenna)) (pend s)))
+      (saying (deviceOf d (indicates (d .station) s (d .antenna .drive .raised)) (d .antenna)) (pend s)))
       (rests : pends (s .pending) ≡ false → waitingOf (d .antenna .motion) ≡ Waits.Nothing
       → toTell (d .station) (d .antenna) ≡ false → P (saying d (ready s))) where
     pub poll-cases : P (pollOf d s)
@@ -38,7 +38,7 @@ module _ (d : Device) (s : Session) (P : Turn → Type 0) where
       where
         told : pends (s .pending) ≡ false → waitingOf (d .antenna .motion) ≡ Waits.Nothing → (b : Bool)
             → toTell (d .station) (d .antenna) ≡ b → P
-            (cond b (saying (deviceOf d (indicates (d .station) s (d .antenna .raised)) (d .antenna)) (pend s))
+            (cond b (saying (deviceOf d (indicates (d .station) s (d .antenna .drive .raised)) (d .antenna)) (pend s))
             (saying d (ready s)))
         told p w true e = tells p w e
         told p w false e = rests p w e

@@ -21,8 +21,8 @@ use Rattle.conduct.proofs.Settles.{address-kept, settled-link}
 
 pub record Within (d : Device) (s : Session) : Type 0 where
   pub plate : platesAllowed (d .plate) ≡ true
-  pub range : inRange (d .antenna) (d .antenna .tilt) ≡ true
-  pub address : addressed (d .station .address) ≡ true
+  pub range : inRange (d .antenna) (d .antenna .drive .tilt) ≡ true
+  pub address : addressed (d .station .desk .address) ≡ true
   pub link : d .station .link ≡ Connected s
   pub numbers : numbersAllowed s ≡ true
   pub fits : pendingFits (d .station) (s .pending) ≡ true
@@ -31,7 +31,7 @@ pub within : (d : Device) (s : Session) → allowedDevice d ≡ true → d .stat
 unfolding stationAllowed linkAllowed sessionAllowed
 within d s e l =
     let w = sound d e in
-    let here = and-parts (addressed (d .station .address)) (sessionAllowed (d .station) s)
+    let here = and-parts (addressed (d .station .desk .address)) (sessionAllowed (d .station) s)
     (sym (ap (linkAllowed (d .station)) l) ∙ w .station) in
     let session = and-parts (numbersAllowed s) (pendingFits (d .station) (s .pending)) (here .1) in
     record {

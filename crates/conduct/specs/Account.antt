@@ -22,7 +22,7 @@ use Rattle.record.specs.declared.Pending.the-variants.{Answer, Indication}
 use Rattle.record.specs.declared.Session.{Session}
 use Rattle.record.specs.declared.Link.the-variants.{AddressAssigned, Connected}
 use Rattle.record.specs.declared.Device.{Device}
-use Rattle.record.specs.Fresh.{calm, noReply}
+use Rattle.record.specs.Desk.{calm, noReply}
 use Rattle.payload.specs.Payloads.{payloadOf, resultOf}
 use Rattle.message.specs.Messages.{askedOf}
 use Rattle.message.specs.declared.Reply.{Reply}
@@ -69,12 +69,12 @@ pub record Continues (d : Device) (f : List ℕ) (s t : Session) : Type 0 where
 pub record Account (d : Device) (f : List ℕ) : Type 0 where
   -- fixed data, range and tilt: no frame changes them
   pub plate : after d f .plate ≡ d .plate
-  pub lowest : after d f .antenna .lowest ≡ d .antenna .lowest
-  pub highest : after d f .antenna .highest ≡ d .antenna .highest
-  pub tilt : after d f .antenna .tilt ≡ d .antenna .tilt
+  pub lowest : after d f .antenna .drive .lowest ≡ d .antenna .drive .lowest
+  pub highest : after d f .antenna .drive .highest ≡ d .antenna .drive .highest
+  pub tilt : after d f .antenna .drive .tilt ≡ d .antenna .drive .tilt
   -- "the address is taken": at a matching assignment, and else never
-  pub address-taken : (a : ℕ) → Assigns d f a → after d f .station .address ≡ a
-  pub address-kept : ((a : ℕ) → Assigns d f a → ⊥) → after d f .station .address ≡ d .station .address
+  pub address-taken : (a : ℕ) → Assigns d f a → after d f .station .desk .address ≡ a
+  pub address-kept : ((a : ℕ) → Assigns d f a → ⊥) → after d f .station .desk .address ≡ d .station .desk .address
   -- the link state
   pub link-assigned : (a : ℕ) → Assigns d f a → after d f .station .link ≡ AddressAssigned
   pub link-begun : Begins d f → after d f .station .link ≡ Connected newSession
@@ -86,15 +86,15 @@ pub record Account (d : Device) (f : List ℕ) : Type 0 where
   pub link-kept : ((s : Session) → d .station .link ≡ Connected s → ⊥) → (Drops d f → ⊥)
       → after d f .station .link ≡ d .station .link
   -- "raised and told become empty"; no other message, and no other frame, changes what is raised
-  pub raised-cleared : Clears d f → after d f .antenna .raised ≡ calm
-  pub raised-kept : (Clears d f → ⊥) → after d f .antenna .raised ≡ d .antenna .raised
+  pub raised-cleared : Clears d f → after d f .antenna .drive .raised ≡ calm
+  pub raised-kept : (Clears d f → ⊥) → after d f .antenna .drive .raised ≡ d .antenna .drive .raised
   -- "Told is updated when the indication is acknowledged, to what it said"; clear alarms in the same frame wins
-  pub told-cleared : Clears d f → after d f .station .told ≡ calm
-  pub told-updated : (Clears d f → ⊥) → Indicated d f → after d f .station .told ≡ d .station .said
-  pub told-kept : (Clears d f → ⊥) → (Indicated d f → ⊥) → after d f .station .told ≡ d .station .told
+  pub told-cleared : Clears d f → after d f .station .desk .told ≡ calm
+  pub told-updated : (Clears d f → ⊥) → Indicated d f → after d f .station .desk .told ≡ d .station .desk .said
+  pub told-kept : (Clears d f → ⊥) → (Indicated d f → ⊥) → after d f .station .desk .told ≡ d .station .desk .told
   -- "0x12 subscribe"
-  pub subscribed-on : Subscribes d f → after d f .station .subscribed ≡ true
-  pub subscribed-kept : (Subscribes d f → ⊥) → after d f .station .subscribed ≡ d .station .subscribed
+  pub subscribed-on : Subscribes d f → after d f .station .desk .subscribed ≡ true
+  pub subscribed-kept : (Subscribes d f → ⊥) → after d f .station .desk .subscribed ≡ d .station .desk .subscribed
   -- the motion: a tilt that is due starts it; a waiting result that is collected waits no more; an end drops what is owed
   pub motion-started : TiltDue d f
       → (d .antenna .motion ≡ Still) × (after d f .antenna .motion ≡ Owing (askedOf (drop 2 f)))
@@ -106,20 +106,20 @@ pub record Account (d : Device) (f : List ℕ) : Type 0 where
   pub dropped : Drops d f → Dropped (after d f)
   -- an answer, a result and an indication that are sent become pending
   pub answered : (w : Answered d f) → (pendingIn (after d f .station .link) ≡ Answer)
-      × (after d f .station .reply ≡ carriedHere (acknowledged d (w .session) (w .nr)) (drop 2 f) .payload)
-      × (after d f .station .said ≡ stationAfter (d .station) (w .session) (w .nr) .said)
+      × (after d f .station .desk .reply ≡ carriedHere (acknowledged d (w .session) (w .nr)) (drop 2 f) .payload)
+      × (after d f .station .desk .said ≡ stationAfter (d .station) (w .session) (w .nr) .said)
   pub delivered : (reached : Bool) (w : Delivers d f reached) → (pendingIn (after d f .station .link) ≡ Answer)
-      × (after d f .station .reply ≡ payloadOf (resultOf reached))
-      × (after d f .station .said ≡ stationAfter (d .station) (w .collects .session) (w .collects .nr) .said)
+      × (after d f .station .desk .reply ≡ payloadOf (resultOf reached))
+      × (after d f .station .desk .said ≡ stationAfter (d .station) (w .collects .session) (w .collects .nr) .said)
   pub told-of : (w : Tells d f) → (pendingIn (after d f .station .link) ≡ Indication)
-      × (after d f .station .said ≡ d .antenna .raised)
-      × (after d f .station .reply ≡ stationAfter (d .station) (w .collects .session) (w .collects .nr) .reply)
+      × (after d f .station .desk .said ≡ d .antenna .drive .raised)
+      × (after d f .station .desk .reply ≡ stationAfter (d .station) (w .collects .session) (w .collects .nr) .reply)
   -- an acknowledgement removes it, where nothing else is sent; and in no other way does it change
   pub removed : Acknowledges d f → (Answered d f → ⊥) → ((reached : Bool) → Delivers d f reached → ⊥)
       → (Tells d f → ⊥)
-      → (pendingIn (after d f .station .link) ≡ Pending.Nothing) × (after d f .station .reply ≡ noReply)
-      × (after d f .station .said ≡ calm)
+      → (pendingIn (after d f .station .link) ≡ Pending.Nothing) × (after d f .station .desk .reply ≡ noReply)
+      × (after d f .station .desk .said ≡ calm)
   pub pending-kept : (Acknowledges d f → ⊥) → (Answered d f → ⊥) → ((reached : Bool) → Delivers d f reached → ⊥)
       → (Tells d f → ⊥) → (Drops d f → ⊥)
       → (pendingIn (after d f .station .link) ≡ pendingIn (d .station .link))
-      × (after d f .station .reply ≡ d .station .reply) × (after d f .station .said ≡ d .station .said)
+      × (after d f .station .desk .reply ≡ d .station .desk .reply) × (after d f .station .desk .said ≡ d .station .desk .said)

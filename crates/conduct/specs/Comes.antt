@@ -23,7 +23,7 @@ use Rattle.record.specs.declared.Link.the-variants.{AddressAssigned, Connected}
 use Rattle.record.specs.declared.Device.{Device}
 use Rattle.record.specs.Allowed.{identityOf}
 use Rattle.record.specs.Changes.{deviceOf, endedAs}
-use Rattle.record.specs.Fresh.{calm}
+use Rattle.record.specs.Desk.{calm}
 use Rattle.session.specs.Session.{pends, goodNumber, accepts, taken, countsOf}
 use Rattle.payload.specs.Payloads.{payloadOf, successOf, resultOf}
 use Rattle.message.specs.Messages.{askedOf, Due}
@@ -65,7 +65,7 @@ pub data Comes (d : Device) (f : List ℕ) : Type 0 where
   subscribes : (s : Session) (n r : ℕ) → Accepted d f s n r → drop 2 f ≡ 0x12 ∷ 0 ∷ 0 ∷ [] → Comes d f
   answers : (s : Session) (n r : ℕ) (b : List ℕ) → Accepted d f s n r
       → carriedHere (acknowledged d s r) (drop 2 f)
-      ≡ replies b (d .antenna) (stationAfter (d .station) s r .told) (d .station .subscribed)
+      ≡ replies b (d .antenna) (stationAfter (d .station) s r .told) (d .station .desk .subscribed)
       → Comes d f
   murmurs : (s : Session) (n r : ℕ) → Accepted d f s n r → length (drop 2 f) < 3 → Comes d f
   -- "Any other isn't carried out and moves nothing; it gets the pending answer again, else RR with N(R) = R."
@@ -109,21 +109,21 @@ left d f (miscounts s o r w l n b) = released d
 left d f (unknown s w l) = released d
 left d f (starts s n r w due) =
     unansweredAs d s r (moves (d .antenna) (Owing (askedOf (drop 2 f)))) (stationAfter (d .station) s r .told)
-    (d .station .subscribed)
-left d f (clears s n r w m) = answeredAs d s r (quieted (d .antenna)) calm (d .station .subscribed) (successOf 0x06 [])
+    (d .station .desk .subscribed)
+left d f (clears s n r w m) = answeredAs d s r (quieted (d .antenna)) calm (d .station .desk .subscribed) (successOf 0x06 [])
 left d f (subscribes s n r w m) =
     answeredAs d s r (d .antenna) (stationAfter (d .station) s r .told) true (successOf 0x12 [])
 left d f (answers s n r b w e) =
-    answeredAs d s r (d .antenna) (stationAfter (d .station) s r .told) (d .station .subscribed) b
+    answeredAs d s r (d .antenna) (stationAfter (d .station) s r .told) (d .station .desk .subscribed) b
 left d f (murmurs s n r w h) =
-    unansweredAs d s r (d .antenna) (stationAfter (d .station) s r .told) (d .station .subscribed)
+    unansweredAs d s r (d .antenna) (stationAfter (d .station) s r .told) (d .station .desk .subscribed)
 left d f (repeats s n r w a) = acknowledged d s r
 left d f (resends s r w p) = acknowledged d s r
 left d f (delivers s r reached w p q) =
     deviceOf d (answersWith (stationAfter (d .station) s r) (sessionAfter s r) (payloadOf (resultOf reached)))
     (moves (d .antenna) Still)
 left d f (indicates s r w p q t) =
-    deviceOf d (poll.indicates (stationAfter (d .station) s r) (sessionAfter s r) (d .antenna .raised)) (d .antenna)
+    deviceOf d (poll.indicates (stationAfter (d .station) s r) (sessionAfter s r) (d .antenna .drive .raised)) (d .antenna)
 left d f (rests s r w p q t) = acknowledged d s r
 left d f (pauses s r w) = acknowledged d s r
 

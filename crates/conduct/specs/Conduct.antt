@@ -74,7 +74,7 @@ pub record TiltStarted (d : Device) (f : List ℕ) (s : Session) (r : ℕ) : Typ
   pub link : after d f .station .link ≡ Connected (movedOn s r)
   pub station : after d f .station
       ≡ heeded (stationAfter (d .station) s r) (movedOn s r) (stationAfter (d .station) s r .told)
-      (d .station .subscribed)
+      (d .station .desk .subscribed)
   pub said : judgedFrame d f .say ≡ ready (movedOn s r)
 
 -- an event that is refused leaves the device as it was

@@ -28,7 +28,7 @@ use Rattle.record.specs.declared.Link.the-variants.{NoAddress, AddressAssigned,
 use Rattle.record.specs.declared.Device.{Device}
 use Rattle.record.specs.Allowed.{identityOf}
 use Rattle.record.specs.Changes.{endedAs}
-use Rattle.record.specs.Fresh.{calm, noReply}
+use Rattle.record.specs.Desk.{calm, noReply}
 use Rattle.session.specs.Session.{pends, goodNumber}
 use Rattle.xid.specs.Meaning.{Takes}
 use Rattle.acknowledge.specs.Acknowledge.{sessionAfter}
@@ -75,17 +75,17 @@ Drops d f = Ends d f ⊎ (Begins d f ⊎ ((a : ℕ) × Assigns d f a))
 
 pub record Dropped (e : Device) : Type 0 where
   pub pending : pendingIn (e .station .link) ≡ Nothing
-  pub reply : e .station .reply ≡ noReply
-  pub said : e .station .said ≡ calm
+  pub reply : e .station .desk .reply ≡ noReply
+  pub said : e .station .desk .said ≡ calm
   pub owed : owesOf (e .antenna .motion) ≡ false
 
 pub record Survives (d e : Device) : Type 0 where
-  pub raised : e .antenna .raised ≡ d .antenna .raised
-  pub told : e .station .told ≡ d .station .told
-  pub subscribed : e .station .subscribed ≡ d .station .subscribed
-  pub lowest : e .antenna .lowest ≡ d .antenna .lowest
-  pub highest : e .antenna .highest ≡ d .antenna .highest
-  pub tilt : e .antenna .tilt ≡ d .antenna .tilt
+  pub raised : e .antenna .drive .raised ≡ d .antenna .drive .raised
+  pub told : e .station .desk .told ≡ d .station .desk .told
+  pub subscribed : e .station .desk .subscribed ≡ d .station .desk .subscribed
+  pub lowest : e .antenna .drive .lowest ≡ d .antenna .drive .lowest
+  pub highest : e .antenna .drive .highest ≡ d .antenna .drive .highest
+  pub tilt : e .antenna .drive .tilt ≡ d .antenna .drive .tilt
   pub running : runs (e .antenna .motion) ≡ runs (d .antenna .motion)
 
 pub record Collects (d : Device) (f : List ℕ) : Type 0 where

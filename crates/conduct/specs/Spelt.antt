@@ -89,24 +89,24 @@ assignmentSaid a i = a ∷ 0xBF ∷ 0x81 ∷ 0xF0 ∷ (length i + 5) ∷ 1 ∷ l
 -- "Answers carry the device's address (0 in NoAddress)"; "UA 0x73", "DM 0x1F"; after an accepted I-frame "R moves on"
 unfoldable pub octetsSaid : (d : Device) (f : List ℕ) → Comes d f → Option (List ℕ)
 octetsSaid d f (unread w) = none
-octetsSaid d f (scans w m) = some (scanSaid (d .station .address) (identityOf (d .plate)))
+octetsSaid d f (scans w m) = some (scanSaid (d .station .desk .address) (identityOf (d .plate)))
 octetsSaid d f (assigns a w) = some (assignmentSaid a (identityOf (d .plate)))
-octetsSaid d f (begins w l) = some (d .station .address ∷ 0x73 ∷ [])
-octetsSaid d f (declines o w n l) = some (d .station .address ∷ 0x1F ∷ [])
-octetsSaid d f (renews s w l) = some (d .station .address ∷ 0x73 ∷ [])
-octetsSaid d f (leaves s w l) = some (d .station .address ∷ 0x73 ∷ [])
-octetsSaid d f (miscounts s o r w l n b) = frmr (d .station .address) (controlOf f) s 8
-octetsSaid d f (unknown s w l) = frmr (d .station .address) (controlOf f) s 1
-octetsSaid d f (starts s n r w due) = rr (d .station .address) (s .r + 1)
-octetsSaid d f (clears s n r w m) = info (d .station .address) r (s .r + 1) (0x06 ∷ 1 ∷ 0 ∷ 0x00 ∷ [])
-octetsSaid d f (subscribes s n r w m) = info (d .station .address) r (s .r + 1) (0x12 ∷ 1 ∷ 0 ∷ 0x00 ∷ [])
-octetsSaid d f (answers s n r b w e) = info (d .station .address) r (s .r + 1) b
-octetsSaid d f (murmurs s n r w few) = rr (d .station .address) (s .r + 1)
+octetsSaid d f (begins w l) = some (d .station .desk .address ∷ 0x73 ∷ [])
+octetsSaid d f (declines o w n l) = some (d .station .desk .address ∷ 0x1F ∷ [])
+octetsSaid d f (renews s w l) = some (d .station .desk .address ∷ 0x73 ∷ [])
+octetsSaid d f (leaves s w l) = some (d .station .desk .address ∷ 0x73 ∷ [])
+octetsSaid d f (miscounts s o r w l n b) = frmr (d .station .desk .address) (controlOf f) s 8
+octetsSaid d f (unknown s w l) = frmr (d .station .desk .address) (controlOf f) s 1
+octetsSaid d f (starts s n r w due) = rr (d .station .desk .address) (s .r + 1)
+octetsSaid d f (clears s n r w m) = info (d .station .desk .address) r (s .r + 1) (0x06 ∷ 1 ∷ 0 ∷ 0x00 ∷ [])
+octetsSaid d f (subscribes s n r w m) = info (d .station .desk .address) r (s .r + 1) (0x12 ∷ 1 ∷ 0 ∷ 0x00 ∷ [])
+octetsSaid d f (answers s n r b w e) = info (d .station .desk .address) r (s .r + 1) b
+octetsSaid d f (murmurs s n r w few) = rr (d .station .desk .address) (s .r + 1)
 octetsSaid d f (repeats s n r w a) = again (d .station) s r (kept s r)
-octetsSaid d f (resends s r w p) = info (d .station .address) r (s .r) (pendingSaid (d .station) (s .pending))
-octetsSaid d f (delivers s r reached w p q) = info (d .station .address) r (s .r) (resultSaid reached)
+octetsSaid d f (resends s r w p) = info (d .station .desk .address) r (s .r) (pendingSaid (d .station) (s .pending))
+octetsSaid d f (delivers s r reached w p q) = info (d .station .desk .address) r (s .r) (resultSaid reached)
 octetsSaid d f (indicates s r w p q t) =
-    info (d .station .address) r (s .r)
-    (indication (changesOf (d .antenna .raised .flags) (stationAfter (d .station) s r .told .flags)))
-octetsSaid d f (rests s r w p q t) = rr (d .station .address) (s .r)
-octetsSaid d f (pauses s r w) = rr (d .station .address) (s .r)
+    info (d .station .desk .address) r (s .r)
+    (indication (changesOf (d .antenna .drive .raised .flags) (stationAfter (d .station) s r .told .flags)))
+octetsSaid d f (rests s r w p q t) = rr (d .station .desk .address) (s .r)
+octetsSaid d f (pauses s r w) = rr (d .station .desk .address) (s .r)

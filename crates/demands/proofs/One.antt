@@ -103,7 +103,7 @@ changes-to x (Outcome.Refused k) c = let (number, same) = unchange-told x c in r
 pub data Defined (x : Answer Reaction) (d : Device) (o : List ℕ) (r : Judged) (o' : List ℕ) : Type 0 where
   -- the frame of x, of 2 to 76 octets, that carries the device's address, at the start of the buffer; and x's device
   frame : (y : Reaction) (g : List ℕ) → x ≡ gives y → y .frame ≡ some g → r .said ≡ Frame (length g)
-      → r .device ≡ y .device → 2 ≤ length g → length g ≤ 76 → getD g 0 0 ≡ r .device .station .address
+      → r .device ≡ y .device → 2 ≤ length g → length g ≤ 76 → getD g 0 0 ≡ r .device .station .desk .address
       → o' ≡ g atStartOf o → Defined x d o r o'
   -- silence, where x has no frame: the device and the buffer as they were
   silence : (y : Reaction) → x ≡ gives y → y .frame ≡ none → r .said ≡ Silence → r .device ≡ d → o' ≡ o
@@ -145,9 +145,9 @@ defined x d f o {r} {o'} came w = go (r .said) refl
         let (allowed, reacted) = came y is in
         let (least, most, address) =
         answer-fits d f g allowed (ap (λ (z : Reaction). z .frame) reacted ∙ framed) in
-        let there = ap (λ (z : Reaction). z .device .station .address) reacted in
+        let there = ap (λ (z : Reaction). z .device .station .desk .address) reacted in
         frame y g is framed (e ∙ ap Frame count) device least most
-        (address ∙ there ∙ sym (ap (λ (b : Device). b .station .address) device)) octets
+        (address ∙ there ∙ sym (ap (λ (b : Device). b .station .desk .address) device)) octets
     go (Refused k) e =
         let (number, device, octets) = refused-keeps x k e w in refusal k number e device octets
 
@@ -297,7 +297,7 @@ fresh-numbers = fresh-6
 
 -- "device data, or a device record handed in, not allowed" and "a device event that can't be", phrase by phrase: the
 -- tests that 6 and 8 go by are true exactly of the records, the data and the events that 01 allows
-pub allowed-words : (d : Device) → length (d .station .said .flags) ≡ length (d .station .told .flags)
+pub allowed-words : (d : Device) → length (d .station .desk .said .flags) ≡ length (d .station .desk .told .flags)
     → allowedDevice d ≡ true ↔ AllowedRecord d
 allowed-words = allowed-exactly
 

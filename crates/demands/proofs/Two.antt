@@ -202,16 +202,16 @@ matching i m a = (scan-exactly i m, assignment-exactly i m a)
 module _ (d : Device) (allowed : allowedDevice d ≡ true) (assigned : hasAddress (d .station .link) ≡ true) where
   -- SNRM, written on the line to an assigned device, gets UA from its address
   pub snrm-heard : (room : ℕ) → 76 ≤ room
-      → heard d (inside (lineOf (d .station .address ∷ 0x93 ∷ []))) room
-      ≡ gives (record { device = begun d; frame = some (d .station .address ∷ 0x73 ∷ []) })
+      → heard d (inside (lineOf (d .station .desk .address ∷ 0x93 ∷ []))) room
+      ≡ gives (record { device = begun d; frame = some (d .station .desk .address ∷ 0x73 ∷ []) })
   unfolding reacts saying frameBy isSilent controlBy payloadBy begun endedAs unsaidAt
   snrm-heard room h =
-      let a = d .station .address in
+      let a = d .station .desk .address in
       written-heard d a 0x93 [] room (omega (arith, address-fits d allowed), (omega arith, tt)) (omega arith)
       ∙ judge-answer d (a ∷ 0x93 ∷ []) room _ .1 (allowed, h, ap reactionOf (snrm-answered d allowed assigned))
 
   -- and a new session
-  pub snrm-session : after d (d .station .address ∷ 0x93 ∷ []) .station .link ≡ Connected newSession
+  pub snrm-session : after d (d .station .desk .address ∷ 0x93 ∷ []) .station .link ≡ Connected newSession
   snrm-session = snrm-connects d allowed assigned
 
 -- ---- no frame and no event makes a record that would be refused

@@ -66,20 +66,20 @@ module _ (d : Device) (allowed : allowedDevice d ≡ true) where
   payload-short (Reject c v w) = omega arith
   payload-short (Pend c) = link-short (d .station) (d .station .link) (sound d allowed .station)
   payload-short Scanned =
-      scan-short (identityOf (d .plate)) (plate-identity (d .plate) (sound d allowed .plate)) (d .station .address)
+      scan-short (identityOf (d .plate)) (plate-identity (d .plate) (sound d allowed .plate)) (d .station .desk .address)
   payload-short Assigned =
       assignment-short (identityOf (d .plate)) (plate-identity (d .plate) (sound d allowed .plate))
 
   pub frame-fits : (x : Say) (g : List ℕ) → frameBy d x ≡ some g
-      → (2 ≤ length g) × (length g ≤ 76) × (getD g 0 0 ≡ d .station .address)
+      → (2 ≤ length g) × (length g ≤ 76) × (getD g 0 0 ≡ d .station .desk .address)
   unfolding frameBy
   frame-fits x g e = go (isSilent x) e
     where
       f : List ℕ
-      f = d .station .address ∷ controlBy x ∷ payloadBy d x
+      f = d .station .desk .address ∷ controlBy x ∷ payloadBy d x
 
       go : (b : Bool) → cond b none (some f) ≡ some g
-          → (2 ≤ length g) × (length g ≤ 76) × (getD g 0 0 ≡ d .station .address)
+          → (2 ≤ length g) × (length g ≤ 76) × (getD g 0 0 ≡ d .station .desk .address)
       go true q = absurd (none-not-some q)
       go false q =
           let same : f ≡ g = some-same q in
@@ -97,7 +97,7 @@ address-most t AddressAssigned e = addressed-most (t .address) e
 address-most t (Connected s) e =
     addressed-most (t .address) (and-parts (addressed (t .address)) (sessionAllowed t s) e .0)
 
-pub address-fits : (d : Device) → allowedDevice d ≡ true → d .station .address ≤ 254
+pub address-fits : (d : Device) → allowedDevice d ≡ true → d .station .desk .address ≤ 254
 unfolding stationAllowed
 address-fits d allowed = address-most (d .station) (d .station .link) (sound d allowed .station)
 
@@ -105,6 +105,6 @@ address-fits d allowed = address-most (d .station) (d .station .link) (sound d a
 
 pub answer-fits : (d : Device) (f g : List ℕ) → allowedDevice d ≡ true
     → frameBy (judgedFrame d f .device) (judgedFrame d f .say) ≡ some g
-    → (2 ≤ length g) × (length g ≤ 76) × (getD g 0 0 ≡ judgedFrame d f .device .station .address)
+    → (2 ≤ length g) × (length g ≤ 76) × (getD g 0 0 ≡ judgedFrame d f .device .station .desk .address)
 answer-fits d f g allowed =
     frame-fits (judgedFrame d f .device) (stays-allowed d f allowed) (judgedFrame d f .say) g

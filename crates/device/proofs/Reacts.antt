@@ -51,7 +51,7 @@ module _ (d : Device) (x : Say) (o : List ℕ) {r : Spoken} (e : r ≡ spokenOf 
       go : (b : Bool) → isSilent x ≡ b → Judges (gives (reacts d x)) d o (record { said = Silence; device = d }) o
       go true q = record { said = rw q; device = refl; buffer = rw q }
       go false q =
-          let f : List ℕ = d .station .address ∷ controlBy x ∷ payloadBy d x in
+          let f : List ℕ = d .station .desk .address ∷ controlBy x ∷ payloadBy d x in
           let two : r .len ≡ length f = ap (λ (y : Spoken). y .len) e ∙ rw q in
           absurd (omega (arith, two, z))
 
@@ -65,7 +65,7 @@ module _ (d : Device) (x : Say) (o : List ℕ) {r : Spoken} (e : r ≡ spokenOf 
           → Judges (gives (reacts d x)) d o (record { said = Frame (r .len); device = d }) o'
       go true q = absurd (heard (ap (λ (y : Spoken). y .len) e ∙ rw q))
       go false q =
-          let f : List ℕ = d .station .address ∷ controlBy x ∷ payloadBy d x in
+          let f : List ℕ = d .station .desk .address ∷ controlBy x ∷ payloadBy d x in
           let n : r .len ≡ length f = ap (λ (y : Spoken). y .len) e ∙ rw q in
           let t : take (r .len) (r .octets) ≡ f =
           ap (λ (y : Spoken). take (y .len) (y .octets)) e ∙ rw q (take-start f (replicate 76 0)) in

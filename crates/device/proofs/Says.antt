@@ -36,7 +36,7 @@ module _ (d : Device) (f : List ℕ) (room : ℕ) (allowed : allowedDevice d ≡
 
   -- "Answer, in any state: 1 (unpadded, n octets), 2, 4 in that order; length field n+8"
   pub scan-octets : Everyone f → Answers (identityOf (d .plate)) (drop 2 f) → (a : ℕ) (i : List ℕ)
-      → d .station .address ≡ a → identityOf (d .plate) ≡ i
+      → d .station .desk .address ≡ a → identityOf (d .plate) ≡ i
       → judged d f room
       ≡ gives
       (record {

@@ -2,42 +2,37 @@
 // Assumes nothing of its caller: any record of the type may be handed in.
 // Headline: an allowed record stays allowed at a session's end (record/proofs/Stays.antt).
 ghost use mathlib.Core.Path.{_≡_};
-ghost use Rattle.record.specs.Fresh.{calm, noReply};
+ghost use Rattle.antenna.specs.Motions.{unowedOf};
 ghost use Rattle.record.specs.Changes.{unsaidAt, endedAs};
-use antenna::Alarms;
+use antenna::Antenna;
+use antenna::Motion;
 use record::Device;
 use record::Link;
-use record::Payload;
 use record::Station;
 
-fn calm() -> Alarms
-    ensures { λ r. ⌜ r ≡ calm ⌝ }
+// A result owed is dropped; a running movement stays.
+fn unowed(motion: Motion) -> Motion
+    ensures { λ r. ⌜ r ≡ unowedOf motion ⌝ }
 {
-    Alarms { flags: [false; 6] }
-}
-
-fn no_reply() -> Payload
-    ensures { λ r. ⌜ r ≡ noReply ⌝ }
-{
-    Payload {
-        octets: [0u8; 74],
-        len: 0,
+    match motion {
+        Motion::Still => Motion::Still,
+        Motion::Moving => Motion::Moving,
+        Motion::Owing { asked: _ } => Motion::Moving,
+        Motion::Stopped { reached: _ } => Motion::Still,
     }
 }
 
 // The station at an address and in a link state, with nothing pending.
-pub fn unsaid(station: Station, address: u8, link: Link) -> Station
+fn unsaid(station: Station, address: u8, link: Link) -> Station
     ensures { λ r. ⌜ r ≡ unsaidAt station address link ⌝ }
 {
-    let told = station.told;
-    Station {
-        address,
-        link,
-        subscribed: station.subscribed,
-        told,
-        said: calm(),
-        reply: no_reply(),
-    }
+    let mut desk = station.desk;
+    let said = antenna::CALM;
+    let reply = record::NO_REPLY;
+    desk.address = address;
+    desk.said = said;
+    desk.reply = reply;
+    Station { link, desk }
 }
 
 // The device after its session's end, at an address and in a link state: what was pending or owed is dropped.
@@ -48,11 +43,13 @@ pub fn ended(device: Device, address: u8, link: Link) -> Device
     let station = device.station;
     let antenna = device.antenna;
     let motion = antenna.motion;
-    let released = antenna::in_motion(antenna, antenna::unowed(motion));
-    let quiet = unsaid(station, address, link);
+    let drive = antenna.drive;
     Device {
         plate,
-        station: quiet,
-        antenna: released,
+        station: unsaid(station, address, link),
+        antenna: Antenna {
+            motion: unowed(motion),
+            drive,
+        },
     }
 }

@@ -7,22 +7,27 @@ ghost use mathlib.Core.Bool.{true};
 ghost use Prim.Native.Nat.{_≤_};
 ghost use lib.ListN.{length};
 ghost use Rattle.refusal.specs.Answer.{Changes};
+ghost use Rattle.identity.specs.Identity.{width};
+ghost use Rattle.record.specs.Allowed.{productMost, versionMost};
 ghost use Rattle.record.specs.Fresh.{textsAllowed, dataAllowed, identityFrom, productFrom, versionFrom};
-ghost use Rattle.record.specs.Fresh.{plateFrom, calm, noReply, freshAntenna, freshFrom, freshOf, blankDevice};
-use antenna::Alarms;
+ghost use Rattle.record.specs.Fresh.{plateFrom, freshAntenna, freshFrom, freshOf, blankDevice};
 use antenna::Angle;
 use antenna::Antenna;
+use antenna::Drive;
 use antenna::Motion;
+use identity::OCTETS;
 use record::Changed;
+use record::Desk;
 use record::Device;
 use record::Identity;
 use record::Link;
-use record::Payload;
 use record::Plate;
 use record::Product;
+use record::PRODUCT;
 use record::Span;
 use record::Station;
 use record::Version;
+use record::VERSION;
 use refusal::Outcome;
 use refusal::Refusal;
 
@@ -31,13 +36,13 @@ fn texts_allowed(identity: &[u8], product: &[u8], hardware: &[u8], software: &[u
         (now (software .entry)) ⌝ }
 {
     if identity::allowed(identity) {
-        if 20 < product.len() {
+        if PRODUCT < product.len() {
             return false;
         }
-        if 14 < hardware.len() {
+        if VERSION < hardware.len() {
             return false;
         }
-        return software.len() <= 14;
+        return software.len() <= VERSION;
     }
     false
 }
@@ -52,7 +57,8 @@ fn data_allowed(
     ensures { λ r. ⌜ r ≡ dataAllowed (now (identity .entry)) (now (product .entry)) (now (hardware .entry))
         (now (software .entry)) antenna ⌝ }
 {
-    let tilt = antenna.tilt;
+    let drive = antenna.drive;
+    let tilt = drive.tilt;
     if texts_allowed(identity, product, hardware, software) {
         aim::in_range(antenna, tilt)
     } else {
@@ -62,10 +68,10 @@ fn data_allowed(
 
 // The octets of `s`, zeros behind them.
 fn identity_from(s: &[u8]) -> Identity
-    requires { ⌜ length (now s) ≤ 19 ⌝ }
+    requires { ⌜ length (now s) ≤ width ⌝ }
     ensures { λ r. ⌜ r ≡ identityFrom (now (s .entry)) ⌝ }
 {
-    let mut octets = [0u8; 19];
+    let mut octets = [0u8; OCTETS];
     octets::put_all(&mut octets, 0, s);
     Identity {
         octets,
@@ -74,10 +80,10 @@ fn identity_from(s: &[u8]) -> Identity
 }
 
 fn product_from(s: &[u8]) -> Product
-    requires { ⌜ length (now s) ≤ 20 ⌝ }
+    requires { ⌜ length (now s) ≤ productMost ⌝ }
     ensures { λ r. ⌜ r ≡ productFrom (now (s .entry)) ⌝ }
 {
-    let mut octets = [0u8; 20];
+    let mut octets = [0u8; PRODUCT];
     octets::put_all(&mut octets, 0, s);
     Product {
         octets,
@@ -86,10 +92,10 @@ fn product_from(s: &[u8]) -> Product
 }
 
 fn version_from(s: &[u8]) -> Version
-    requires { ⌜ length (now s) ≤ 14 ⌝ }
+    requires { ⌜ length (now s) ≤ versionMost ⌝ }
     ensures { λ r. ⌜ r ≡ versionFrom (now (s .entry)) ⌝ }
 {
-    let mut octets = [0u8; 14];
+    let mut octets = [0u8; VERSION];
     octets::put_all(&mut octets, 0, s);
     Version {
         octets,
@@ -114,30 +120,17 @@ fn plate_from(identity: &[u8], product: &[u8], hardware: &[u8], software: &[u8])
     }
 }
 
-fn calm() -> Alarms
-    ensures { λ r. ⌜ r ≡ calm ⌝ }
-{
-    Alarms { flags: [false; 6] }
-}
-
-fn no_reply() -> Payload
-    ensures { λ r. ⌜ r ≡ noReply ⌝ }
-{
-    Payload {
-        octets: [0u8; 74],
-        len: 0,
-    }
-}
-
 fn fresh_antenna(lowest: Angle, highest: Angle, present: Angle) -> Antenna
     ensures { λ r. ⌜ r ≡ freshAntenna lowest highest present ⌝ }
 {
     Antenna {
-        lowest,
-        highest,
-        tilt: present,
         motion: Motion::Still,
-        raised: calm(),
+        drive: Drive {
+            lowest,
+            highest,
+            tilt: present,
+            raised: antenna::CALM,
+        },
     }
 }
 
@@ -145,12 +138,14 @@ fn fresh_from(plate: Plate, antenna: Antenna) -> Device
     ensures { λ r. ⌜ r ≡ freshFrom plate antenna ⌝ }
 {
     let station = Station {
-        address: 0,
         link: Link::NoAddress,
-        subscribed: false,
-        told: calm(),
-        said: calm(),
-        reply: no_reply(),
+        desk: Desk {
+            address: 0,
+            subscribed: false,
+            told: antenna::CALM,
+            said: antenna::CALM,
+            reply: record::NO_REPLY,
+        },
     };
     Device {
         plate,
@@ -166,19 +161,19 @@ fn blank() -> Device
     let level = Angle { tenths: 0 };
     let plate = Plate {
         identity: Identity {
-            octets: [0u8; 19],
+            octets: [0u8; OCTETS],
             len: 0,
         },
         product: Product {
-            octets: [0u8; 20],
+            octets: [0u8; PRODUCT],
             len: 0,
         },
         hardware: Version {
-            octets: [0u8; 14],
+            octets: [0u8; VERSION],
             len: 0,
         },
         software: Version {
-            octets: [0u8; 14],
+            octets: [0u8; VERSION],
             len: 0,
         },
     };

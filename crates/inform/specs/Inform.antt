@@ -11,6 +11,7 @@ use Rattle.record.specs.declared.Session.{Session}
 use Rattle.record.specs.declared.Link.the-variants.{Connected}
 use Rattle.record.specs.declared.Station.{Station}
 use Rattle.record.specs.declared.Device.{Device}
+use Rattle.record.specs.Desk.{withSubscription, withTold}
 use Rattle.record.specs.Changes.{deviceOf}
 use Rattle.session.specs.Session.{accepts, taken}
 use Rattle.station.specs.declared.Turn.{Turn}
@@ -22,21 +23,13 @@ use Rattle.message.specs.declared.Reply.{Reply}
 
 -- what is told and the subscription are as the message leaves them
 unfoldable pub heeded : Station → Session → Alarms → Bool → Station
-heeded t s told sub =
-    record {
-      address = t .address;
-      link = Connected s;
-      subscribed = sub;
-      told = told;
-      said = t .said;
-      reply = t .reply;
-    }
+heeded t s told sub = record { link = Connected s; desk = withTold (withSubscription (t .desk) sub) told }
 
 abbrev pub heedOf : Device → Session → Carried → Device
 heedOf d s c = deviceOf d (heeded (d .station) s (c .told) (c .subscribed)) (c .antenna)
 
 abbrev pub carriedHere : Device → List ℕ → Carried
-carriedHere d m = carriedOf (d .plate) (d .antenna) (d .station .told) (d .station .subscribed) m
+carriedHere d m = carriedOf (d .plate) (d .antenna) (d .station .desk .told) (d .station .desk .subscribed) m
 
 -- an answer is pending from now on; no answer: "RR is sent", "Set tilt is answered RR at once"
 unfoldable pub repliedBy : Device → Session → Carried → Reply → Turn

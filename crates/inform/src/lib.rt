@@ -42,19 +42,16 @@ fn heed(device: Device, s: Session, carried: Carried) -> Device
 {
     let plate = device.plate;
     let station = device.station;
-    let said = station.said;
-    let reply = station.reply;
+    let mut desk = station.desk;
     let told = carried.told;
     let antenna = carried.antenna;
+    desk.subscribed = carried.subscribed;
+    desk.told = told;
     Device {
         plate,
         station: Station {
-            address: station.address,
             link: Link::Connected(s),
-            subscribed: carried.subscribed,
-            told,
-            said,
-            reply,
+            desk,
         },
         antenna,
     }
@@ -84,8 +81,9 @@ fn carry_here(device: Device, m: &[u8]) -> Carried
     let plate = device.plate;
     let station = device.station;
     let antenna = device.antenna;
-    let told = station.told;
-    message::carry(plate, antenna, told, station.subscribed, m)
+    let desk = station.desk;
+    let told = desk.told;
+    message::carry(plate, antenna, told, desk.subscribed, m)
 }
 
 fn carry(device: Device, s: Session, m: &[u8]) -> Turn

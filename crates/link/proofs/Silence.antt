@@ -16,12 +16,12 @@ use Rattle.link.specs.Link.{quiet, isOwn}
 use Rattle.link.specs.Frames.{Supervised, snrm, disc, rr, rnr}
 
 -- "Any other address than the device's own nonzero one: silence."
-pub own-exactly : (d : Device) (a : ℕ) → isOwn d a ≡ true ↔ (a ≡ d .station .address) × (a ≡ 0 → ⊥)
+pub own-exactly : (d : Device) (a : ℕ) → isOwn d a ≡ true ↔ (a ≡ d .station .desk .address) × (a ≡ 0 → ⊥)
 unfolding isOwn
 own-exactly d a = (
-  λ e. let parts = and-parts (eqb a (d .station .address)) (not (eqb a 0)) e in
-      (eqb-true a (d .station .address) (parts .0), eqb-false a 0 (not-true _ (parts .1))),
-  λ w. rw (eq-eqb a (d .station .address) (w .0), ne-eqb a 0 (w .1)),
+  λ e. let parts = and-parts (eqb a (d .station .desk .address)) (not (eqb a 0)) e in
+      (eqb-true a (d .station .desk .address) (parts .0), eqb-false a 0 (not-true _ (parts .1))),
+  λ w. rw (eq-eqb a (d .station .desk .address) (w .0), ne-eqb a 0 (w .1)),
 )
 
 why-quiet : (o : Order) (bare : Bool) → quiet o bare ≡ true → (o ≡ Xid) ⊎ ((bare ≡ false) × Supervised o)

@@ -48,7 +48,7 @@ everyoneBy d c p = cond (eqb c 0xBF) (xidBy d (readOf (identityOf (d .plate)) p)
 
 -- "Any other address than the device's own nonzero one: silence."
 unfoldable pub isOwn : Device → ℕ → Bool
-isOwn d a = eqb a (d .station .address) && not (eqb a 0)
+isOwn d a = eqb a (d .station .desk .address) && not (eqb a 0)
 
 unfoldable pub addressedBy : Device → ℕ → ℕ → List ℕ → Turn
 addressedBy d a c p = cond (eqb a 0xFF) (everyoneBy d c p) (cond (isOwn d a) (ownBy d (askedBy c) c p) (mute d))

@@ -72,7 +72,8 @@ fn is_own(device: Device, address: u8) -> bool
     ensures { λ r. ⌜ r ≡ isOwn device address ⌝ }
 {
     let station = device.station;
-    if address == station.address {
+    let desk = station.desk;
+    if address == desk.address {
         address != 0
     } else {
         false

@@ -19,7 +19,7 @@ use Rattle.antenna.specs.declared.Aim.the-variants.{Started}
 use Rattle.antenna.specs.Alarms.{codesOf}
 use Rattle.antenna.specs.Motions.{started}
 use Rattle.record.specs.declared.Plate.{Plate}
-use Rattle.record.specs.Fresh.{calm}
+use Rattle.record.specs.Desk.{calm}
 use Rattle.payload.specs.Payloads.{payloadOf, messageOf, successOf, failureOf}
 use Rattle.tilt.specs.Tilts.{tiltOctets}
 use Rattle.information.specs.Information.{informationOf}
@@ -38,12 +38,12 @@ module _ (p : Plate) (n : Antenna) (told : Alarms) (sub : Bool) where
   done-says c t = go (eqb c 0x04) (eqb c 0x05) (eqb c 0x06) (eqb c 0x12) (eqb c 0x33) (eqb c 0x34)
     where
       go : (b₁ b₂ b₃ b₄ b₅ b₆ : Bool) → octetAt 3
-          (cond b₁ (replies (successOf 0x04 (codesOf (n .raised .flags))) n told sub)
+          (cond b₁ (replies (successOf 0x04 (codesOf (n .drive .raised .flags))) n told sub)
           (cond b₂ (replies (successOf 0x05 (informationOf p)) n told sub)
           (cond b₃ (replies (successOf 0x06 []) (quieted n) calm sub)
           (cond b₄ (replies (successOf 0x12 []) n told true)
           (cond b₅ (unanswered (started n t Started) told sub)
-          (cond b₆ (replies (successOf 0x34 (tiltOctets (n .tilt))) n told sub) (unanswered n told sub)))))))
+          (cond b₆ (replies (successOf 0x34 (tiltOctets (n .drive .tilt))) n told sub) (unanswered n told sub)))))))
           ≡ 0
       go true b₂ b₃ b₄ b₅ b₆ = refl
       go false true b₃ b₄ b₅ b₆ = refl

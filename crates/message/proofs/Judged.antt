@@ -48,7 +48,7 @@ module _ (n : Antenna) (told : Alarms) (sub : Bool) where
 
   get-is : (t : Angle) → getOf n told sub
       ≡ outcome n told sub 0x34
-      (answered (driveChecks n 0x34 t) (replies (successOf 0x34 (tiltOctets (n .tilt))) n told sub))
+      (answered (driveChecks n 0x34 t) (replies (successOf 0x34 (tiltOctets (n .drive .tilt))) n told sub))
   unfolding getOf driveChecks answered
   get-is t = refl
 

@@ -25,7 +25,7 @@ use Rattle.message.proofs.Stays.{stays-in-range, reply-fits}
 
 -- what comes of the message m at the device d
 abbrev pub carriedAt : Device → List ℕ → Carried
-carriedAt d m = carriedOf (d .plate) (d .antenna) (d .station .told) (d .station .subscribed) m
+carriedAt d m = carriedOf (d .plate) (d .antenna) (d .station .desk .told) (d .station .desk .subscribed) m
 
 -- the address of a device in a session is 1 to 254
 connected-address : (t : Station) (s : Session) → stationAllowed t ≡ true → t .link ≡ Connected s
@@ -35,7 +35,7 @@ connected-address t s e l = and-parts (addressed (t .address)) (sessionAllowed t
 
 -- t is the station after the message, in the session s
 module _ (d : Device) (s₀ s : Session) (t : Station) (m : List ℕ) (allowed : allowedDevice d ≡ true)
-    (here : d .station .link ≡ Connected s₀) (address : t .address ≡ d .station .address)
+    (here : d .station .link ≡ Connected s₀) (address : t .address ≡ d .station .desk .address)
     (there : t .link ≡ Connected s) (numbers : numbersAllowed s ≡ true) where
   kept-station : pendingFits t (s .pending) ≡ true → stationAllowed t ≡ true
   unfolding stationAllowed linkAllowed sessionAllowed
@@ -52,7 +52,7 @@ module _ (d : Device) (s₀ s : Session) (t : Station) (m : List ℕ) (allowed :
       allowed-by (record { plate = d .plate; station = t; antenna = carriedAt d m .antenna })
       (record {
         plate = w .plate;
-        range = stays-in-range (d .plate) (d .antenna) (d .station .told) (d .station .subscribed) m (w .range);
+        range = stays-in-range (d .plate) (d .antenna) (d .station .desk .told) (d .station .desk .subscribed) m (w .range);
         station = kept-station p;
         owed = rw there;
       })
@@ -69,7 +69,7 @@ module _ (d : Device) (s₀ s : Session) (t : Station) (m : List ℕ) (allowed :
   unfolding pendingFits
   answer-stays e q =
       let fits =
-      reply-fits (d .plate) (d .antenna) (d .station .told) (d .station .subscribed) m (sound d allowed .plate) in
+      reply-fits (d .plate) (d .antenna) (d .station .desk .told) (d .station .desk .subscribed) m (sound d allowed .plate) in
       kept (rw (e, q) fits)
 
 -- no message makes a result that waits
@@ -82,6 +82,6 @@ message-no-result d m r e =
     absurd
     (starts-no-result (d .antenna) _ r
     (sym (ap (λ (x : Carried). waitingOf (x .antenna .motion))
-    (due-moves (d .plate) (d .antenna) (d .station .told) (d .station .subscribed) m due)) ∙ e)))
+    (due-moves (d .plate) (d .antenna) (d .station .desk .told) (d .station .desk .subscribed) m due)) ∙ e)))
     (λ same. sym (ap waitingOf same) ∙ e)
-    (moved-or-not (d .plate) (d .antenna) (d .station .told) (d .station .subscribed) m)
+    (moved-or-not (d .plate) (d .antenna) (d .station .desk .told) (d .station .desk .subscribed) m)

@@ -20,7 +20,7 @@ use Rattle.antenna.specs.Alarms.{alarmCodes, codesOf}
 use Rattle.antenna.specs.Motions.{inRange, busyOf, owesOf, driveRows, aimedAt, started, moves}
 use Rattle.antenna.proofs.Movements.{starts}
 use Rattle.record.specs.declared.Plate.{Plate}
-use Rattle.record.specs.Fresh.{calm}
+use Rattle.record.specs.Desk.{calm}
 use Rattle.payload.specs.Payloads.{payloadOf, successOf, failureOf}
 use Rattle.payload.proofs.Laws.{length-success}
 use Rattle.report.proofs.Counts.{length-codes}
@@ -90,9 +90,9 @@ module _ (p : Plate) (n : Antenna) (told : Alarms) (sub : Bool) (m : List ℕ) w
         where
           got : (b : Bool) → P
               (outcome n told sub 0x34
-              (answered (driveRows b false) (replies (successOf 0x34 (tiltOctets (n .tilt))) n told sub)))
+              (answered (driveRows b false) (replies (successOf 0x34 (tiltOctets (n .drive .tilt))) n told sub)))
           got true = told-only (failureOf 0x34 0x05) (says-failure p 0x34 0x05)
-          got false = told-only (successOf 0x34 (tiltOctets (n .tilt))) (says-tilt p (n .tilt))
+          got false = told-only (successOf 0x34 (tiltOctets (n .drive .tilt))) (says-tilt p (n .drive .tilt))
       operated x y false e₆ false e₁ false e₃ false e₄ =
           absurd (true-not-false (sym listed ∙ unlisted (codeOf m) x y e₆ e₁ e₃ e₄))
 
@@ -101,10 +101,10 @@ module _ (p : Plate) (n : Antenna) (told : Alarms) (sub : Bool) (m : List ℕ) w
       performed = go (eqb (codeOf m) 0x04) refl (eqb (codeOf m) 0x05) refl
         where
           go : (a : Bool) → eqb (codeOf m) 0x04 ≡ a → (b : Bool) → eqb (codeOf m) 0x05 ≡ b → P
-              (cond a (replies (successOf 0x04 (codesOf (n .raised .flags))) n told sub)
+              (cond a (replies (successOf 0x04 (codesOf (n .drive .raised .flags))) n told sub)
               (cond b (replies (successOf 0x05 (informationOf p)) n told sub)
               (operatedOf n told sub (codeOf m) (askedOf m))))
-          go true x b y = told-only (successOf 0x04 (codesOf (n .raised .flags))) (says-alarms p (n .raised .flags))
+          go true x b y = told-only (successOf 0x04 (codesOf (n .drive .raised .flags))) (says-alarms p (n .drive .raised .flags))
           go false x true y = told-only (successOf 0x05 (informationOf p)) (inr refl)
           go false x false y =
               operated x y (eqb (codeOf m) 0x06) refl (eqb (codeOf m) 0x12) refl (eqb (codeOf m) 0x33) refl
@@ -155,10 +155,10 @@ module _ (p : Plate) (n : Antenna) (told : Alarms) (sub : Bool) (m : List ℕ) w
 
   -- clear alarms alone changes what is raised and what was told, and both become empty
   pub cleared-or-not : (m ≡ 0x06 ∷ 0 ∷ 0 ∷ [])
-      ⊎ ((carriedOf p n told sub m .antenna .raised ≡ n .raised) × (carriedOf p n told sub m .told ≡ told))
+      ⊎ ((carriedOf p n told sub m .antenna .drive .raised ≡ n .drive .raised) × (carriedOf p n told sub m .told ≡ told))
   unfolding replies unanswered started moves
   cleared-or-not =
-      carried-cases (λ r. (m ≡ 0x06 ∷ 0 ∷ 0 ∷ []) ⊎ ((r .antenna .raised ≡ n .raised) × (r .told ≡ told)))
+      carried-cases (λ r. (m ≡ 0x06 ∷ 0 ∷ 0 ∷ []) ⊎ ((r .antenna .drive .raised ≡ n .drive .raised) × (r .told ≡ told)))
       (λ few. inr (refl, refl)) (λ b s. inr (refl, refl)) inl (λ e. inr (refl, refl)) (λ d. inr (refl, refl))
 
   pub clear-clears : m ≡ 0x06 ∷ 0 ∷ 0 ∷ []
@@ -179,11 +179,11 @@ module _ (p : Plate) (n : Antenna) (told : Alarms) (sub : Bool) (m : List ℕ) w
   subscribe-subscribes e = rw e
 
   -- no message changes the range or the tilt, so what was in range stays
-  pub range-stays : inRange (carriedOf p n told sub m .antenna) (carriedOf p n told sub m .antenna .tilt)
-      ≡ inRange n (n .tilt)
+  pub range-stays : inRange (carriedOf p n told sub m .antenna) (carriedOf p n told sub m .antenna .drive .tilt)
+      ≡ inRange n (n .drive .tilt)
   unfolding replies unanswered quieted started moves inRange
   range-stays =
-      carried-cases (λ r. inRange (r .antenna) (r .antenna .tilt) ≡ inRange n (n .tilt)) (λ few. refl) (λ b s. refl)
+      carried-cases (λ r. inRange (r .antenna) (r .antenna .drive .tilt) ≡ inRange n (n .drive .tilt)) (λ few. refl) (λ b s. refl)
       (λ e. refl) (λ e. refl) (λ d. refl)
 
   -- a result comes to be owed only by a set tilt that is due

@@ -13,7 +13,7 @@ use Rattle.antenna.specs.declared.Motion.the-variants.{Still, Owing}
 use Rattle.antenna.specs.Angles.{atMost}
 use Rattle.antenna.specs.Motions.{inRange, busyOf, started, moves}
 use Rattle.record.specs.declared.Plate.{Plate}
-use Rattle.record.specs.Fresh.{calm}
+use Rattle.record.specs.Desk.{calm}
 use Rattle.payload.specs.Payloads.{payloadOf, successOf, failureOf, messageOf}
 use Rattle.tilt.specs.Tilts.{tiltOctets, angleOf}
 use Rattle.message.specs.declared.Carried.{Carried}

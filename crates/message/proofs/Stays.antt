@@ -19,8 +19,8 @@ use Rattle.message.specs.Carried.{carriedOf}
 use Rattle.message.proofs.Moves.{range-stays, carried-fits}
 
 module _ (p : Plate) (n : Antenna) (told : Alarms) (sub : Bool) (m : List ℕ) where
-  pub stays-in-range : inRange n (n .tilt) ≡ true
-      → inRange (carriedOf p n told sub m .antenna) (carriedOf p n told sub m .antenna .tilt) ≡ true
+  pub stays-in-range : inRange n (n .drive .tilt) ≡ true
+      → inRange (carriedOf p n told sub m .antenna) (carriedOf p n told sub m .antenna .drive .tilt) ≡ true
   stays-in-range h = range-stays p n told sub m ∙ h
 
   pub stays-owed : (s : Session) → owedAllowed (Connected s) (carriedOf p n told sub m .antenna .motion) ≡ true

@@ -60,9 +60,9 @@ codes-are a b c d e f =
 module _ (p : Plate) (n : Antenna) (told : Alarms) (sub : Bool) (m : List ℕ) where
   -- "0x04 alarm status: none in; raised alarms, ascending"
   pub status-tells : m ≡ 0x04 ∷ 0 ∷ 0 ∷ []
-      → carriedOf p n told sub m ≡ replies (successSays 0x04 (codesOf (n .raised .flags))) n told sub
+      → carriedOf p n told sub m ≡ replies (successSays 0x04 (codesOf (n .drive .raised .flags))) n told sub
   unfolding carriedOf outcome answered checks driveChecks holds inTable takenBy doneBy
-  status-tells e = rw (e, ← success-is 0x04 (codesOf (n .raised .flags)))
+  status-tells e = rw (e, ← success-is 0x04 (codesOf (n .drive .raised .flags)))
 
   -- "0x05 information: none in; product, serial, hardware, software, each after its length"; the serial number is the
   -- identity behind its "2 vendor octets"
@@ -88,9 +88,9 @@ module _ (p : Plate) (n : Antenna) (told : Alarms) (sub : Bool) (m : List ℕ) w
   pub tilt-tells : m ≡ 0x34 ∷ 0 ∷ 0 ∷ [] → busyOf (n .motion) ≡ false
       → carriedOf p n told sub m
       ≡ replies
-      (0x34 ∷ 3 ∷ 0 ∷ 0x00 ∷ ofZ w16 (n .tilt .tenths) % 256 ∷ ofZ w16 (n .tilt .tenths) / 256 % 256 ∷ []) n told sub
+      (0x34 ∷ 3 ∷ 0 ∷ 0x00 ∷ ofZ w16 (n .drive .tilt .tenths) % 256 ∷ ofZ w16 (n .drive .tilt .tenths) / 256 % 256 ∷ []) n told sub
   unfolding carriedOf outcome answered checks driveChecks holds inTable takenBy doneBy tiltOctets
-  tilt-tells e idle = rw (e, idle, success-is 0x34 (tiltOctets (n .tilt)))
+  tilt-tells e idle = rw (e, idle, success-is 0x34 (tiltOctets (n .drive .tilt)))
 
   -- "busy, 0x05": "Set and get tilt are busy while moving or while a result waits"
   pub tilt-busy : m ≡ 0x34 ∷ 0 ∷ 0 ∷ [] → busyOf (n .motion) ≡ true

@@ -18,8 +18,9 @@ use Rattle.antenna.specs.declared.Antenna.{Antenna}
 use Rattle.antenna.specs.declared.Aim.the-variants.{Started}
 use Rattle.antenna.specs.Alarms.{codesOf}
 use Rattle.antenna.specs.Motions.{started}
+use Rattle.antenna.specs.Events.{marked}
 use Rattle.record.specs.declared.Plate.{Plate}
-use Rattle.record.specs.Fresh.{calm, noReply}
+use Rattle.record.specs.Desk.{calm, noReply}
 use Rattle.payload.specs.Payloads.{payloadOf, successOf, failureOf}
 use Rattle.tilt.specs.Tilts.{tiltOctets}
 use Rattle.information.specs.Information.{informationOf}
@@ -36,13 +37,13 @@ unfoldable pub unanswered : Antenna → Alarms → Bool → Carried
 unanswered n told sub = record { reply = None; payload = noReply; antenna = n; told = told; subscribed = sub }
 
 unfoldable pub quieted : Antenna → Antenna
-quieted n = record { lowest = n .lowest; highest = n .highest; tilt = n .tilt; motion = n .motion; raised = calm }
+quieted n = record { motion = n .motion; drive = marked (n .drive) calm }
 
 -- the columns "Code" and "Data out after 0x00", and what changes; a code that is in no row does not come here
 unfoldable pub doneBy : Plate → Antenna → Alarms → Bool → ℕ → Angle → Carried
 doneBy p n told sub c t =
     -- "alarm status: raised alarms, ascending"
-    cond (eqb c 0x04) (replies (successOf 0x04 (codesOf (n .raised .flags))) n told sub)
+    cond (eqb c 0x04) (replies (successOf 0x04 (codesOf (n .drive .raised .flags))) n told sub)
     -- "information: product, serial, hardware, software, each after its length"
     (cond (eqb c 0x05) (replies (successOf 0x05 (informationOf p)) n told sub)
     -- "clear alarms: none; raised and told become empty"
@@ -52,7 +53,7 @@ doneBy p n told sub c t =
     -- "set tilt: none, sent when the movement ends"
     (cond (eqb c 0x33) (unanswered (started n t Started) told sub)
     -- "get tilt: 2 octets"
-    (cond (eqb c 0x34) (replies (successOf 0x34 (tiltOctets (n .tilt))) n told sub) (unanswered n told sub))))))
+    (cond (eqb c 0x34) (replies (successOf 0x34 (tiltOctets (n .drive .tilt))) n told sub) (unanswered n told sub))))))
 
 -- "A failure answers code, 2, 0, 0x0B, return code."
 unfoldable pub outcome : Antenna → Alarms → Bool → ℕ → Answer Carried → Carried

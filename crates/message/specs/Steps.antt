@@ -17,7 +17,7 @@ use Rattle.antenna.specs.Alarms.{codesOf}
 use Rattle.antenna.specs.Motions.{busyOf, driveRows, aimedAt}
 use Rattle.record.specs.declared.Payload.{Payload}
 use Rattle.record.specs.declared.Plate.{Plate}
-use Rattle.record.specs.Fresh.{calm}
+use Rattle.record.specs.Desk.{calm}
 use Rattle.payload.specs.Payloads.{successOf, failureOf}
 use Rattle.tilt.specs.Tilts.{tiltOctets}
 use Rattle.information.specs.Information.{informationOf}
@@ -49,7 +49,7 @@ setOf n told sub t = aimed n told sub (aimedAt n t)
 unfoldable pub getOf : Antenna → Alarms → Bool → Carried
 getOf n told sub =
     outcome n told sub 0x34
-    (answered (driveRows (busyOf (n .motion)) false) (replies (successOf 0x34 (tiltOctets (n .tilt))) n told sub))
+    (answered (driveRows (busyOf (n .motion)) false) (replies (successOf 0x34 (tiltOctets (n .drive .tilt))) n told sub))
 
 unfoldable pub operatedOf : Antenna → Alarms → Bool → ℕ → Angle → Carried
 operatedOf n told sub c t =
@@ -59,5 +59,5 @@ operatedOf n told sub c t =
 
 unfoldable pub performedOf : Plate → Antenna → Alarms → Bool → ℕ → Angle → Carried
 performedOf p n told sub c t =
-    cond (eqb c 0x04) (replies (successOf 0x04 (codesOf (n .raised .flags))) n told sub)
+    cond (eqb c 0x04) (replies (successOf 0x04 (codesOf (n .drive .raised .flags))) n told sub)
     (cond (eqb c 0x05) (replies (successOf 0x05 (informationOf p)) n told sub) (operatedOf n told sub c t))

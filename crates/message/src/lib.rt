@@ -142,18 +142,11 @@ fn silent(antenna: Antenna, told: Alarms, subscribed: bool) -> Carried
 fn quiet(antenna: Antenna) -> Antenna
     ensures { λ r. ⌜ r ≡ quieted antenna ⌝ }
 {
-    let lowest = antenna.lowest;
-    let highest = antenna.highest;
-    let tilt = antenna.tilt;
     let motion = antenna.motion;
-    let raised = Alarms { flags: [false; 6] };
-    Antenna {
-        lowest,
-        highest,
-        tilt,
-        motion,
-        raised,
-    }
+    let mut drive = antenna.drive;
+    let raised = antenna::CALM;
+    drive.raised = raised;
+    Antenna { motion, drive }
 }
 
 fn set_tilt(antenna: Antenna, told: Alarms, subscribed: bool, t: Angle) -> Carried
@@ -173,7 +166,8 @@ fn get_tilt(antenna: Antenna, told: Alarms, subscribed: bool) -> Carried
     ensures { λ r. ⌜ r ≡ getOf antenna told subscribed ⌝ }
 {
     let motion = antenna.motion;
-    let tilt = antenna.tilt;
+    let drive = antenna.drive;
+    let tilt = drive.tilt;
     if antenna::busy(motion) {
         return replied(payload::failure(0x34, 0x05), antenna, told, subscribed);
     }
@@ -185,8 +179,7 @@ fn operate(antenna: Antenna, told: Alarms, subscribed: bool, code: u8, t: Angle)
     ensures { λ r. ⌜ r ≡ operatedOf antenna told subscribed code t ⌝ }
 {
     if code == 0x06 {
-        let none = Alarms { flags: [false; 6] };
-        return replied(payload::done(0x06), quiet(antenna), none, subscribed);
+        return replied(payload::done(0x06), quiet(antenna), antenna::CALM, subscribed);
     }
     if code == 0x12 {
         return replied(payload::done(0x12), antenna, told, true);
@@ -212,7 +205,8 @@ fn perform(
     ensures { λ r. ⌜ r ≡ performedOf plate antenna told subscribed code t ⌝ }
 {
     if code == 0x04 {
-        let raised = antenna.raised;
+        let drive = antenna.drive;
+        let raised = drive.raised;
         return replied(report::alarms(raised), antenna, told, subscribed);
     }
     if code == 0x05 {

@@ -2,12 +2,12 @@
 -- there is something to tell, an alarm indication; else RR."
 --   indicates t s a == the station t with an indication of the alarms a pending in its session s
 --   indicating d s  == the device d, with an indication of its alarms pending, which it says
---   toTell t n      == there is something to tell, and it is subscribed
+--   toTell k v      == there is something to tell, and it is subscribed
 --   pollOf d s      == what RR gets, the answer that it acknowledges being removed
 -- Assumes nothing.
 use mathlib.Core.Bool.{Bool, cond, _&&_}
 use Rattle.antenna.specs.declared.Alarms.{Alarms}
-use Rattle.antenna.specs.declared.Antenna.{Antenna}
+use Rattle.antenna.specs.declared.Drive.{Drive}
 use Rattle.antenna.specs.declared.Motion.the-variants.{Still}
 use Rattle.antenna.specs.declared.Waits.{Waits}
 use Rattle.antenna.specs.Alarms.{anyDiffer}
@@ -17,6 +17,8 @@ use Rattle.record.specs.declared.Session.{Session}
 use Rattle.record.specs.declared.Link.the-variants.{Connected}
 use Rattle.record.specs.declared.Station.{Station}
 use Rattle.record.specs.declared.Device.{Device}
+use Rattle.record.specs.declared.Desk.{Desk}
+use Rattle.record.specs.Desk.{withSaid}
 use Rattle.record.specs.Changes.{deviceOf}
 use Rattle.session.specs.Session.{pends}
 use Rattle.station.specs.declared.Turn.{Turn}
@@ -26,26 +28,18 @@ use Rattle.payload.specs.Payloads.{payloadOf, resultOf}
 
 -- what an indication says is kept until it is acknowledged
 unfoldable pub indicates : Station → Session → Alarms → Station
-indicates t s a =
-    record {
-      address = t .address;
-      link = Connected (awaiting s Indication);
-      subscribed = t .subscribed;
-      told = t .told;
-      said = a;
-      reply = t .reply;
-    }
+indicates t s a = record { link = Connected (awaiting s Indication); desk = withSaid (t .desk) a }
 
 abbrev pub indicating : Device → Session → Turn
-indicating d s = saying (deviceOf d (indicates (d .station) s (d .antenna .raised)) (d .antenna)) (pend s)
+indicating d s = saying (deviceOf d (indicates (d .station) s (d .antenna .drive .raised)) (d .antenna)) (pend s)
 
 -- "if subscribed and there is something to tell"
-unfoldable pub toTell : Station → Antenna → Bool
-toTell t n = t .subscribed && anyDiffer (n .raised .flags) (t .told .flags)
+unfoldable pub toTell : Desk → Drive → Bool
+toTell k v = k .subscribed && anyDiffer (v .raised .flags) (k .told .flags)
 
 -- "else, if subscribed and there is something to tell, an alarm indication; else RR"
 unfoldable pub idlePoll : Device → Session → Turn
-idlePoll d s = cond (toTell (d .station) (d .antenna)) (indicating d s) (saying d (ready s))
+idlePoll d s = cond (toTell (d .station .desk) (d .antenna .drive)) (indicating d s) (saying d (ready s))
 
 -- "else a waiting tilt result"
 unfoldable pub waitingPoll : Device → Session → Waits → Turn

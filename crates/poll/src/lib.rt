@@ -1,11 +1,14 @@
 // RR in a session: the pending answer again, a result that waits, an indication, or RR.
 // Assumes nothing of its caller.
 ghost use mathlib.Core.Path.{_≡_};
+ghost use Rattle.antenna.specs.Motions.{Awaits};
 ghost use Rattle.poll.specs.Poll.{toTell, indicates, indicating, idlePoll, waitingPoll, pollOf};
 use antenna::Alarms;
 use antenna::Antenna;
+use antenna::Drive;
 use antenna::Motion;
 use antenna::Waits;
+use record::Desk;
 use record::Device;
 use record::Link;
 use record::Pending;
@@ -15,15 +18,15 @@ use station::Say;
 use station::Turn;
 
 // Whether there is something to tell, and it is subscribed.
-fn is_to_tell(station: Station, antenna: Antenna) -> bool
-    ensures { λ r. ⌜ r ≡ toTell station antenna ⌝ }
+fn is_to_tell(desk: Desk, drive: Drive) -> bool
+    ensures { λ r. ⌜ r ≡ toTell desk drive ⌝ }
 {
-    let raised = antenna.raised;
-    let told = station.told;
+    let raised = drive.raised;
+    let told = desk.told;
     let present = raised.flags;
     let before = told.flags;
-    if station.subscribed {
-        return alarms::differ(present, before);
+    if desk.subscribed {
+        return antenna::differ(present, before);
     }
     false
 }
@@ -31,19 +34,15 @@ fn is_to_tell(station: Station, antenna: Antenna) -> bool
 fn indicated(station: Station, s: Session, alarms: Alarms) -> Station
     ensures { λ r. ⌜ r ≡ indicates station s alarms ⌝ }
 {
-    let told = station.told;
-    let reply = station.reply;
+    let mut desk = station.desk;
+    desk.said = alarms;
     Station {
-        address: station.address,
         link: Link::Connected(Session {
             r: s.r,
             s: s.s,
             pending: Pending::Indication,
         }),
-        subscribed: station.subscribed,
-        told,
-        said: alarms,
-        reply,
+        desk,
     }
 }
 
@@ -54,7 +53,8 @@ fn indicate(device: Device, s: Session) -> Turn
     let plate = device.plate;
     let station = device.station;
     let antenna = device.antenna;
-    let raised = antenna.raised;
+    let drive = antenna.drive;
+    let raised = drive.raised;
     Turn {
         device: Device {
             plate,
@@ -73,7 +73,9 @@ fn poll_idle(device: Device, s: Session) -> Turn
 {
     let station = device.station;
     let antenna = device.antenna;
-    if is_to_tell(station, antenna) {
+    let desk = station.desk;
+    let drive = antenna.drive;
+    if is_to_tell(desk, drive) {
         return indicate(device, s);
     }
     Turn {
@@ -93,13 +95,29 @@ fn poll_waiting(device: Device, s: Session, waits: Waits) -> Turn
             let antenna = device.antenna;
             let plate = device.plate;
             let station = device.station;
+            let drive = antenna.drive;
             let rested = Device {
                 plate,
                 station,
-                antenna: antenna::in_motion(antenna, Motion::Still),
+                antenna: Antenna {
+                    motion: Motion::Still,
+                    drive,
+                },
             };
             station::answer(rested, s, payload::result(reached))
         }
+    }
+}
+
+// The result that waits, if one does.
+fn waiting(motion: Motion) -> Waits
+    ensures { λ r. ⌜ Awaits motion r ⌝ }
+{
+    match motion {
+        Motion::Still => Waits::Nothing,
+        Motion::Moving => Waits::Nothing,
+        Motion::Owing { asked: _ } => Waits::Nothing,
+        Motion::Stopped { reached } => Waits::Result { reached },
     }
 }
 
@@ -116,5 +134,5 @@ pub fn poll(device: Device, s: Session) -> Turn
     }
     let antenna = device.antenna;
     let motion = antenna.motion;
-    poll_waiting(device, s, antenna::waiting(motion))
+    poll_waiting(device, s, waiting(motion))
 }

@@ -30,33 +30,33 @@ use Rattle.record.specs.declared.Event.the-variants.{Stopped, Raised, Cl
 
 -- of an antenna: each event
 module _ (n : Antenna) where
-  range-kept : (e : Event) → (afterEvent n e .lowest ≡ n .lowest) × (afterEvent n e .highest ≡ n .highest)
+  range-kept : (e : Event) → (afterEvent n e .drive .lowest ≡ n .drive .lowest) × (afterEvent n e .drive .highest ≡ n .drive .highest)
   unfolding afterEvent at withAlarm
   range-kept (Stopped t) = (refl, refl)
   range-kept (Raised k) = (refl, refl)
   range-kept (Cleared k) = (refl, refl)
 
-  row-kept : (e : Event) → length (afterEvent n e .raised .flags) ≡ length (n .raised .flags)
+  row-kept : (e : Event) → length (afterEvent n e .drive .raised .flags) ≡ length (n .drive .raised .flags)
   unfolding afterEvent at withAlarm
   row-kept (Stopped t) = refl
-  row-kept (Raised k) = length-set (n .raised .flags) (placeOf k alarmCodes) true
-  row-kept (Cleared k) = length-set (n .raised .flags) (placeOf k alarmCodes) false
+  row-kept (Raised k) = length-set (n .drive .raised .flags) (placeOf k alarmCodes) true
+  row-kept (Cleared k) = length-set (n .drive .raised .flags) (placeOf k alarmCodes) false
 
   drive-kept : (e : Event) → ((t : Angle) → e ≡ Stopped t → ⊥)
-      → (afterEvent n e .tilt ≡ n .tilt) × (afterEvent n e .motion ≡ n .motion)
+      → (afterEvent n e .drive .tilt ≡ n .drive .tilt) × (afterEvent n e .motion ≡ n .motion)
   unfolding afterEvent at withAlarm
   drive-kept (Stopped t) none = absurd (none t refl)
   drive-kept (Raised k) none = (refl, refl)
   drive-kept (Cleared k) none = (refl, refl)
 
   module _ (t : Angle) where
-    stop-drive : (afterEvent n (Stopped t) .tilt ≡ t) × (afterEvent n (Stopped t) .motion ≡ restedOf (n .motion) t)
-        × (afterEvent n (Stopped t) .raised ≡ n .raised)
+    stop-drive : (afterEvent n (Stopped t) .drive .tilt ≡ t) × (afterEvent n (Stopped t) .motion ≡ restedOf (n .motion) t)
+        × (afterEvent n (Stopped t) .drive .raised ≡ n .drive .raised)
     unfolding afterEvent at
     stop-drive = (refl, refl, refl)
 
     stop-can : canBe n (Stopped t) ≡ true
-        → Runs (n .motion) × (n .lowest .tenths ≤ℤ t .tenths) × (t .tenths ≤ℤ n .highest .tenths)
+        → Runs (n .motion) × (n .drive .lowest .tenths ≤ℤ t .tenths) × (t .tenths ≤ℤ n .drive .highest .tenths)
     unfolding canBe
     stop-can c = stop-exactly n t .0 c
 
@@ -74,16 +74,16 @@ module _ (n : Antenna) where
   alarm-can e k c (inl q) = rw q at c
   alarm-can e k c (inr q) = rw q at c
 
-  module _ (k : ℕ) (six : length (n .raised .flags) ≡ 6) (known : isAlarm k ≡ true) (j : ℕ) where
-    after-raise : holds j (codesOf (afterEvent n (Raised k) .raised .flags)) ≡ true
-        ↔ (j ≡ k) ⊎ (holds j (codesOf (n .raised .flags)) ≡ true)
+  module _ (k : ℕ) (six : length (n .drive .raised .flags) ≡ 6) (known : isAlarm k ≡ true) (j : ℕ) where
+    after-raise : holds j (codesOf (afterEvent n (Raised k) .drive .raised .flags)) ≡ true
+        ↔ (j ≡ k) ⊎ (holds j (codesOf (n .drive .raised .flags)) ≡ true)
     unfolding afterEvent withAlarm isAlarm
-    after-raise = raise-exactly j k (n .raised .flags) six known
+    after-raise = raise-exactly j k (n .drive .raised .flags) six known
 
-    after-clear : holds j (codesOf (afterEvent n (Cleared k) .raised .flags)) ≡ true
-        ↔ (j ≡ k → ⊥) × (holds j (codesOf (n .raised .flags)) ≡ true)
+    after-clear : holds j (codesOf (afterEvent n (Cleared k) .drive .raised .flags)) ≡ true
+        ↔ (j ≡ k → ⊥) × (holds j (codesOf (n .drive .raised .flags)) ≡ true)
     unfolding afterEvent withAlarm isAlarm
-    after-clear = clear-exactly j k (n .raised .flags) six known
+    after-clear = clear-exactly j k (n .drive .raised .flags) six known
 
 account : (d : Device) (e : Event) → canBe (d .antenna) e ≡ true
     → EventAccount d e (withAntenna d (afterEvent (d .antenna) e))

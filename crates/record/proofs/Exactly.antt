@@ -20,7 +20,7 @@ use Rattle.antenna.specs.Motions.{owesOf}
 use Rattle.antenna.specs.declared.Antenna.{Antenna}
 use Rattle.antenna.proofs.Angles.{range-exactly}
 use Rattle.antenna.proofs.Can.{stop-exactly, alarm-exactly}
-use Rattle.antenna.proofs.Differ.{differ-exactly}
+use Rattle.antenna.proofs.Differences.{differ-exactly}
 use Rattle.record.specs.Allowed.{identityOf, productMost, versionMost, identityAllowed, platesAllowed}
 use Rattle.record.specs.Allowed.{numbersAllowed, pendingFits, sessionAllowed, addressed, linkAllowed}
 use Rattle.record.specs.Allowed.{stationAllowed, owedAllowed, allowedDevice, Owes, AllowedRecord}
@@ -35,7 +35,7 @@ use Rattle.record.specs.declared.Plate.{Plate}
 use Rattle.record.specs.declared.Session.{Session}
 use Rattle.record.specs.declared.Link.{Link}
 use Rattle.record.specs.declared.Link.the-variants.{NoAddress, AddressAssigned, Connected}
-use Rattle.record.specs.declared.Station.{Station}
+use Rattle.record.specs.declared.Desk.{Desk}
 use Rattle.record.specs.declared.Device.{Device}
 use Rattle.record.proofs.Laid.{texts-parts}
 use Rattle.record.proofs.Only.{fresh-6, happen-6, happen-8}
@@ -97,7 +97,7 @@ module _ (p : Plate) where
       )
 
 -- "a pending answer of at most 74 payload octets (an indication: as below)"
-module _ (t : Station) (n : length (t .said .flags) ≡ length (t .told .flags)) where
+module _ (t : Desk) (n : length (t .said .flags) ≡ length (t .told .flags)) where
   record Fits (p : Pending) : Type 0 where
     pub answer : p ≡ Answer → t .reply .len ≤ 74
     pub indication : p ≡ Indication → t .said .flags ≡ t .told .flags → ⊥
@@ -231,14 +231,14 @@ owed-by NoAddress m f = unowed-by m (λ o. let w = f o in none-connected (w .0) 
 owed-by AddressAssigned m f = unowed-by m (λ o. let w = f o in assigned-connected (w .0) (w .1))
 owed-by (Connected s) m f = refl
 
-module _ (d : Device) (n : length (d .station .said .flags) ≡ length (d .station .told .flags)) where
+module _ (d : Device) (n : length (d .station .desk .said .flags) ≡ length (d .station .desk .told .flags)) where
   in-words : allowedDevice d ≡ true → AllowedRecord d
   unfolding stationAllowed
   in-words e =
       let whole = sound d e in
       let plate = plate-parts (d .plate) (whole .plate) in
-      let range = range-exactly (d .antenna) (d .antenna .tilt) .0 (whole .range) in
-      let link = linked (d .station) n (d .station .link) (whole .station) in
+      let range = range-exactly (d .antenna) (d .antenna .drive .tilt) .0 (whole .range) in
+      let link = linked (d .station .desk) n (d .station .link) (whole .station) in
       record {
         identity = identity-exactly (identityOf (d .plate)) .0 (plate .1);
         identity-held = plate .0;
@@ -263,9 +263,9 @@ module _ (d : Device) (n : length (d .station .said .flags) ≡ length (d .stati
         plate =
             plate-by (d .plate) (w .identity-held) (identity-exactly (identityOf (d .plate)) .1 (w .identity))
             (w .product) (w .hardware) (w .software);
-        range = range-exactly (d .antenna) (d .antenna .tilt) .1 (w .lowest, w .highest);
+        range = range-exactly (d .antenna) (d .antenna .drive .tilt) .1 (w .lowest, w .highest);
         station =
-            linked-by (d .station) n (d .station .link)
+            linked-by (d .station .desk) n (d .station .link)
             (record {
               address = w .address;
               unaddressed = w .unaddressed;
@@ -325,7 +325,7 @@ fails-exactly false q = (λ e a. true-not-false (sym (q .1 a)), λ n. refl)
 pub fresh-refused : (i p h s : List ℕ) (w : Span) → freshOf i p h s w ≡ refuses 6 ↔ (AllowedData i p h s w → ⊥)
 fresh-refused i p h s w = Iff·trans (fresh-6 i p h s w) (fails-exactly _ (data-exactly i p h s w))
 
-module _ (d : Device) (e : Event) (n : length (d .station .said .flags) ≡ length (d .station .told .flags)) where
+module _ (d : Device) (e : Event) (n : length (d .station .desk .said .flags) ≡ length (d .station .desk .told .flags)) where
   -- 6: "a device record handed in, not allowed", in words
   pub event-refused-6 : happened d e ≡ refuses 6 ↔ (AllowedRecord d → ⊥)
   event-refused-6 = Iff·trans (happen-6 d e) (fails-exactly _ (allowed-exactly d n))

@@ -8,7 +8,8 @@ use Rattle.refusal.proofs.Answers.{answered-here}
 use Rattle.identity.proofs.Identities.{and-parts}
 use Rattle.antenna.specs.declared.Alarms.{Alarms}
 use Rattle.antenna.specs.declared.Antenna.{Antenna}
-use Rattle.record.specs.Fresh.{calm, noReply, identityFrom, productFrom, versionFrom, plateFrom}
+use Rattle.record.specs.Desk.{calm, noReply}
+use Rattle.record.specs.Fresh.{identityFrom, productFrom, versionFrom, plateFrom}
 use Rattle.record.specs.Fresh.{freshFrom, textsAllowed, dataAllowed, antennaFrom, freshOf}
 use Rattle.record.specs.declared.Identity.{Identity}
 use Rattle.record.specs.declared.Product.{Product}
@@ -25,19 +26,6 @@ pub plated : (i p h s : List ℕ) {a : Identity} {b : Product} {c d : Version}
     → record { identity = a; product = b; hardware = c; software = d } ≡ plateFrom i p h s
 unfolding plateFrom
 plated i p h s e f g q = rw (e, f, g, q)
-
--- the device of a plate and an antenna
-pub stationed : (p : Plate) (n : Antenna) {told said : Alarms} {reply : Payload} → told ≡ calm → said ≡ calm →
-    reply ≡ noReply
-    → record {
-      plate = p;
-      station =
-          record { address = 0; link = NoAddress; subscribed = false; told = told; said = said; reply = reply };
-      antenna = n;
-    }
-    ≡ freshFrom p n
-unfolding freshFrom
-stationed p n e f g = rw (e, f, g)
 
 -- data that is allowed has texts that are
 pub data-texts : (i p h s : List ℕ) (n : Antenna) → dataAllowed i p h s n ≡ true → textsAllowed i p h s ≡ true

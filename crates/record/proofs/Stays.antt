@@ -36,7 +36,7 @@ use Rattle.record.specs.declared.Event.the-variants as event
 -- the four parts of an allowed record, and back
 pub record Sound (d : Device) : Type 0 where
   pub plate : platesAllowed (d .plate) ≡ true
-  pub range : inRange (d .antenna) (d .antenna .tilt) ≡ true
+  pub range : inRange (d .antenna) (d .antenna .drive .tilt) ≡ true
   pub station : stationAllowed (d .station) ≡ true
   pub owed : owedAllowed (d .station .link) (d .antenna .motion) ≡ true
 
@@ -44,7 +44,7 @@ pub sound : (d : Device) → allowedDevice d ≡ true → Sound d
 unfolding allowedDevice
 sound d e =
     let one = and-parts (platesAllowed (d .plate)) _ e in
-    let two = and-parts (inRange (d .antenna) (d .antenna .tilt)) _ (one .1) in
+    let two = and-parts (inRange (d .antenna) (d .antenna .drive .tilt)) _ (one .1) in
     let three = and-parts (stationAllowed (d .station)) _ (two .1) in
     record { plate = one .0; range = two .0; station = three .0; owed = three .1 }
 
@@ -77,12 +77,12 @@ unfolding inRange withAlarm
 alarm-range n k on t = refl
 
 -- the antenna after an event that can be
-after-range : (n : Antenna) (e : Event) → canBe n e ≡ true → inRange n (n .tilt) ≡ true
-    → inRange (afterEvent n e) (afterEvent n e .tilt) ≡ true
+after-range : (n : Antenna) (e : Event) → canBe n e ≡ true → inRange n (n .drive .tilt) ≡ true
+    → inRange (afterEvent n e) (afterEvent n e .drive .tilt) ≡ true
 unfolding canBe afterEvent at withAlarm
 after-range n (event.Stopped t) c r = stop-range n t c
-after-range n (event.Raised k) c r = alarm-range n k true (n .tilt) ∙ r
-after-range n (event.Cleared k) c r = alarm-range n k false (n .tilt) ∙ r
+after-range n (event.Raised k) c r = alarm-range n k true (n .drive .tilt) ∙ r
+after-range n (event.Cleared k) c r = alarm-range n k false (n .drive .tilt) ∙ r
 
 after-owes : (n : Antenna) (e : Event) → owesOf (n .motion) ≡ false → owesOf (afterEvent n e .motion) ≡ false
 unfolding afterEvent at withAlarm
@@ -118,7 +118,7 @@ unowed-allowed AddressAssigned m = ap not (unowed-owes m)
 unowed-allowed (Connected s) m = refl
 
 -- at a session's end, at an address and in a link state that fit each other
-pub end-stays : (d : Device) (a : ℕ) (l : Link) → allowedDevice d ≡ true → linkAllowed (unsaidAt (d .station) a l) l ≡
+pub end-stays : (d : Device) (a : ℕ) (l : Link) → allowedDevice d ≡ true → linkAllowed (unsaidAt (d .station) a l .desk) l ≡
     true
     → allowedDevice (endedAs d a l) ≡ true
 unfolding endedAs stationAllowed unsaidAt moves
@@ -127,7 +127,7 @@ end-stays d a l e k =
     allowed-by (endedAs d a l)
     (record {
       plate = s .plate;
-      range = moved-range (d .antenna) (unowedOf (d .antenna .motion)) (d .antenna .tilt) ∙ s .range;
+      range = moved-range (d .antenna) (unowedOf (d .antenna .motion)) (d .antenna .drive .tilt) ∙ s .range;
       station = k;
       owed = unowed-allowed l (d .antenna .motion);
     })
@@ -148,6 +148,6 @@ pub fresh-allowed : (i p h s : List ℕ) (n : Antenna) → dataAllowed i p h s n
     → allowedDevice (freshFrom (plateFrom i p h s) n) ≡ true
 unfolding dataAllowed freshFrom stationAllowed linkAllowed owedAllowed
 fresh-allowed i p h s n e o =
-    let parts = and-parts (textsAllowed i p h s) (inRange n (n .tilt)) e in
+    let parts = and-parts (textsAllowed i p h s) (inRange n (n .drive .tilt)) e in
     allowed-by (freshFrom (plateFrom i p h s) n)
     (record { plate = plate-allowed i p h s (parts .0); range = parts .1; station = refl; owed = ap not o })

@@ -2,9 +2,9 @@
 --   identityOf p       == the octets of the identity; productOf p, hardwareOf p, softwareOf p == the texts
 --   platesAllowed p    == the fixed data is as 01 says
 --   numbersAllowed s   == "session numbers of 0 to 7"
---   pendingFits t p    == what is pending in the station t, p, can be
---   sessionAllowed t s == numbers and what is pending, of a session
---   linkAllowed t l    == address, session numbers and what is pending fit the link state l
+--   pendingFits k p    == what is pending at the desk k, p, can be
+--   sessionAllowed k s == numbers and what is pending, of a session
+--   linkAllowed k l    == address, session numbers and what is pending fit the link state l
 --   owedAllowed l m    == "a tilt result owed only in Connected"
 --   allowedDevice d    == d may be handed in; anything else is refusal 6
 --   Owes m             == a tilt result is owed, in words
@@ -30,6 +30,7 @@ use Rattle.record.specs.declared.Pending.the-variants.{Nothing, Answer, 
 use Rattle.record.specs.declared.Session.{Session}
 use Rattle.record.specs.declared.Link.{Link}
 use Rattle.record.specs.declared.Link.the-variants.{NoAddress, AddressAssigned, Connected}
+use Rattle.record.specs.declared.Desk.{Desk}
 use Rattle.record.specs.declared.Station.{Station}
 use Rattle.record.specs.declared.Device.{Device}
 
@@ -69,25 +70,25 @@ unfoldable pub numbersAllowed : Session → Bool
 numbersAllowed s = ltb (s .r) 8 && ltb (s .s) 8
 
 -- "a pending answer of at most 74 payload octets (an indication: as below)": it says what differs from what was told
-unfoldable pub pendingFits : Station → Pending → Bool
-pendingFits t Nothing = true
-pendingFits t Answer = leb (t .reply .len) replyMost
-pendingFits t Indication = anyDiffer (t .said .flags) (t .told .flags)
+unfoldable pub pendingFits : Desk → Pending → Bool
+pendingFits k Nothing = true
+pendingFits k Answer = leb (k .reply .len) replyMost
+pendingFits k Indication = anyDiffer (k .said .flags) (k .told .flags)
 
-unfoldable pub sessionAllowed : Station → Session → Bool
-sessionAllowed t s = numbersAllowed s && pendingFits t (s .pending)
+unfoldable pub sessionAllowed : Desk → Session → Bool
+sessionAllowed k s = numbersAllowed s && pendingFits k (s .pending)
 
 -- "an address of 0 to 254, 0 exactly in NoAddress"
 unfoldable pub addressed : ℕ → Bool
 addressed a = ltb 0 a && ltb a 255
 
-unfoldable pub linkAllowed : Station → Link → Bool
-linkAllowed t NoAddress = eqb (t .address) 0
-linkAllowed t AddressAssigned = addressed (t .address)
-linkAllowed t (Connected s) = addressed (t .address) && sessionAllowed t s
+unfoldable pub linkAllowed : Desk → Link → Bool
+linkAllowed k NoAddress = eqb (k .address) 0
+linkAllowed k AddressAssigned = addressed (k .address)
+linkAllowed k (Connected s) = addressed (k .address) && sessionAllowed k s
 
 unfoldable pub stationAllowed : Station → Bool
-stationAllowed t = linkAllowed t (t .link)
+stationAllowed t = linkAllowed (t .desk) (t .link)
 
 -- "a tilt result owed only in Connected"
 unfoldable pub owedAllowed : Link → Motion → Bool
@@ -99,7 +100,7 @@ owedAllowed (Connected s) m = true
 unfoldable pub allowedDevice : Device → Bool
 allowedDevice d =
     platesAllowed (d .plate)
-    && (inRange (d .antenna) (d .antenna .tilt)
+    && (inRange (d .antenna) (d .antenna .drive .tilt)
     && (stationAllowed (d .station) && owedAllowed (d .station .link) (d .antenna .motion)))
 
 -- a result is owed: of a movement that runs, or it waits
@@ -115,17 +116,17 @@ pub record AllowedRecord (d : Device) : Type 0 where
   pub hardware : d .plate .hardware .len ≤ 14
   pub software : d .plate .software .len ≤ 14
   -- "lowest ≤ present ≤ highest"
-  pub lowest : d .antenna .lowest .tenths ≤ℤ d .antenna .tilt .tenths
-  pub highest : d .antenna .tilt .tenths ≤ℤ d .antenna .highest .tenths
+  pub lowest : d .antenna .drive .lowest .tenths ≤ℤ d .antenna .drive .tilt .tenths
+  pub highest : d .antenna .drive .tilt .tenths ≤ℤ d .antenna .drive .highest .tenths
   -- "an address of 0 to 254, 0 exactly in NoAddress"
-  pub address : d .station .address ≤ 254
-  pub unaddressed : d .station .address ≡ 0 ↔ d .station .link ≡ NoAddress
+  pub address : d .station .desk .address ≤ 254
+  pub unaddressed : d .station .desk .address ≡ 0 ↔ d .station .link ≡ NoAddress
   -- "session numbers of 0 to 7"
   pub numbers : (s : Session) → d .station .link ≡ Connected s → (s .r ≤ 7) × (s .s ≤ 7)
   -- "a pending answer of at most 74 payload octets"
-  pub answer : (s : Session) → d .station .link ≡ Connected s → s .pending ≡ Answer → d .station .reply .len ≤ 74
+  pub answer : (s : Session) → d .station .link ≡ Connected s → s .pending ≡ Answer → d .station .desk .reply .len ≤ 74
   -- "(an indication: as below)": "for alarms whose present state differs from what was told"
   pub indication : (s : Session) → d .station .link ≡ Connected s → s .pending ≡ Indication
-      → d .station .said .flags ≡ d .station .told .flags → ⊥
+      → d .station .desk .said .flags ≡ d .station .desk .told .flags → ⊥
   -- "a tilt result owed only in Connected"
   pub owed : Owes (d .antenna .motion) → (s : Session) × (d .station .link ≡ Connected s)

@@ -16,7 +16,7 @@ use Rattle.antenna.specs.Motions.{unowedOf, moves}
 use Rattle.octets.specs.Octets.{OneOf}
 use Rattle.antenna.specs.Events.{Runs, canStop, at, isAlarm, withAlarm}
 use Rattle.record.specs.Allowed.{allowedDevice}
-use Rattle.record.specs.Fresh.{calm, noReply}
+use Rattle.record.specs.Desk.{withAddress, unsaid}
 use Rattle.record.specs.declared.Link.{Link}
 use Rattle.record.specs.declared.Station.{Station}
 use Rattle.record.specs.declared.Device.{Device}
@@ -26,8 +26,7 @@ use Rattle.record.specs.declared.Event.the-variants.{Stopped, Raised, Cl
 -- "Ending a session drops the pending answer and any tilt result owed; alarms, subscription and a running movement
 -- stay."
 unfoldable pub unsaidAt : Station → ℕ → Link → Station
-unsaidAt t a l =
-    record { address = a; link = l; subscribed = t .subscribed; told = t .told; said = calm; reply = noReply }
+unsaidAt t a l = record { link = l; desk = withAddress (unsaid (t .desk)) a }
 
 unfoldable pub deviceOf : Device → Station → Antenna → Device
 deviceOf d t n = record { plate = d .plate; station = t; antenna = n }
@@ -49,7 +48,7 @@ canBe n (Cleared k) = isAlarm k
 -- 0x27"
 abbrev pub CanHappen : Antenna → Event → Type 0
 CanHappen n (Stopped t) =
-    Runs (n .motion) × (n .lowest .tenths ≤ℤ t .tenths) × (t .tenths ≤ℤ n .highest .tenths)
+    Runs (n .motion) × (n .drive .lowest .tenths ≤ℤ t .tenths) × (t .tenths ≤ℤ n .drive .highest .tenths)
 CanHappen n (Raised k) = OneOf k (0x02 ∷ 0x03 ∷ 0x0E ∷ 0x0F ∷ 0x11 ∷ 0x27 ∷ [])
 CanHappen n (Cleared k) = OneOf k (0x02 ∷ 0x03 ∷ 0x0E ∷ 0x0F ∷ 0x11 ∷ 0x27 ∷ [])
 

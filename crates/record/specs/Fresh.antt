@@ -16,29 +16,20 @@ use lib.Signed.{_≤ℤ_}
 use Rattle.octets.specs.Octets.{_atStartOf_}
 use Rattle.refusal.specs.Answer.{Answer, _when_, answered}
 use Rattle.identity.specs.Identity.{width, allowedIdentity, AnIdentity}
-use Rattle.antenna.specs.declared.Alarms.{Alarms}
 use Rattle.antenna.specs.declared.Angle.{Angle}
 use Rattle.antenna.specs.declared.Antenna.{Antenna}
 use Rattle.antenna.specs.declared.Motion.the-variants.{Still}
-use Rattle.antenna.specs.Alarms.{noAlarms}
 use Rattle.antenna.specs.Motions.{inRange}
-use Rattle.record.specs.Allowed.{productMost, versionMost, replyMost}
+use Rattle.record.specs.Allowed.{productMost, versionMost}
+use Rattle.record.specs.Desk.{calm, noReply}
 use Rattle.record.specs.declared.Identity.{Identity}
 use Rattle.record.specs.declared.Product.{Product}
 use Rattle.record.specs.declared.Version.{Version}
-use Rattle.record.specs.declared.Payload.{Payload}
 use Rattle.record.specs.declared.Span.{Span}
 use Rattle.record.specs.declared.Plate.{Plate}
 use Rattle.record.specs.declared.Link.the-variants.{NoAddress}
 use Rattle.record.specs.declared.Station.{Station}
 use Rattle.record.specs.declared.Device.{Device}
-
-abbrev pub calm : Alarms
-calm = record { flags = noAlarms }
-
--- nothing is pending, so nothing lies in the reply
-abbrev pub noReply : Payload
-noReply = record { octets = replicate replyMost 0; len = 0 }
 
 unfoldable pub identityFrom : List ℕ → Identity
 identityFrom s = record { octets = s atStartOf replicate width 0; len = length s }
@@ -60,11 +51,17 @@ plateFrom i p h s =
 
 abbrev pub freshStation : Station
 freshStation =
-    record { address = 0; link = NoAddress; subscribed = false; told = calm; said = calm; reply = noReply }
+    record {
+      link = NoAddress;
+      desk = record { address = 0; subscribed = false; told = calm; said = calm; reply = noReply };
+    }
 
 abbrev pub freshAntenna : Angle → Angle → Angle → Antenna
 freshAntenna lowest highest present =
-    record { lowest = lowest; highest = highest; tilt = present; motion = Still; raised = calm }
+    record {
+      motion = Still;
+      drive = record { lowest = lowest; highest = highest; tilt = present; raised = calm };
+    }
 
 unfoldable pub freshFrom : Plate → Antenna → Device
 freshFrom p n = record { plate = p; station = freshStation; antenna = n }
@@ -76,7 +73,7 @@ textsAllowed i p h s =
     && (leb (length p) productMost && (leb (length h) versionMost && leb (length s) versionMost))
 
 unfoldable pub dataAllowed : List ℕ → List ℕ → List ℕ → List ℕ → Antenna → Bool
-dataAllowed i p h s n = textsAllowed i p h s && inRange n (n .tilt)
+dataAllowed i p h s n = textsAllowed i p h s && inRange n (n .drive .tilt)
 
 abbrev pub antennaFrom : Span → Antenna
 antennaFrom w = freshAntenna (w .lowest) (w .highest) (w .present)

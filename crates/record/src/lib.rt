@@ -4,8 +4,8 @@
 // Headline: an allowed record stays allowed under every event and at a session's end (proofs/Stays.antt).
 ghost use mathlib.Core.Path.{_≡_};
 ghost use lib.Dec.{leb};
-ghost use Rattle.antenna.specs.Motions.{inRange};
-ghost use Rattle.record.specs.Allowed.{identityAllowed, platesAllowed, numbersAllowed, pendingFits};
+ghost use Rattle.antenna.specs.Motions.{inRange, owesOf};
+ghost use Rattle.record.specs.Allowed.{replyMost, identityAllowed, platesAllowed, numbersAllowed, pendingFits};
 ghost use Rattle.record.specs.Allowed.{addressed, sessionAllowed, stationAllowed, owedAllowed, allowedDevice};
 use antenna::Alarms;
 use antenna::Angle;
@@ -13,19 +13,23 @@ use antenna::Antenna;
 use antenna::Motion;
 use refusal::Outcome;
 
+// The most octets of the product text, and of the hardware and the software text.
+pub const PRODUCT: usize = 20;
+pub const VERSION: usize = 14;
+
 // Vendor and serial number: the first `len` octets.
 pub struct Identity {
-    pub octets: [u8; 19],
+    pub octets: [u8; identity::OCTETS],
     pub len: usize,
 }
 
 pub struct Product {
-    pub octets: [u8; 20],
+    pub octets: [u8; PRODUCT],
     pub len: usize,
 }
 
 pub struct Version {
-    pub octets: [u8; 14],
+    pub octets: [u8; VERSION],
     pub len: usize,
 }
 
@@ -57,20 +61,34 @@ pub enum Link {
     Connected(Session),
 }
 
+// The most octets of a pending answer's payload.
+pub const REPLY: usize = 74;
+
 // The payload of an answer: the first `len` octets.
 pub struct Payload {
-    pub octets: [u8; 74],
+    pub octets: [u8; REPLY],
     pub len: usize,
 }
 
-// One port's side of the cable.
-pub struct Station {
+// Nothing is pending, so nothing lies in the reply.
+pub const NO_REPLY: Payload = Payload {
+    octets: [0u8; REPLY],
+    len: 0,
+};
+
+// All of a station but its link: who changes one field copies the rest as one.
+pub struct Desk {
     pub address: u8,
-    pub link: Link,
     pub subscribed: bool,
     pub told: Alarms,
     pub said: Alarms,
     pub reply: Payload,
+}
+
+// One port's side of the cable.
+pub struct Station {
+    pub link: Link,
+    pub desk: Desk,
 }
 
 pub struct Device {
@@ -100,10 +118,10 @@ pub struct Changed {
 
 // ---- allowed or not
 
-fn identity_allowed(octets: [u8; 19], len: usize) -> bool
+fn identity_allowed(octets: [u8; identity::OCTETS], len: usize) -> bool
     ensures { λ r. ⌜ r ≡ identityAllowed octets len ⌝ }
 {
-    if 19 < len {
+    if identity::OCTETS < len {
         return false;
     }
     identity::allowed(&octets[..len])
@@ -118,13 +136,13 @@ fn plate_allowed(plate: Plate) -> bool
     let hardware = plate.hardware;
     let software = plate.software;
     if identity_allowed(octets, identity.len) {
-        if 20 < product.len {
+        if PRODUCT < product.len {
             return false;
         }
-        if 14 < hardware.len {
+        if VERSION < hardware.len {
             return false;
         }
-        return software.len <= 14;
+        return software.len <= VERSION;
     }
     false
 }
@@ -136,26 +154,26 @@ fn numbers_allowed(session: Session) -> bool
 }
 
 fn reply_allowed(reply: Payload) -> bool
-    ensures { λ r. ⌜ r ≡ leb (reply .len) 74 ⌝ }
+    ensures { λ r. ⌜ r ≡ leb (reply .len) replyMost ⌝ }
 {
-    reply.len <= 74
+    reply.len <= REPLY
 }
 
-fn pending_allowed(station: Station, pending: Pending) -> bool
-    ensures { λ r. ⌜ r ≡ pendingFits station pending ⌝ }
+fn pending_allowed(desk: Desk, pending: Pending) -> bool
+    ensures { λ r. ⌜ r ≡ pendingFits desk pending ⌝ }
 {
     match pending {
         Pending::Nothing => true,
         Pending::Answer => {
-            let reply = station.reply;
+            let reply = desk.reply;
             reply_allowed(reply)
         }
         Pending::Indication => {
-            let said = station.said;
-            let told = station.told;
+            let said = desk.said;
+            let told = desk.told;
             let now = said.flags;
             let then = told.flags;
-            alarms::differ(now, then)
+            antenna::differ(now, then)
         }
     }
 }
@@ -166,12 +184,12 @@ fn is_addressed(address: u8) -> bool
     if 0 < address { address < 255 } else { false }
 }
 
-fn session_allowed(station: Station, session: Session) -> bool
-    ensures { λ r. ⌜ r ≡ sessionAllowed station session ⌝ }
+fn session_allowed(desk: Desk, session: Session) -> bool
+    ensures { λ r. ⌜ r ≡ sessionAllowed desk session ⌝ }
 {
     let pending = session.pending;
     if numbers_allowed(session) {
-        pending_allowed(station, pending)
+        pending_allowed(desk, pending)
     } else {
         false
     }
@@ -181,15 +199,28 @@ fn station_allowed(station: Station) -> bool
     ensures { λ r. ⌜ r ≡ stationAllowed station ⌝ }
 {
     let link = station.link;
+    let desk = station.desk;
     match link {
-        Link::NoAddress => station.address == 0,
-        Link::AddressAssigned => is_addressed(station.address),
+        Link::NoAddress => desk.address == 0,
+        Link::AddressAssigned => is_addressed(desk.address),
         Link::Connected(session) => {
-            if is_addressed(station.address) {
-                return session_allowed(station, session);
+            if is_addressed(desk.address) {
+                return session_allowed(desk, session);
             }
             false
         }
+    }
+}
+
+// Whether a tilt result is owed: a running movement's, or one that waits.
+fn owes(motion: Motion) -> bool
+    ensures { λ r. ⌜ r ≡ owesOf motion ⌝ }
+{
+    match motion {
+        Motion::Still => false,
+        Motion::Moving => false,
+        Motion::Owing { asked: _ } => true,
+        Motion::Stopped { reached: _ } => true,
     }
 }
 
@@ -197,16 +228,17 @@ fn owed_allowed(link: Link, motion: Motion) -> bool
     ensures { λ r. ⌜ r ≡ owedAllowed link motion ⌝ }
 {
     match link {
-        Link::NoAddress => !antenna::owes(motion),
-        Link::AddressAssigned => !antenna::owes(motion),
+        Link::NoAddress => !owes(motion),
+        Link::AddressAssigned => !owes(motion),
         Link::Connected(_) => true,
     }
 }
 
 fn antenna_allowed(antenna: Antenna) -> bool
-    ensures { λ r. ⌜ r ≡ inRange antenna (antenna .tilt) ⌝ }
+    ensures { λ r. ⌜ r ≡ inRange antenna (antenna .drive .tilt) ⌝ }
 {
-    let tilt = antenna.tilt;
+    let drive = antenna.drive;
+    let tilt = drive.tilt;
     aim::in_range(antenna, tilt)
 }
 

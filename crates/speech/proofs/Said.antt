@@ -35,10 +35,10 @@ unfolding pendingOctets
 indication-said t p r e h = holds-said r (indicationOf (t .said) (t .told)) h ∙ sym (ap (pendingOctets t) e)
 
 module _ (d : Device) (x : Say) (r : Payload) where
-  pub scan-said : x ≡ Scanned → r ≡ payloadOf (scanAnswer (identityOf (d .plate)) (d .station .address))
+  pub scan-said : x ≡ Scanned → r ≡ payloadOf (scanAnswer (identityOf (d .plate)) (d .station .desk .address))
       → octetsOf r ≡ payloadBy d x
   unfolding payloadBy
-  scan-said e h = holds-said r (scanAnswer (identityOf (d .plate)) (d .station .address)) h ∙ sym (ap (payloadBy d) e)
+  scan-said e h = holds-said r (scanAnswer (identityOf (d .plate)) (d .station .desk .address)) h ∙ sym (ap (payloadBy d) e)
 
   pub assignment-said : x ≡ Assigned → r ≡ payloadOf (assignmentAnswer (identityOf (d .plate)))
       → octetsOf r ≡ payloadBy d x
@@ -72,7 +72,7 @@ module _ (d : Device) (x : Say) where
 
   pub laid-spoken : isSilent x ≡ false → (p : Payload) {c : ℕ} {r : Spoken} → c ≡ controlBy x
       → octetsOf p ≡ payloadBy d x
-      → (r ≡ spokenOf (some (d .station .address ∷ c ∷ take (p .len) (p .octets)))) × (r .len ≤ 76)
+      → (r ≡ spokenOf (some (d .station .desk .address ∷ c ∷ take (p .len) (p .octets)))) × (r .len ≤ 76)
       → (r ≡ spokenOf (frameBy d x)) × (r .len ≤ 76)
   unfolding frameBy
   laid-spoken e p f g h = (h .0 ∙ rw (e, f, g), h .1)

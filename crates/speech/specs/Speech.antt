@@ -1,5 +1,5 @@
 -- The frame that a device says. 01, "The link": "Answers carry the device's address (0 in NoAddress)".
---   pendingOctets t p == the payload of what is pending in the station t, p; linkOctets t l == in the link state l
+--   pendingOctets k p == the payload of what is pending at the desk k, p; linkOctets k l == in the link state l
 --   isSilent x        == x is silence; controlBy x == the control of what is said; payloadBy d x == its payload
 --   frameBy d x       == address, control and payload, where the device d says x; none for silence
 --   spokenOf f        == the frame f, as it lies in the code's record
@@ -28,16 +28,16 @@ use Rattle.speech.specs.declared.Spoken.{Spoken}
 abbrev pub octetsOf : Payload → List ℕ
 octetsOf p = take (p .len) (p .octets)
 
-unfoldable pub pendingOctets : Station → Pending → List ℕ
-pendingOctets t Nothing = []
-pendingOctets t Answer = octetsOf (t .reply)
-pendingOctets t Indication = indicationOf (t .said) (t .told)
+unfoldable pub pendingOctets : Desk → Pending → List ℕ
+pendingOctets k Nothing = []
+pendingOctets k Answer = octetsOf (k .reply)
+pendingOctets k Indication = indicationOf (k .said) (k .told)
 
 -- only a session has something pending
-unfoldable pub linkOctets : Station → Link → List ℕ
-linkOctets t NoAddress = []
-linkOctets t AddressAssigned = []
-linkOctets t (Connected s) = pendingOctets t (s .pending)
+unfoldable pub linkOctets : Desk → Link → List ℕ
+linkOctets k NoAddress = []
+linkOctets k AddressAssigned = []
+linkOctets k (Connected s) = pendingOctets k (s .pending)
 
 unfoldable pub isSilent : Say → Bool
 isSilent Silence = true
@@ -62,11 +62,11 @@ payloadBy d Silence = []
 payloadBy d (Bare c) = []
 payloadBy d (Reject c v w) = c ∷ v ∷ w ∷ []
 payloadBy d (Pend c) = linkOctets (d .station) (d .station .link)
-payloadBy d Scanned = scanAnswer (identityOf (d .plate)) (d .station .address)
+payloadBy d Scanned = scanAnswer (identityOf (d .plate)) (d .station .desk .address)
 payloadBy d Assigned = assignmentAnswer (identityOf (d .plate))
 
 unfoldable pub frameBy : Device → Say → Option (List ℕ)
-frameBy d x = cond (isSilent x) none (some (d .station .address ∷ controlBy x ∷ payloadBy d x))
+frameBy d x = cond (isSilent x) none (some (d .station .desk .address ∷ controlBy x ∷ payloadBy d x))
 
 -- at the start of 76 zeros; silence has no octet
 unfoldable pub spokenOf : Option (List ℕ) → Spoken

@@ -12,7 +12,7 @@ use record::Device;
 use record::Link;
 use record::Payload;
 use record::Pending;
-use record::Station;
+use record::Desk;
 use station::Say;
 
 // A frame of `len` octets; none where `len` is 0.
@@ -24,10 +24,7 @@ pub struct Spoken {
 fn nothing() -> Payload
     ensures { λ r. ⌜ octetsOf r ≡ [] ⌝ }
 {
-    Payload {
-        octets: [0u8; 74],
-        len: 0,
-    }
+    record::NO_REPLY
 }
 
 fn reject(control: u8, counts: u8, why: u8) -> Payload
@@ -40,27 +37,27 @@ fn reject(control: u8, counts: u8, why: u8) -> Payload
     Payload { octets, len: 3 }
 }
 
-fn pending_payload(station: Station, pending: Pending) -> Payload
-    ensures { λ r. ⌜ octetsOf r ≡ pendingOctets station pending ⌝ }
+fn pending_payload(desk: Desk, pending: Pending) -> Payload
+    ensures { λ r. ⌜ octetsOf r ≡ pendingOctets desk pending ⌝ }
 {
-    let said = station.said;
-    let told = station.told;
+    let said = desk.said;
+    let told = desk.told;
     match pending {
         Pending::Nothing => nothing(),
-        Pending::Answer => station.reply,
+        Pending::Answer => desk.reply,
         Pending::Indication => report::indication(said, told),
     }
 }
 
-fn link_payload(station: Station, link: Link) -> Payload
-    ensures { λ r. ⌜ octetsOf r ≡ linkOctets station link ⌝ }
+fn link_payload(desk: Desk, link: Link) -> Payload
+    ensures { λ r. ⌜ octetsOf r ≡ linkOctets desk link ⌝ }
 {
     match link {
         Link::NoAddress => nothing(),
         Link::AddressAssigned => nothing(),
         Link::Connected(s) => {
             let pending = s.pending;
-            pending_payload(station, pending)
+            pending_payload(desk, pending)
         }
     }
 }
@@ -105,6 +102,7 @@ fn payload_of(device: Device, say: Say) -> Payload
     let plate = device.plate;
     let station = device.station;
     let link = station.link;
+    let desk = station.desk;
     match say {
         Say::Silence => nothing(),
         Say::Bare { control: _ } => nothing(),
@@ -113,8 +111,8 @@ fn payload_of(device: Device, say: Say) -> Payload
             counts,
             why,
         } => reject(control, counts, why),
-        Say::Pend { control: _ } => link_payload(station, link),
-        Say::Scanned => xid_answer::scan_answer(plate, station.address),
+        Say::Pend { control: _ } => link_payload(desk, link),
+        Say::Scanned => xid_answer::scan_answer(plate, desk.address),
         Say::Assigned => xid_answer::assignment_answer(plate),
     }
 }
@@ -136,6 +134,7 @@ pub fn speak(device: Device, say: Say) -> Spoken
     ensures { λ r. ⌜ (r ≡ spokenOf (frameBy device say)) × (r .len ≤ 76) ⌝ }
 {
     let station = device.station;
+    let desk = station.desk;
     if is_silent(say) {
         return Spoken {
             octets: [0u8; 76],
@@ -144,5 +143,5 @@ pub fn speak(device: Device, say: Say) -> Spoken
     }
     let payload = payload_of(device, say);
     let row = payload.octets;
-    laid(station.address, control_of(say), row, payload.len)
+    laid(desk.address, control_of(say), row, payload.len)
 }

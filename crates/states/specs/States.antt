@@ -30,10 +30,10 @@ abbrev pub newSession : Session
 newSession = record { r = 0; s = 0; pending = Nothing }
 
 unfoldable pub begun : Device → Device
-begun d = endedAs d (d .station .address) (Connected newSession)
+begun d = endedAs d (d .station .desk .address) (Connected newSession)
 
 unfoldable pub released : Device → Device
-released d = endedAs d (d .station .address) AddressAssigned
+released d = endedAs d (d .station .desk .address) AddressAssigned
 
 -- "UA 0x73", "DM 0x1F"
 abbrev pub ua : Say

@@ -11,6 +11,7 @@ use Rattle.record.specs.declared.Pending.the-variants.{Answer}
 use Rattle.record.specs.declared.Session.{Session}
 use Rattle.record.specs.declared.Link.the-variants.{Connected}
 use Rattle.record.specs.declared.Station.{Station}
+use Rattle.record.specs.Desk.{withReply}
 use Rattle.session.specs.Session.{pends}
 use Rattle.station.specs.declared.Say.{Say}
 use Rattle.station.specs.declared.Say.the-variants.{Bare, Pend}
@@ -24,12 +25,4 @@ awaiting s p = record { r = s .r; s = s .s; pending = p }
 
 -- an answer that is sent is pending until it is acknowledged
 unfoldable pub answersWith : Station → Session → Payload → Station
-answersWith t s p =
-    record {
-      address = t .address;
-      link = Connected (awaiting s Answer);
-      subscribed = t .subscribed;
-      told = t .told;
-      said = t .said;
-      reply = p;
-    }
+answersWith t s p = record { link = Connected (awaiting s Answer); desk = withReply (t .desk) p }

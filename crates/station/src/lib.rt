@@ -44,19 +44,15 @@ pub fn resend(s: Session) -> Say
 fn answered(station: Station, s: Session, payload: Payload) -> Station
     ensures { λ r. ⌜ r ≡ answersWith station s payload ⌝ }
 {
-    let told = station.told;
-    let said = station.said;
+    let mut desk = station.desk;
+    desk.reply = payload;
     Station {
-        address: station.address,
         link: Link::Connected(Session {
             r: s.r,
             s: s.s,
             pending: Pending::Answer,
         }),
-        subscribed: station.subscribed,
-        told,
-        said,
-        reply: payload,
+        desk,
     }
 }
 

@@ -1,7 +1,7 @@
 -- `aim::aim_at` meets its promise: each way out, by the tests that lead to it. Assumes nothing.
 use mathlib.Core.Path.{refl, sym, _∙_}
 use Rattle.antenna.specs.declared.Aim.the-variants.{Busy, Outside}
-use Rattle.antenna.specs.Motions.{aimNumber}
+use Rattle.antenna.specs.Motions.{aimNumber, moves}
 use Rattle.antenna.proofs.Movements.{aim-05, aim-13, starts}
 use Rattle.antenna.proofs.Aims.{refused-aims, started-aims}
 use borrow.Author.Needs.{needs}
@@ -18,14 +18,12 @@ returns c = refused-aims Busy refl (aim-05 _ _ .1 (sym (c .before .busy .ensures
 in-range-requires : tie.Need-in-range-requires
 in-range-requires c κs = search needs
 
-in-motion-requires : tie.Need-in-motion-requires
-in-motion-requires c κs = search needs
-
 returns-2 : tie.Need-returns-2
+unfolding moves
 returns-2 c =
     let free = sym (c .before .before .before .before .busy .ensures) ∙ c .before .before .before .if1 .left in
     let inside = sym (c .before .before .in-range .ensures) ∙ c .before .if2 .taken in
-    started-aims (starts _ _ _ .1 (free, inside, sym (c .in-motion .ensures)))
+    started-aims (starts _ _ _ .1 (free, inside, refl))
 
 returns-3 : tie.Need-returns-3
 unfolding aimNumber
@@ -37,4 +35,4 @@ returns-3 c =
 pub aim-at-spec : {M : Type 1} → statement M
 aim-at-spec =
     tie.close
-    (tie.spec busy-requires returns in-range-requires in-motion-requires returns-2 returns-3)
+    (tie.spec busy-requires returns in-range-requires returns-2 returns-3)

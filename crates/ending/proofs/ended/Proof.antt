@@ -1,30 +1,21 @@
--- `ending::ended` meets its promise: each way out, by the tests that lead to it. Assumes nothing.
-use Rattle.record.specs.Changes.{endedAs}
+-- `ending::ended` meets its promise: the station with nothing pending, the motion with nothing owed. Assumes nothing.
 use mathlib.Core.Path.{sym}
 use Rattle.octets.proofs.Rules.{tests}
+use Rattle.antenna.specs.Motions.{moves}
+use Rattle.record.specs.Changes.{endedAs}
 use borrow.Author.Needs.{needs}
 use Rattle.ending.proofs.ended.Statement.{statement}
 use Rattle.ending.proofs.ended.Tie as tie
 
-unowed-requires : tie.Need-unowed-requires
-unowed-requires c κs = search needs
-
-in-motion-requires : tie.Need-in-motion-requires
-in-motion-requires c κs = search needs
-
 unsaid-requires : tie.Need-unsaid-requires
 unsaid-requires c κs = search needs
 
+unowed-requires : tie.Need-unowed-requires
+unowed-requires c κs = search needs
+
 returns : tie.Need-returns
-unfolding endedAs
-returns c =
-    search (
-      tests,
-      sym (c .unsaid .ensures),
-      sym (c .before .in-motion .ensures),
-      sym
-          (c .before .before .unowed .ensures),
-    )
+unfolding endedAs moves
+returns c = search (tests, sym (c .unowed .ensures), sym (c .before .unsaid .ensures))
 
 pub ended-spec : {M : Type 1} → statement M
-ended-spec = tie.close (tie.spec unowed-requires in-motion-requires unsaid-requires returns)
+ended-spec = tie.close (tie.spec unsaid-requires unowed-requires returns)

@@ -1,13 +1,13 @@
--- `alarms::differ` meets its promise: each way out, by the tests that lead to it. Assumes nothing.
+-- `antenna::differ` meets its promise: each way out, by the tests that lead to it. Assumes nothing.
 use borrow.Author.Needs.{needs}
 use mathlib.Core.Path.{_≡_, refl, sym, _∙_}
 use Prim.Native.Nat.{_-_, _<_, _≤_}
 use native.Mathlib.Omega.{arith}
 use lib.ListN.{length, drop}
 use Rattle.antenna.specs.Alarms.{anyDiffer}
 use Rattle.antenna.proofs.Flags.{differ-here, differ-more, differ-done}
-use Rattle.alarms.proofs.differ.Statement.{statement}
-use Rattle.alarms.proofs.differ.Tie as tie
+use Rattle.antenna.proofs.differ.Statement.{statement}
+use Rattle.antenna.proofs.differ.Tie as tie
 
 abbrev Inv-loop : tie.InvT-loop
 Inv-loop a b i₀ i =

@@ -1,10 +1,10 @@
--- `alarms::alarmed` meets its promise: each way out, by the tests that lead to it. Assumes nothing.
+-- `event::alarmed` meets its promise: each way out, by the tests that lead to it. Assumes nothing.
 use borrow.Author.Needs.{needs}
 use Rattle.refusal.specs.declared.Refusal.the-variants.{CannotBe}
 use Rattle.refusal.proofs.Answers.{unchanged, changed}
 use Rattle.antenna.proofs.Happenings.{known, unknown}
-use Rattle.alarms.proofs.alarmed.Statement.{statement}
-use Rattle.alarms.proofs.alarmed.Tie as tie
+use Rattle.event.proofs.alarmed.Statement.{statement}
+use Rattle.event.proofs.alarmed.Tie as tie
 
 slice-aggregate-find : tie.Need-slice-aggregate-find
 slice-aggregate-find c = search needs
@@ -17,9 +17,7 @@ element-write-raised c = search needs
 
 returns : tie.Need-returns
 returns c =
-    changed
-    (known _ _ _ (c .before .before .before .before .before .find .ensures)
-    (c .before .before .before .before .if1 .taken))
+    changed (known _ _ _ (c .before .before .before .find .ensures) (c .before .before .if1 .taken))
 
 returns-2 : tie.Need-returns-2
 returns-2 c = unchanged CannotBe (unknown _ _ _ (c .before .find .ensures) (c .if1 .left))

@@ -1,11 +1,11 @@
--- `motor::stopped` meets its promise: each way out, by the tests that lead to it. Assumes nothing.
+-- `event::stopped` meets its promise: each way out, by the tests that lead to it. Assumes nothing.
 use borrow.Author.Needs.{needs}
 use mathlib.Core.Path.{sym, _∙_}
 use Rattle.refusal.specs.declared.Refusal.the-variants.{CannotBe}
 use Rattle.refusal.proofs.Answers.{unchanged, changed}
 use Rattle.antenna.proofs.Happenings.{stops, no-movement, outside}
-use Rattle.motor.proofs.stopped.Statement.{statement}
-use Rattle.motor.proofs.stopped.Tie as tie
+use Rattle.event.proofs.stopped.Statement.{statement}
+use Rattle.event.proofs.stopped.Tie as tie
 
 is-running-requires : tie.Need-is-running-requires
 is-running-requires c κs = search needs
@@ -18,10 +18,9 @@ rested-requires c κs = search needs
 
 returns : tie.Need-returns
 returns c =
-    let moves = sym (c .before .before .before .before .before .before .before .is-running .ensures)
-    ∙ c .before .before .before .before .before .before .if1 .taken in
-    let inside = sym (c .before .before .before .before .before .in-range .ensures)
-    ∙ c .before .before .before .before .if2 .taken in
+    let moves = sym (c .before .before .before .before .before .is-running .ensures)
+    ∙ c .before .before .before .before .if1 .taken in
+    let inside = sym (c .before .before .before .in-range .ensures) ∙ c .before .before .if2 .taken in
     changed (stops _ _ moves inside (c .rested .ensures))
 
 returns-2 : tie.Need-returns-2

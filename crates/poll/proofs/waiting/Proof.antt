@@ -1,10 +1,10 @@
--- `antenna::waiting` meets its promise: each way out, by the tests that lead to it. Assumes nothing.
+-- `poll::waiting` meets its promise: each way out, by the tests that lead to it. Assumes nothing.
 use Rattle.antenna.specs.Motions.{waitingOf}
 use Rattle.octets.proofs.Rules.{tests}
 use borrow.Author.Needs.{needs}
 use Rattle.antenna.proofs.Awaits.{awaits}
-use Rattle.antenna.proofs.waiting.Statement.{statement}
-use Rattle.antenna.proofs.waiting.Tie as tie
+use Rattle.poll.proofs.waiting.Statement.{statement}
+use Rattle.poll.proofs.waiting.Tie as tie
 
 enum-told : tie.Need-enum-told
 enum-told c = search needs

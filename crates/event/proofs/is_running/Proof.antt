@@ -1,9 +1,9 @@
--- `motor::is_running` meets its promise: each way out, by the tests that lead to it. Assumes nothing.
+-- `event::is_running` meets its promise: each way out, by the tests that lead to it. Assumes nothing.
 use Rattle.antenna.specs.Motions.{runs}
 use Rattle.octets.proofs.Rules.{tests}
 use borrow.Author.Needs.{needs}
-use Rattle.motor.proofs.is_running.Statement.{statement}
-use Rattle.motor.proofs.is_running.Tie as tie
+use Rattle.event.proofs.is_running.Statement.{statement}
+use Rattle.event.proofs.is_running.Tie as tie
 
 enum-told : tie.Need-enum-told
 enum-told c = search needs

@@ -1,10 +1,10 @@
--- `motor::rested` meets its promise: each way out, by the tests that lead to it. Assumes nothing.
+-- `event::rested` meets its promise: each way out, by the tests that lead to it. Assumes nothing.
 use Rattle.antenna.specs.Events.{restedOf}
 use mathlib.Core.Path.{sym}
 use Rattle.octets.proofs.Rules.{tests}
 use borrow.Author.Needs.{needs}
-use Rattle.motor.proofs.rested.Statement.{statement}
-use Rattle.motor.proofs.rested.Tie as tie
+use Rattle.event.proofs.rested.Statement.{statement}
+use Rattle.event.proofs.rested.Tie as tie
 
 enum-told : tie.Need-enum-told
 enum-told c = search needs

@@ -1,9 +1,9 @@
--- `antenna::unowed` meets its promise: each way out, by the tests that lead to it. Assumes nothing.
-use Rattle.antenna.specs.Motions.{unowedOf}
+-- `record::owes` meets its promise: each way out, by the tests that lead to it. Assumes nothing.
+use Rattle.antenna.specs.Motions.{owesOf}
 use Rattle.octets.proofs.Rules.{tests}
 use borrow.Author.Needs.{needs}
-use Rattle.antenna.proofs.unowed.Statement.{statement}
-use Rattle.antenna.proofs.unowed.Tie as tie
+use Rattle.record.proofs.owes.Statement.{statement}
+use Rattle.record.proofs.owes.Tie as tie
 
 enum-told : tie.Need-enum-told
 enum-told c = search needs
@@ -18,22 +18,22 @@ enum-told-4 : tie.Need-enum-told-4
 enum-told-4 c = search needs
 
 returns : tie.Need-returns
-unfolding unowedOf
+unfolding owesOf
 returns c = search (tests, c .enum-told .given .1)
 
 returns-2 : tie.Need-returns-2
-unfolding unowedOf
+unfolding owesOf
 returns-2 c = search (tests, c .enum-told2 .given .1)
 
 returns-3 : tie.Need-returns-3
-unfolding unowedOf
+unfolding owesOf
 returns-3 c = search (tests, c .enum-told3 .given .1)
 
 returns-4 : tie.Need-returns-4
-unfolding unowedOf
+unfolding owesOf
 returns-4 c = search (tests, c .enum-told4 .given .1)
 
-pub unowed-spec : {M : Type 1} → statement M
-unowed-spec =
+pub owes-spec : {M : Type 1} → statement M
+owes-spec =
     tie.close
     (tie.spec enum-told enum-told-2 enum-told-3 enum-told-4 returns returns-2 returns-3 returns-4)

@@ -1,2 +1,0 @@
--- The laws of a drive's events that the layers above cite.
-pub mod Only

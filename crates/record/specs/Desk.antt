@@ -1,0 +1,43 @@
+-- A desk with one of its fields changed. A desk is spelt out here and where a fresh one is made, and nowhere else.
+--   withAddress k a, withSubscription k b, withTold k a, withSaid k a, withReply k p == the desk k with another address,
+--     subscription, what was told, what an indication says, reply
+--   unsaid k == the desk k with nothing pending: what a pending answer or indication left is erased
+-- Assumes nothing.
+use mathlib.Core.Bool.{Bool}
+use mathlib.Core.List.{List}
+use Prim.Native.Nat.{ℕ}
+use lib.ListN.{replicate}
+use Rattle.antenna.specs.declared.Alarms.{Alarms}
+use Rattle.antenna.specs.Alarms.{noAlarms}
+use Rattle.record.specs.Allowed.{replyMost}
+use Rattle.record.specs.declared.Payload.{Payload}
+use Rattle.record.specs.declared.Desk.{Desk}
+
+abbrev pub calm : Alarms
+calm = record { flags = noAlarms }
+
+-- nothing is pending, so nothing lies in the reply
+abbrev pub noReply : Payload
+noReply = record { octets = replicate replyMost 0; len = 0 }
+
+abbrev pub withAddress : Desk → ℕ → Desk
+withAddress k a =
+    record { address = a; subscribed = k .subscribed; told = k .told; said = k .said; reply = k .reply }
+
+abbrev pub withSubscription : Desk → Bool → Desk
+withSubscription k b = record { address = k .address; subscribed = b; told = k .told; said = k .said; reply = k .reply }
+
+abbrev pub withTold : Desk → Alarms → Desk
+withTold k a =
+    record { address = k .address; subscribed = k .subscribed; told = a; said = k .said; reply = k .reply }
+
+abbrev pub withSaid : Desk → Alarms → Desk
+withSaid k a =
+    record { address = k .address; subscribed = k .subscribed; told = k .told; said = a; reply = k .reply }
+
+abbrev pub withReply : Desk → Payload → Desk
+withReply k p =
+    record { address = k .address; subscribed = k .subscribed; told = k .told; said = k .said; reply = p }
+
+abbrev pub unsaid : Desk → Desk
+unsaid k = withReply (withSaid k calm) noReply
