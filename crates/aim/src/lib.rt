@@ -11,7 +11,8 @@ use antenna::Angle;
 use antenna::Antenna;
 use antenna::Motion;
 
-fn at_most(a: Angle, b: Angle) -> bool
+// Whether a tilt is no larger than another.
+pub fn at_most(a: Angle, b: Angle) -> bool
     ensures { λ r. ⌜ r ≡ atMost a b ⌝ }
 {
     a.tenths <= b.tenths

@@ -42,8 +42,8 @@ fn is_running(motion: Motion) -> bool
 fn same(a: Angle, b: Angle) -> bool
     ensures { λ r. ⌜ r ≡ sameAs a b ⌝ }
 {
-    if a.tenths <= b.tenths {
-        b.tenths <= a.tenths
+    if aim::at_most(a, b) {
+        aim::at_most(b, a)
     } else {
         false
     }
