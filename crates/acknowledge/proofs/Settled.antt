@@ -6,9 +6,8 @@ use Rattle.control.specs.Control.{nextOf}
 use Rattle.record.specs.declared.Pending.the-variants.{Nothing, Answer, Indication}
 use Rattle.record.specs.declared.Session.{Session}
 use Rattle.record.specs.declared.Station.{Station}
-use Rattle.record.specs.Changes.{unsaidAt}
 use Rattle.session.specs.Session.{acknowledges}
-use Rattle.acknowledge.specs.Acknowledge.{emptied, toldAfter, retold, settled, sessionAfter, stationAfter}
+use Rattle.acknowledge.specs.Acknowledge.{emptied, toldAfter, relieved, sessionAfter, stationAfter}
 
 module _ (t : Station) (s : Session) (n : ℕ) where
   -- a number that acknowledges nothing changes nothing
@@ -26,14 +25,14 @@ module _ (t : Station) (s : Session) (n : ℕ) where
     session-moved = rw e (refl, refl)
 
     -- told: "to what it said", where an indication was pending
-    pub told-said : s .pending ≡ Indication → stationAfter t s n .told ≡ t .said
-    unfolding stationAfter settled unsaidAt retold toldAfter
+    pub told-said : s .pending ≡ Indication → stationAfter t s n .desk .told ≡ t .desk .said
+    unfolding stationAfter relieved toldAfter
     told-said q = rw (e, q)
 
-    pub told-stays : s .pending ≡ Answer → stationAfter t s n .told ≡ t .told
-    unfolding stationAfter settled unsaidAt retold toldAfter
+    pub told-stays : s .pending ≡ Answer → stationAfter t s n .desk .told ≡ t .desk .told
+    unfolding stationAfter relieved toldAfter
     told-stays q = rw (e, q)
 
-    pub subscription-stays : stationAfter t s n .subscribed ≡ t .subscribed
-    unfolding stationAfter settled unsaidAt retold
+    pub subscription-stays : stationAfter t s n .desk .subscribed ≡ t .desk .subscribed
+    unfolding stationAfter relieved
     subscription-stays = rw e

@@ -2,9 +2,10 @@
 // Headline: told changes at an acknowledged indication alone, to what it said (proofs/Settled.antt).
 // Assumes nothing of its caller.
 ghost use mathlib.Core.Path.{_≡_};
-ghost use Rattle.acknowledge.specs.Acknowledge.{emptied, toldAfter, retold, settled, sessionAfter, stationAfter};
+ghost use Rattle.acknowledge.specs.Acknowledge.{emptied, toldAfter, relieved, sessionAfter, stationAfter};
 ghost use Rattle.acknowledge.specs.Acknowledge.{acknowledged};
 use antenna::Alarms;
+use record::Desk;
 use record::Device;
 use record::Link;
 use record::Pending;
@@ -21,50 +22,39 @@ fn emptied_session(s: Session) -> Session
     }
 }
 
-fn told_after(station: Station, pending: Pending) -> Alarms
-    ensures { λ r. ⌜ r ≡ toldAfter station pending ⌝ }
+fn told_after(desk: Desk, pending: Pending) -> Alarms
+    ensures { λ r. ⌜ r ≡ toldAfter desk pending ⌝ }
 {
     match pending {
-        Pending::Nothing => station.told,
-        Pending::Answer => station.told,
-        Pending::Indication => station.said,
+        Pending::Nothing => desk.told,
+        Pending::Answer => desk.told,
+        Pending::Indication => desk.said,
     }
 }
 
-fn retell(station: Station, told: Alarms) -> Station
-    ensures { λ r. ⌜ r ≡ retold station told ⌝ }
-{
-    let link = station.link;
-    let said = station.said;
-    let reply = station.reply;
-    Station {
-        address: station.address,
-        link,
-        subscribed: station.subscribed,
-        told,
-        said,
-        reply,
-    }
-}
-
-fn settle(station: Station, s: Session) -> Station
-    ensures { λ r. ⌜ r ≡ settled station s ⌝ }
+// The station once the pending answer of its session is acknowledged.
+fn relieve(station: Station, s: Session) -> Station
+    ensures { λ r. ⌜ r ≡ relieved station s ⌝ }
 {
     let pending = s.pending;
-    let told = told_after(station, pending);
-    let next = emptied_session(s);
-    ending::unsaid(
-        retell(station, told),
-        station.address,
-        Link::Connected(next),
-    )
+    let mut desk = station.desk;
+    let told = told_after(desk, pending);
+    let said = antenna::CALM;
+    let reply = record::NO_REPLY;
+    desk.told = told;
+    desk.said = said;
+    desk.reply = reply;
+    Station {
+        link: Link::Connected(emptied_session(s)),
+        desk,
+    }
 }
 
 fn station_after(station: Station, s: Session, nr: u8) -> Station
     ensures { λ r. ⌜ r ≡ stationAfter station s nr ⌝ }
 {
     if session::is_acknowledged(s, nr) {
-        return settle(station, s);
+        return relieve(station, s);
     }
     station
 }

@@ -29,22 +29,23 @@ carriedAt d m = carriedOf (d .plate) (d .antenna) (d .station .desk .told) (d .s
 
 -- the address of a device in a session is 1 to 254
 connected-address : (t : Station) (s : Session) → stationAllowed t ≡ true → t .link ≡ Connected s
-    → addressed (t .address) ≡ true
+    → addressed (t .desk .address) ≡ true
 unfolding stationAllowed linkAllowed
-connected-address t s e l = and-parts (addressed (t .address)) (sessionAllowed t s) (sym (ap (linkAllowed t) l) ∙ e) .0
+connected-address t s e l = 
+    and-parts (addressed (t .desk .address)) (sessionAllowed (t .desk) s) (sym (ap (linkAllowed (t .desk)) l) ∙ e) .0
 
 -- t is the station after the message, in the session s
 module _ (d : Device) (s₀ s : Session) (t : Station) (m : List ℕ) (allowed : allowedDevice d ≡ true)
-    (here : d .station .link ≡ Connected s₀) (address : t .address ≡ d .station .desk .address)
+    (here : d .station .link ≡ Connected s₀) (address : t .desk .address ≡ d .station .desk .address)
     (there : t .link ≡ Connected s) (numbers : numbersAllowed s ≡ true) where
-  kept-station : pendingFits t (s .pending) ≡ true → stationAllowed t ≡ true
+  kept-station : pendingFits (t .desk) (s .pending) ≡ true → stationAllowed t ≡ true
   unfolding stationAllowed linkAllowed sessionAllowed
   kept-station p =
-      let a : addressed (t .address) ≡ true =
+      let a : addressed (t .desk .address) ≡ true =
       ap addressed address ∙ connected-address (d .station) s₀ (sound d allowed .station) here in
-      ap (linkAllowed t) there ∙ rw (a, numbers, p)
+      ap (linkAllowed (t .desk)) there ∙ rw (a, numbers, p)
 
-  kept : pendingFits t (s .pending) ≡ true
+  kept : pendingFits (t .desk) (s .pending) ≡ true
       → allowedDevice (record { plate = d .plate; station = t; antenna = carriedAt d m .antenna }) ≡ true
   unfolding owedAllowed
   kept p =
@@ -64,7 +65,7 @@ module _ (d : Device) (s₀ s : Session) (t : Station) (m : List ℕ) (allowed :
   none-stays e = kept (rw e)
 
   -- an answer: it is the pending one
-  pub answer-stays : s .pending ≡ Answer → t .reply ≡ carriedAt d m .payload
+  pub answer-stays : s .pending ≡ Answer → t .desk .reply ≡ carriedAt d m .payload
       → allowedDevice (record { plate = d .plate; station = t; antenna = carriedAt d m .antenna }) ≡ true
   unfolding pendingFits
   answer-stays e q =

@@ -24,11 +24,14 @@ use Rattle.message.specs.Carried.{carriedOf, outcome, doneBy, replies, u
 abbrev pub at-rest : ℤ → Antenna
 at-rest t =
     record {
-      lowest = record { tenths = negsuc 19 };
-      highest = record { tenths = pos 100 };
-      tilt = record { tenths = t };
       motion = Still;
-      raised = calm;
+      drive =
+          record {
+            lowest = record { tenths = negsuc 19 };
+            highest = record { tenths = pos 100 };
+            tilt = record { tenths = t };
+            raised = calm;
+          };
     }
 
 abbrev pub said : Carried → List ℕ

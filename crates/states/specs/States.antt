@@ -1,5 +1,7 @@
 -- The three link states. 01, "The link".
---   begun d          == a new session: "All start at 0 and none"; released d == the session's end
+--   begun d          == a first session: "All start at 0 and none"; released d == the session's end
+--   renewed d        == a new session after one that ends by it
+--   onSnrm d l       == the device d after SNRM in the link state l
 --   ua, dm           == what is said of SNRM, and of DISC in a session; what else is said in AddressAssigned
 --   rejected d s c w == FRMR for the control c and the reason w: "The link falls to AddressAssigned"
 --   informedBy d s n r p, polledBy d s r, pausedBy d s r == an I-frame, RR, RNR with the good N(R) = r
@@ -29,11 +31,16 @@ use Rattle.inform.specs.Inform.{informOf}
 abbrev pub newSession : Session
 newSession = record { r = 0; s = 0; pending = Nothing }
 
+-- a first session, in AddressAssigned: no session ends by it
 unfoldable pub begun : Device → Device
 begun d = endedAs d (d .station .desk .address) (Connected newSession)
 
 unfoldable pub released : Device → Device
 released d = endedAs d (d .station .desk .address) AddressAssigned
+
+-- in Connected: the session ends, and a new one begins
+unfoldable pub renewed : Device → Device
+renewed d = begun (released d)
 
 -- "UA 0x73", "DM 0x1F"
 abbrev pub ua : Say
@@ -74,7 +81,7 @@ rnrBy d s r c = cond (goodNumber s r) (pausedBy d s r) (rejected d s c 8)
 -- DISC, I, RR and RNR, gets FRMR". An XID does not come here: it is silence before the states are asked.
 unfoldable pub connectedBy : Device → Session → Order → ℕ → List ℕ → Turn
 connectedBy d s Xid c p = mute d
-connectedBy d s Snrm c p = saying (begun d) ua
+connectedBy d s Snrm c p = saying (renewed d) ua
 connectedBy d s Disc c p = saying (released d) ua
 connectedBy d s (Info n r) c p = infoBy d s n r c p
 connectedBy d s (Rr r) c p = rrBy d s r c
@@ -93,6 +100,13 @@ isSnrm Unknown = false
 -- "AddressAssigned: SNRM 0x93 gets UA 0x73 and Connected; anything else gets DM 0x1F." An XID is silence before.
 unfoldable pub assignedBy : Device → Order → Turn
 assignedBy d o = cond (isSnrm o) (saying (begun d) ua) (saying d dm)
+
+-- SNRM in each state: "AddressAssigned: SNRM 0x93 gets UA 0x73 and Connected", "Connected: SNRM gets UA and starts a new
+-- session"
+unfoldable pub onSnrm : Device → Link → Device
+onSnrm d NoAddress = d
+onSnrm d AddressAssigned = begun d
+onSnrm d (Connected s) = renewed d
 
 -- a device without an address has no own one: it does not come here
 unfoldable pub linkedBy : Device → Link → Order → ℕ → List ℕ → Turn

@@ -19,19 +19,21 @@ fn begin(device: Device) -> Device
     ensures { λ r. ⌜ r ≡ begun device ⌝ }
 {
     let station = device.station;
+    let desk = station.desk;
     let fresh = Session {
         r: 0,
         s: 0,
         pending: Pending::Nothing,
     };
-    ending::ended(device, station.address, Link::Connected(fresh))
+    ending::ended(device, desk.address, Link::Connected(fresh))
 }
 
 fn release(device: Device) -> Device
     ensures { λ r. ⌜ r ≡ released device ⌝ }
 {
     let station = device.station;
-    ending::ended(device, station.address, Link::AddressAssigned)
+    let desk = station.desk;
+    ending::ended(device, desk.address, Link::AddressAssigned)
 }
 
 // UA: SNRM, and DISC in a session.
@@ -126,7 +128,7 @@ fn connected(device: Device, s: Session, order: Order, control: u8, m: &[u8]) ->
                 say: Say::Silence,
             }
         }
-        Order::Snrm => say_ua(begin(device)),
+        Order::Snrm => say_ua(begin(release(device))),
         Order::Disc => say_ua(release(device)),
         Order::Info { ns, nr } => on_info(device, s, ns, nr, control, m),
         Order::Rr { nr } => on_rr(device, s, nr, control),

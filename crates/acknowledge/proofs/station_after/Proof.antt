@@ -9,13 +9,13 @@ use Rattle.acknowledge.proofs.station_after.Tie as tie
 is-acknowledged-requires : tie.Need-is-acknowledged-requires
 is-acknowledged-requires c κs = search needs
 
-settle-requires : tie.Need-settle-requires
-settle-requires c κs = search needs
+relieve-requires : tie.Need-relieve-requires
+relieve-requires c κs = search needs
 
 returns : tie.Need-returns
 unfolding stationAfter
 returns c =
-    search (tests, sym (c .settle .ensures), sym (c .before .before .is-acknowledged .ensures) ∙ c .before .if1 .taken)
+    search (tests, sym (c .relieve .ensures), sym (c .before .before .is-acknowledged .ensures) ∙ c .before .if1 .taken)
 
 returns-2 : tie.Need-returns-2
 unfolding stationAfter
@@ -23,4 +23,4 @@ returns-2 c = search (tests, sym (c .before .is-acknowledged .ensures) ∙ c .if
 
 pub station-after-spec : {M : Type 1} → statement M
 station-after-spec =
-    tie.close (tie.spec is-acknowledged-requires settle-requires returns returns-2)
+    tie.close (tie.spec is-acknowledged-requires relieve-requires returns returns-2)

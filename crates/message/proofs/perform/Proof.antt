@@ -15,7 +15,7 @@ replied-requires c κs = search needs
 returns : tie.Need-returns
 unfolding performedOf
 returns c =
-    rw (eq-eqb _ _ (c .before .before .before .if1 .taken))
+    rw (eq-eqb _ _ (c .before .before .before .before .if1 .taken))
     (reply-is _ _ _ _ (c .before .alarms .ensures) (c .replied .ensures))
 
 information-requires : tie.Need-information-requires

@@ -1,5 +1,6 @@
 -- `poll::poll_waiting` meets its promise: each way out, by the tests that lead to it. Assumes nothing.
 use Rattle.station.specs.Turns.{answering}
+use Rattle.antenna.specs.Motions.{moves}
 use Rattle.record.specs.Changes.{deviceOf}
 use Rattle.poll.specs.Poll.{waitingPoll}
 use Rattle.octets.proofs.Rules.{tests}
@@ -17,9 +18,6 @@ poll-idle-requires c κs = search needs
 enum-known-waits : tie.Need-enum-known-waits
 enum-known-waits c = search needs
 
-in-motion-requires : tie.Need-in-motion-requires
-in-motion-requires c κs = search needs
-
 result-requires : tie.Need-result-requires
 result-requires c κs = search needs
 
@@ -31,8 +29,14 @@ unfolding waitingPoll
 returns c = search (tests, sym (c .poll-idle .ensures), c .before .enum-told .given .1)
 
 returns-2 : tie.Need-returns-2
-unfolding waitingPoll deviceOf answering
-returns-2 c = search (tests, sym (c .answer .ensures), sym (c .before .result .ensures), sym (c .before .before .in-motion .ensures), c .before .before .before .before .before .before .before .waits .given .1)
+unfolding waitingPoll deviceOf answering moves
+returns-2 c =
+    search (
+      tests,
+      sym (c .answer .ensures),
+      sym (c .before .result .ensures),
+      c .before .before .before .before .before .before .before .waits .given .1,
+    )
 
 pub poll-waiting-spec : {M : Type 1} → statement M
 poll-waiting-spec =
@@ -41,7 +45,6 @@ poll-waiting-spec =
     enum-told
     poll-idle-requires
     enum-known-waits
-    in-motion-requires
     result-requires
     answer-requires
     returns

@@ -1,6 +1,6 @@
 -- `states::connected` meets its promise: each way out, by the tests that lead to it. Assumes nothing.
 use Rattle.station.specs.Turns.{saying}
-use Rattle.states.specs.States.{connectedBy}
+use Rattle.states.specs.States.{connectedBy, renewed}
 use Rattle.octets.proofs.Rules.{tests}
 use mathlib.Core.Path.{sym}
 use borrow.Author.Needs.{needs}
@@ -13,6 +13,9 @@ enum-told c = search needs
 enum-told-2 : tie.Need-enum-told-2
 enum-told-2 c = search needs
 
+release-requires : tie.Need-release-requires
+release-requires c κs = search needs
+
 begin-requires : tie.Need-begin-requires
 begin-requires c κs = search needs
 
@@ -22,8 +25,8 @@ say-ua-requires c κs = search needs
 enum-told-3 : tie.Need-enum-told-3
 enum-told-3 c = search needs
 
-release-requires : tie.Need-release-requires
-release-requires c κs = search needs
+release-requires-2 : tie.Need-release-requires-2
+release-requires-2 c κs = search needs
 
 say-ua-requires-2 : tie.Need-say-ua-requires-2
 say-ua-requires-2 c κs = search needs
@@ -57,12 +60,19 @@ unfolding connectedBy saying
 returns c = search (tests, c .enum-told .given .1)
 
 returns-2 : tie.Need-returns-2
-unfolding connectedBy
-returns-2 c = search (tests, sym (c .say-ua .ensures), sym (c .before .begin .ensures), c .before .before .enum-told2 .given .1)
+unfolding connectedBy renewed
+returns-2 c =
+    search (
+      tests,
+      sym (c .say-ua .ensures),
+      sym (c .before .begin .ensures),
+      sym (c .before .before .release .ensures),
+      c .before .before .before .enum-told2 .given .1,
+    )
 
 returns-3 : tie.Need-returns-3
 unfolding connectedBy
-returns-3 c = search (tests, sym (c .say-ua2 .ensures), sym (c .before .release .ensures), c .before .before .enum-told3 .given .1)
+returns-3 c = search (tests, sym (c .say-ua2 .ensures), sym (c .before .release2 .ensures), c .before .before .enum-told3 .given .1)
 
 returns-4 : tie.Need-returns-4
 unfolding connectedBy
@@ -86,10 +96,10 @@ connected-spec =
     (tie.spec
     enum-told
     enum-told-2
-    begin-requires
+    release-requires begin-requires
     say-ua-requires
     enum-told-3
-    release-requires
+    release-requires-2
     say-ua-requires-2
     enum-known-order
     on-info-requires
