@@ -36,7 +36,7 @@ use Rattle.acknowledge.specs.Acknowledge.{sessionAfter, stationAfter, acknowled
 use Rattle.poll.specs.Poll.{toTell}
 use Rattle.poll.specs.Poll as poll
 use Rattle.inform.specs.Inform.{heeded, carriedHere}
-use Rattle.states.specs.States.{begun, released, ua, dm, isSnrm}
+use Rattle.states.specs.States.{begun, renewed, released, ua, dm, isSnrm}
 use Rattle.link.specs.Frames.{controlOf, Own, numberIn, Numbered, Everyone, Unread}
 use Rattle.conduct.specs.Conduct.{Accepted}
 use Rattle.conduct.specs.Endings.{Assigns}
@@ -103,7 +103,7 @@ left d f (scans w a) = d
 left d f (assigns a w) = endedAs d a AddressAssigned
 left d f (begins w l) = begun d
 left d f (declines o w n l) = d
-left d f (renews s w l) = begun d
+left d f (renews s w l) = renewed d
 left d f (leaves s w l) = released d
 left d f (miscounts s o r w l n b) = released d
 left d f (unknown s w l) = released d

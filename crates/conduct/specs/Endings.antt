@@ -32,7 +32,7 @@ use Rattle.record.specs.Desk.{calm, noReply}
 use Rattle.session.specs.Session.{pends, goodNumber}
 use Rattle.xid.specs.Meaning.{Takes}
 use Rattle.acknowledge.specs.Acknowledge.{sessionAfter}
-use Rattle.states.specs.States.{begun, released}
+use Rattle.states.specs.States.{renewed, released}
 use Rattle.link.specs.Frames.{Own, numberIn, Numbered, Everyone}
 
 abbrev pub pendingIn : Link → Pending
@@ -64,7 +64,7 @@ pub data Ends (d : Device) (f : List ℕ) : Type 0 where
 -- the device after it: "starts a new session"; "AddressAssigned"; "The link falls to AddressAssigned"; "the address is
 -- taken, the state is AddressAssigned"
 unfoldable pub endedBy : (d : Device) (f : List ℕ) → Ends d f → Device
-endedBy d f (renews s w l) = begun d
+endedBy d f (renews s w l) = renewed d
 endedBy d f (leaves s w l) = released d
 endedBy d f (miscounts s o r w l n b) = released d
 endedBy d f (unknown s w l) = released d

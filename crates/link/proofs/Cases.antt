@@ -24,7 +24,7 @@ use Rattle.xid.specs.declared.Xid as xids
 use Rattle.station.specs.declared.Say.{Say}
 use Rattle.station.specs.declared.Turn.{Turn}
 use Rattle.station.specs.Turns.{saying, mute}
-use Rattle.states.specs.States.{begun, released, ua, dm, rejected, informedBy, polledBy, pausedBy}
+use Rattle.states.specs.States.{begun, renewed, released, ua, dm, rejected, informedBy, polledBy, pausedBy}
 use Rattle.states.specs.States.{infoBy, rrBy, rnrBy, connectedBy, isSnrm, assignedBy, linkedBy}
 use Rattle.link.specs.Link.{quiet, ownBy, xidBy, everyoneBy, isOwn, addressedBy, controlledBy, frameMost}
 use Rattle.link.specs.Link.{judgedFrame}
@@ -98,7 +98,7 @@ module _ (d : Device) (f : List ℕ) (P : Turn → Type 0)
     → P (saying (endedAs d a AddressAssigned) Say.Assigned))
     (begins : Own d f Snrm → d .station .link ≡ AddressAssigned → P (saying (begun d) ua))
     (refuses : (o : Order) → Own d f o → isSnrm o ≡ false → d .station .link ≡ AddressAssigned → P (saying d dm))
-    (renews : (s : Session) → Own d f Snrm → d .station .link ≡ Connected s → P (saying (begun d) ua))
+    (renews : (s : Session) → Own d f Snrm → d .station .link ≡ Connected s → P (saying (renewed d) ua))
     (ends : (s : Session) → Own d f Disc → d .station .link ≡ Connected s → P (saying (released d) ua))
     (miscounts : (s : Session) (o : Order) (r : ℕ) → Own d f o → d .station .link ≡ Connected s
     → numberIn o ≡ some r → goodNumber s r ≡ false → P (rejected d s (controlOf f) 8))

@@ -11,7 +11,7 @@ use Rattle.octets.specs.Octets.{_atStartOf_}
 use Rattle.octets.proofs.Stores.{sets-start}
 use Rattle.record.specs.declared.Pending.{Pending}
 use Rattle.record.specs.declared.Pending.the-variants.{Indication}
-use Rattle.record.specs.declared.Station.{Station}
+use Rattle.record.specs.declared.Desk.{Desk}
 use Rattle.record.specs.declared.Device.{Device}
 use Rattle.record.specs.declared.Payload.{Payload}
 use Rattle.record.specs.Allowed.{identityOf}
@@ -29,7 +29,7 @@ use Rattle.speech.specs.Speech.{octetsOf, pendingOctets, isSilent, contr
 holds-said : (r : Payload) (b : List ℕ) → r ≡ payloadOf b → octetsOf r ≡ b
 holds-said r b e = ap octetsOf e ∙ payload-says b
 
-pub indication-said : (t : Station) (p : Pending) (r : Payload) → p ≡ Indication
+pub indication-said : (t : Desk) (p : Pending) (r : Payload) → p ≡ Indication
     → r ≡ payloadOf (indicationOf (t .said) (t .told)) → octetsOf r ≡ pendingOctets t p
 unfolding pendingOctets
 indication-said t p r e h = holds-said r (indicationOf (t .said) (t .told)) h ∙ sym (ap (pendingOctets t) e)

@@ -14,7 +14,7 @@ use Rattle.record.specs.declared.Pending.{Pending}
 use Rattle.record.specs.declared.Pending.the-variants.{Nothing, Answer, Indication}
 use Rattle.record.specs.declared.Link.{Link}
 use Rattle.record.specs.declared.Link.the-variants.{NoAddress, AddressAssigned, Connected}
-use Rattle.record.specs.declared.Station.{Station}
+use Rattle.record.specs.declared.Desk.{Desk}
 use Rattle.record.specs.declared.Device.{Device}
 use Rattle.record.specs.declared.Payload.{Payload}
 use Rattle.record.specs.Allowed.{identityOf}
@@ -61,7 +61,7 @@ unfoldable pub payloadBy : Device → Say → List ℕ
 payloadBy d Silence = []
 payloadBy d (Bare c) = []
 payloadBy d (Reject c v w) = c ∷ v ∷ w ∷ []
-payloadBy d (Pend c) = linkOctets (d .station) (d .station .link)
+payloadBy d (Pend c) = linkOctets (d .station .desk) (d .station .link)
 payloadBy d Scanned = scanAnswer (identityOf (d .plate)) (d .station .desk .address)
 payloadBy d Assigned = assignmentAnswer (identityOf (d .plate))
 

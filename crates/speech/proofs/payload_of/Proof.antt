@@ -62,12 +62,12 @@ returns-4 c = search (tests, sym (c .link-payload .ensures), c .before .enum-tol
 
 returns-5 : tie.Need-returns-5
 returns-5 c =
-    let a = c .before .before .before .before .before .args in
+    let a = c .before .before .before .before .before .before .args in
     scan-said (a .device) (a .say) _ (c .before .enum-told4 .given .1) (c .scan-answer .ensures)
 
 returns-6 : tie.Need-returns-6
 returns-6 c =
-    let a = c .before .before .before .before .before .args in
+    let a = c .before .before .before .before .before .before .args in
     assignment-said (a .device) (a .say) _ (c .before .enum-told5 .given .1) (c .assignment-answer .ensures)
 
 pub payload-of-spec : {M : Type 1} → statement M

@@ -33,7 +33,7 @@ returns-2 c = search (tests, c .before .enum-told2 .given .1)
 returns-3 : tie.Need-returns-3
 returns-3 c =
     let a = c .before .before .before .before .before .args in
-    indication-said (a .station) (a .pending) _ (c .before .enum-told3 .given .1) (c .indication .ensures)
+    indication-said (a .desk) (a .pending) _ (c .before .enum-told3 .given .1) (c .indication .ensures)
 
 pub pending-payload-spec : {M : Type 1} → statement M
 pending-payload-spec =

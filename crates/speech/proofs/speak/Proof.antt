@@ -10,7 +10,7 @@ is-silent-requires c κs = search needs
 
 returns : tie.Need-returns
 returns c =
-    let a = c .before .before .before .args in
+    let a = c .before .before .before .before .args in
     silent-spoken (a .device) (a .say) (sym (c .before .is-silent .ensures) ∙ c .if1 .taken)
 
 payload-of-requires : tie.Need-payload-of-requires
@@ -26,7 +26,7 @@ returns-2 : tie.Need-returns-2
 returns-2 c =
     let paid = c .before .before .before in
     let test = paid .before in
-    let a = test .before .before .before .args in
+    let a = test .before .before .before .before .args in
     laid-spoken (a .device) (a .say) (sym (test .before .is-silent .ensures) ∙ test .if1 .left) (paid .payload-of .result)
     (c .before .control-of .ensures) (paid .payload-of .ensures) (c .laid .ensures)
 
