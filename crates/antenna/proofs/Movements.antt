@@ -70,6 +70,13 @@ unowed-owes Moving = refl
 unowed-owes (Owing asked) = refl
 unowed-owes (Stopped reached) = refl
 
+pub unowed-twice : (m : Motion) → unowedOf (unowedOf m) ≡ unowedOf m
+unfolding unowedOf
+unowed-twice Still = refl
+unowed-twice Moving = refl
+unowed-twice (Owing asked) = refl
+unowed-twice (Stopped reached) = refl
+
 pub unowed-runs : (m : Motion) → runs (unowedOf m) ≡ runs m
 unfolding runs unowedOf
 unowed-runs Still = refl

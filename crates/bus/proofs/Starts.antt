@@ -41,12 +41,6 @@ use Rattle.bus.proofs.Places.{map-same}
 
 -- ---- one device
 
-has-addressed : (t : Station) (l : Link) → linkAllowed t l ≡ true → hasAddress l ≡ true → addressed (t .address) ≡ true
-unfolding linkAllowed
-has-addressed t NoAddress e h = absurd (true-not-false (sym h))
-has-addressed t AddressAssigned e h = e
-has-addressed t (Connected s) e h = and-parts (addressed (t .address)) (sessionAllowed t s) e .0
-
 -- allowed, with an address
 pub record Ready (d : Device) : Type 0 where
   pub allowed : allowedDevice d ≡ true
@@ -60,7 +54,7 @@ module _ (d : Device) (w : Ready d) where
       let a = d .station .desk .address in
       let parts =
       and-parts (ltb 0 a) (ltb a 255)
-      (has-addressed (d .station) (d .station .link) (sound d (w .allowed) .station) (w .has)) in
+      (link-addressed (d .station .desk) (d .station .link) (sound d (w .allowed) .station) (w .has)) in
       (ltb-true 0 a (parts .0), omega (arith, ltb-true a 255 (parts .1)))
 
   pub snrm-heard : hears d (snrmFor d)

@@ -18,14 +18,14 @@ use Rattle.station.specs.Station.{answersWith}
 use Rattle.acknowledge.specs.Acknowledge.{sessionAfter, acknowledged}
 use Rattle.poll.specs.Poll as poll
 use Rattle.inform.specs.Inform.{heeded}
-use Rattle.states.specs.States.{newSession, begun, released}
+use Rattle.states.specs.States.{newSession, begun, renewed, released}
 use Rattle.link.specs.Frames.{Own}
 use Rattle.conduct.specs.Conduct.{after}
 use Rattle.conduct.specs.Endings.{Assigns, Ends, Drops}
 use Rattle.conduct.specs.Alarms.{Subscribes}
 use Rattle.conduct.specs.Comes.{Comes, left}
 use Rattle.conduct.specs.Account.{Continues, Account}
-use Rattle.conduct.proofs.Settles.{address-kept, subscribed-kept, settled-link, assigned-apart}
+use Rattle.conduct.proofs.Settles.{address-kept, subscribed-kept, relieved-link, assigned-apart}
 use Rattle.conduct.proofs.Numbers.{r-moves-exactly, r-stays-exactly, s-moves-exactly, s-stays-exactly}
 use Rattle.conduct.proofs.Told.{raised-cases, told-cases, clears-both, indicated-tells}
 use Rattle.conduct.proofs.Comes.{comes-leaves}
@@ -88,6 +88,10 @@ module _ (d : Device) (f : List ℕ) where
   unfolding begun endedAs unsaidAt
   begun-link c e = ap (λ (x : Device). x .station .link) (comes-leaves d f c ∙ e)
 
+  renewed-link : (c : Comes d f) → left d f c ≡ renewed d → after d f .station .link ≡ Connected newSession
+  unfolding renewed begun endedAs unsaidAt
+  renewed-link c e = ap (λ (x : Device). x .station .link) (comes-leaves d f c ∙ e)
+
   released-link : (c : Comes d f) → left d f c ≡ released d → after d f .station .link ≡ AddressAssigned
   unfolding released endedAs unsaidAt
   released-link c e = ap (λ (x : Device). x .station .link) (comes-leaves d f c ∙ e)
@@ -109,7 +113,7 @@ module _ (d : Device) (f : List ℕ) where
   link-cases =
       after-cases d f (λ (e : Device). Drops d f ⊎ ((e .station .link ≡ d .station .link) ⊎ Goes e))
       (inr (inl refl)) (λ a w. inl (inr (inr (a, w)))) (λ w l. inl w)
-      (λ o r s e w. inr (inr (s, sessionAfter s r, w .link, settled-link d s r (w .link))))
+      (λ o r s e w. inr (inr (s, sessionAfter s r, w .link, relieved-link d s r (w .link))))
       (λ s n r w. inr (inr (s, _, w .numbered .link, refl)))
       (λ w. inr (inr (w .session, _, w .frame .numbered .link, refl)))
       (λ w. inr (inr (w .session, _, w .frame .numbered .link, refl)))
@@ -165,7 +169,7 @@ module _ (d : Device) (f : List ℕ) where
         address-kept = λ none. ⊎-elim (λ w. absurd (none (w .0) (w .1))) (λ same. same) address-cases;
         link-assigned = λ a w. assigned a w .1;
         link-begun = λ w. begun-link (Comes.begins (w .own) (w .link)) refl;
-        link-renewed = λ s l w. begun-link (Comes.renews s w l) refl;
+        link-renewed = λ s l w. renewed-link (Comes.renews s w l) refl;
         link-ended = ended-link;
         link-counted = session-kept;
         link-kept = link-kept;

@@ -29,7 +29,7 @@ use Rattle.link.specs.Link.{isOwn, judgedFrame}
 use Rattle.link.specs.Frames.{Own}
 use Rattle.conduct.specs.Conduct.{after, starts, Accepted, occurAll}
 use Rattle.conduct.proofs.Settles.{next-apart, same-session, device-kept, r-kept, info-is}
-use Rattle.conduct.proofs.Sessions.{Counted, settled-number, info-counted, inform-address}
+use Rattle.conduct.proofs.Sessions.{Counted, relieved-number, info-counted, inform-address}
 use Rattle.conduct.proofs.Runs.{events-antenna}
 use Rattle.conduct.proofs.Due.{starts-exactly}
 
@@ -77,7 +77,7 @@ module _ (d : Device) (f : List ℕ) (s : Session) (n r : ℕ) (w : Accepted d f
         let counted = accepted-counted in
         let one = same-session (sym (counted .link) ∙ there) in
         let number : t .s ≡ r = ap (λ (x : Session). x .s) (sym one) ∙ counted .number
-        ∙ settled-number s r (w .numbered .good) in
+        ∙ relieved-number s r (w .numbered .good) in
         let sent : n ≡ s .r = accepts-exactly (sessionAfter s r) n .0 (w .accepted) .1 ∙ r-kept s r in
         let due : t .r ≡ nextOf n = ap (λ (x : Session). x .r) (sym one) ∙ counted .due ∙ ap nextOf (sym sent) in
         let none = again-acknowledges t n r number due in
@@ -85,7 +85,7 @@ module _ (d : Device) (f : List ℕ) (s : Session) (n r : ℕ) (w : Accepted d f
         ∙ inform-address d s r (w .numbered .link) n (drop 2 f) in
         info-is e f t n r
         (record {
-          own = own-at d e f n r (ap (λ x. x .address) same ∙ address) (w .numbered .own);
+          own = own-at d e f n r (ap (λ x. x .desk .address) same ∙ address) (w .numbered .own);
           link = ap (λ x. x .link) same ∙ there;
           good = again-good t n r number due;
         })

@@ -32,41 +32,40 @@ use Rattle.xid.proofs.Exactly.{scan-read, scan-exactly, assignment-read, assign
 use Rattle.station.specs.declared.Say.{Say}
 use Rattle.station.specs.declared.Turn.{Turn}
 use Rattle.station.specs.Turns.{saying, mute}
-use Rattle.states.specs.States.{newSession, begun, ua, connectedBy, isSnrm, assignedBy, linkedBy}
+use Rattle.states.specs.States.{newSession, begun, renewed, onSnrm, ua, connectedBy, isSnrm, assignedBy, linkedBy}
 use Rattle.link.specs.Link.{quiet, isOwn}
 use Rattle.link.specs.Link.{xidBy, frameMost}
 use Rattle.link.specs.Link.{judgedFrame}
 use Rattle.link.specs.Frames.{controlOf, hasAddress, Own, Everyone}
 use Rattle.link.proofs.Cases.{own-is, everyone-is}
 use Rattle.conduct.specs.Conduct.{after}
+use Rattle.conduct.proofs.Addressed.{link-addressed, addressed-bounds}
 
 -- ---- SNRM
 
-link-addressed : (t : Station) (l : Link) → linkAllowed t l ≡ true → hasAddress l ≡ true
-    → addressed (t .address) ≡ true
-unfolding linkAllowed
-link-addressed t NoAddress e h = absurd (true-not-false (sym h))
-link-addressed t AddressAssigned e h = e
-link-addressed t (Connected s) e h = and-parts (addressed (t .address)) (sessionAllowed t s) e .0
-
--- an address that is assigned is neither 0 nor 0xFF
-addressed-bounds : (a : ℕ) → addressed a ≡ true → (1 ≤ a) × (a ≤ 254)
-unfolding addressed
-addressed-bounds a e =
-    let parts = and-parts (ltb 0 a) (ltb a 255) e in
-    (ltb-true 0 a (parts .0), omega (arith, ltb-true a 255 (parts .1)))
-
 snrm-linked : (d : Device) (l : Link) (c : ℕ) (p : List ℕ) → hasAddress l ≡ true
-    → linkedBy d l Snrm c p ≡ saying (begun d) ua
-unfolding linkedBy isSnrm assignedBy connectedBy
+    → linkedBy d l Snrm c p ≡ saying (onSnrm d l) ua
+unfolding linkedBy isSnrm assignedBy connectedBy onSnrm
 snrm-linked d NoAddress c p h = absurd (true-not-false (sym h))
 snrm-linked d AddressAssigned c p h = refl
 snrm-linked d (Connected s) c p h = refl
 
+-- a new session, in either state
+snrm-session : (d : Device) (l : Link) → hasAddress l ≡ true → onSnrm d l .station .link ≡ Connected newSession
+unfolding onSnrm renewed begun endedAs unsaidAt
+snrm-session d NoAddress h = absurd (true-not-false (sym h))
+snrm-session d AddressAssigned h = refl
+snrm-session d (Connected s) h = refl
+
 -- every SNRM that is read, where an address is assigned
 pub snrm-begins : (d : Device) (f : List ℕ) → Own d f Snrm → hasAddress (d .station .link) ≡ true
-    → judgedFrame d f ≡ saying (begun d) ua
+    → judgedFrame d f ≡ saying (onSnrm d (d .station .link)) ua
 snrm-begins d f w h = own-is d f Snrm w ∙ snrm-linked d (d .station .link) (controlOf f) (drop 2 f) h
+
+-- and the state says which session it is
+pub snrm-in : (d : Device) (f : List ℕ) {l : Link} → d .station .link ≡ l
+    → saying (onSnrm d (d .station .link)) ua ≡ saying (onSnrm d l) ua
+snrm-in d f e = ap (λ (x : Link). saying (onSnrm d x) ua) e
 
 module _ (d : Device) (allowed : allowedDevice d ≡ true) (assigned : hasAddress (d .station .link) ≡ true) where
   snrm-own : Own d (d .station .desk .address ∷ 0x93 ∷ []) Snrm
@@ -75,7 +74,7 @@ module _ (d : Device) (allowed : allowedDevice d ≡ true) (assigned : hasAddres
       let a = d .station .desk .address in
       let bounds =
       addressed-bounds a
-      (link-addressed (d .station) (d .station .link) (sound d allowed .station) assigned) in
+      (link-addressed (d .station .desk) (d .station .link) (sound d allowed .station) assigned) in
       let zero : eqb a 0 ≡ false = ne-eqb a 0 (λ e. omega (arith, bounds .0, e)) in
       let self : eqb a a ≡ true = eq-eqb a a refl in
       record {
@@ -88,12 +87,13 @@ module _ (d : Device) (allowed : allowedDevice d ≡ true) (assigned : hasAddres
         read = refl;
       }
 
-  pub snrm-answered : judgedFrame d (d .station .desk .address ∷ 0x93 ∷ []) ≡ saying (begun d) ua
+  pub snrm-answered : judgedFrame d (d .station .desk .address ∷ 0x93 ∷ []) ≡ saying (onSnrm d (d .station .link)) ua
   snrm-answered = snrm-begins d (d .station .desk .address ∷ 0x93 ∷ []) snrm-own assigned
 
   pub snrm-connects : after d (d .station .desk .address ∷ 0x93 ∷ []) .station .link ≡ Connected newSession
-  unfolding saying begun endedAs unsaidAt
-  snrm-connects = ap (λ (t : Turn). t .device .station .link) snrm-answered
+  unfolding saying
+  snrm-connects =
+      ap (λ (t : Turn). t .device .station .link) snrm-answered ∙ snrm-session d (d .station .link) assigned
 
 -- ---- XID
 

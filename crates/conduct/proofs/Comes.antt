@@ -26,7 +26,7 @@ use Rattle.station.specs.Turns.{saying, pend, ready}
 use Rattle.acknowledge.specs.Acknowledge.{sessionAfter, stationAfter, acknowledged}
 use Rattle.poll.specs.Poll.{idlePoll, waitingPoll, pollOf}
 use Rattle.inform.specs.Inform.{carriedHere, repliedBy, carriedBy, informOf}
-use Rattle.states.specs.States.{rejected, informedBy, polledBy, pausedBy}
+use Rattle.states.specs.States.{rejected, informedBy, polledBy, pausedBy, onSnrm}
 use Rattle.link.specs.Link.{judgedFrame}
 use Rattle.link.specs.Frames.{hasAddress, Numbered, Unread}
 use Rattle.link.proofs.Cases.{judged-cases, unread-silent}
@@ -39,7 +39,7 @@ use Rattle.conduct.specs.Comes.{delivers, indicates, rests, pauses, left
 use Rattle.conduct.proofs.Settles.{carried-kept, info-is, rr-is, rnr-is, accepted-is}
 use Rattle.conduct.proofs.Turns.{poll-cases}
 use Rattle.conduct.proofs.Refusing.{bad-rejected, unknown-rejected, disc-releases, other-declined}
-use Rattle.conduct.proofs.Answers.{snrm-begins, scan-answers, assignment-ends}
+use Rattle.conduct.proofs.Answers.{snrm-begins, snrm-in, scan-answers, assignment-ends}
 
 -- what is no silence
 abbrev spoken : Say → Bool
@@ -66,7 +66,7 @@ module _ (d : Device) (f : List ℕ) where
 
   accepted-comes : (s : Session) (n r : ℕ) → Accepted d f s n r → Comes d f
   accepted-comes s n r w =
-      carried-cases (d .plate) (d .antenna) (stationAfter (d .station) s r .told) (d .station .desk .subscribed) (drop 2 f)
+      carried-cases (d .plate) (d .antenna) (stationAfter (d .station) s r .desk .told) (d .station .desk .subscribed) (drop 2 f)
       (λ x. carriedHere (acknowledged d s r) (drop 2 f) ≡ x → Comes d f)
       (λ few e. murmurs s n r w few) (λ b h e. answers s n r b w e) (λ m e. clears s n r w m)
       (λ m e. subscribes s n r w m) (λ due e. starts s n r w due) (carried-kept d s r (drop 2 f))
@@ -102,14 +102,14 @@ module _ (d : Device) (f : List ℕ) where
       accepted-is d f s n r w ∙ ap (carriedBy (acknowledged d s r) (taken (sessionAfter s r))) e
 
   pub comes-so : (c : Comes d f) → judgedFrame d f ≡ saying (left d f c) (says d f c)
-  unfolding left says rejected acknowledged deviceOf carriedBy repliedBy replies unanswered started informedBy informOf
+  unfolding left says onSnrm rejected acknowledged deviceOf carriedBy repliedBy replies unanswered started informedBy informOf
       polledBy pollOf waitingPoll idlePoll resent pausedBy
   comes-so (unread w) = unread-silent d f w
   comes-so (scans w a) = scan-answers d f w a
   comes-so (assigns a w) = assignment-ends d f a (w .everyone) (w .takes)
-  comes-so (begins w l) = snrm-begins d f w (ap hasAddress l)
+  comes-so (begins w l) = snrm-begins d f w (ap hasAddress l) ∙ snrm-in d f l
   comes-so (declines o w n l) = other-declined d f o w n l
-  comes-so (renews s w l) = snrm-begins d f w (ap hasAddress l)
+  comes-so (renews s w l) = snrm-begins d f w (ap hasAddress l) ∙ snrm-in d f l
   comes-so (leaves s w l) = disc-releases d f s w l
   comes-so (miscounts s o r w l n b) = bad-rejected d f s o r w l n b
   comes-so (unknown s w l) = unknown-rejected d f s w l

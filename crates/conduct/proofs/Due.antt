@@ -22,6 +22,7 @@ use Rattle.station.specs.Turns.{ready}
 use Rattle.acknowledge.specs.Acknowledge.{sessionAfter, acknowledged}
 use Rattle.inform.specs.Inform.{heeded}
 use Rattle.states.specs.States.{begun, released}
+use Rattle.states.proofs.Renews.{renewed-ends}
 use Rattle.conduct.specs.Conduct.{starts, TiltDue, movedOn, TiltStarted}
 use Rattle.conduct.specs.Comes.{Comes, unread, scans, assigns, begins, declines, renews, leaves, miscounts}
 use Rattle.conduct.specs.Comes.{unknown, clears, subscribes, answers, murmurs, repeats, resends, delivers}
@@ -57,7 +58,7 @@ module _ (d : Device) (f : List ℕ) where
   due-by (assigns a w) = same _ (unowed-runs (d .antenna .motion))
   due-by (begins w l) = same _ (unowed-runs (d .antenna .motion))
   due-by (declines o w n l) = same _ refl
-  due-by (renews s w l) = same _ (unowed-runs (d .antenna .motion))
+  due-by (renews s w l) = rw (renewed-ends d) (same _ (unowed-runs (d .antenna .motion)))
   due-by (leaves s w l) = same _ (unowed-runs (d .antenna .motion))
   due-by (miscounts s o r w l n b) = same _ (unowed-runs (d .antenna .motion))
   due-by (unknown s w l) = same _ (unowed-runs (d .antenna .motion))
@@ -86,8 +87,8 @@ module _ (d : Device) (f : List ℕ) (w : TiltDue d f) where
   due-session : taken (sessionAfter (w .session) (w .nr)) ≡ movedOn (w .session) (w .nr)
   unfolding taken
   due-session =
-      let settled = sessionAfter (w .session) (w .nr) in
-      let none = nothing-pends (settled .pending) (accepts-exactly settled (w .ns) .0 (w .frame .accepted) .0) in
+      let relieved = sessionAfter (w .session) (w .nr) in
+      let none = nothing-pends (relieved .pending) (accepts-exactly relieved (w .ns) .0 (w .frame .accepted) .0) in
       rw (none, r-kept (w .session) (w .nr))
 
   pub due-moves-on : TiltStarted d f (w .session) (w .nr)

@@ -1,7 +1,7 @@
 -- A session's end, by SNRM, DISC, FRMR or an assignment, drops the pending answer and a tilt result that is owed;
 -- alarms, what was told, subscription, range, tilt and a running movement stay, so no change is lost. A first SNRM and
 -- an assignment without a session do the same. Assumes nothing.
-use mathlib.Core.Path.{_≡_, refl}
+use mathlib.Core.Path.{_≡_, refl, _∙_}
 use mathlib.Core.List.{List}
 use mathlib.Core.Logic.{inl, inr}
 use Prim.Native.Nat.{ℕ}
@@ -15,7 +15,8 @@ use Rattle.record.specs.declared.Device.{Device}
 use Rattle.record.specs.Changes.{unsaidAt, endedAs}
 use Rattle.poll.specs.Poll.{toTell}
 use Rattle.station.specs.Turns.{saying}
-use Rattle.states.specs.States.{newSession, begun, released, rejected}
+use Rattle.states.specs.States.{newSession, begun, renewed, released, rejected}
+use Rattle.states.proofs.Renews.{renewed-ends}
 use Rattle.conduct.specs.Conduct.{after}
 use Rattle.conduct.specs.Endings.{pendingIn, Ends, renews, leaves, miscounts, unknown, assigns, endedBy}
 use Rattle.conduct.specs.Endings.{Drops, Dropped, Survives}
@@ -41,7 +42,7 @@ module _ (d : Device) where
         running = unowed-runs (d .antenna .motion);
       }
 
-  -- SNRM
+  -- a first SNRM
   pub begun-drops : Dropped (begun d)
   unfolding begun
   begun-drops = ended-drops (d .station .desk .address) (Connected newSession) refl
@@ -49,6 +50,14 @@ module _ (d : Device) where
   pub begun-survives : Survives d (begun d)
   unfolding begun
   begun-survives = ended-survives (d .station .desk .address) (Connected newSession)
+
+  -- SNRM in a session
+  pub renewed-drops : Dropped (renewed d)
+  renewed-drops =
+      rw (renewed-ends d) (ended-drops (d .station .desk .address) (Connected newSession) refl)
+
+  pub renewed-survives : Survives d (renewed d)
+  renewed-survives = rw (renewed-ends d) (ended-survives (d .station .desk .address) (Connected newSession))
 
   -- DISC
   pub released-drops : Dropped (released d)
@@ -77,7 +86,7 @@ module _ (d : Device) where
     pub drops-as : Drops d f → (a : ℕ) × (l : Link) × (pendingIn l ≡ Nothing) × (after d f ≡ endedAs d a l)
     unfolding endedBy begun released left
     drops-as (inl (renews s w l)) =
-        (d .station .desk .address, Connected newSession, refl, ends-leaves d f (renews s w l))
+        (d .station .desk .address, Connected newSession, refl, ends-leaves d f (renews s w l) ∙ renewed-ends d)
     drops-as (inl (leaves s w l)) = (d .station .desk .address, AddressAssigned, refl, ends-leaves d f (leaves s w l))
     drops-as (inl (miscounts s o r w l n b)) =
         (d .station .desk .address, AddressAssigned, refl, ends-leaves d f (miscounts s o r w l n b))
@@ -94,7 +103,7 @@ module _ (d : Device) where
     drops-survive e = let (a, l, idle, is) = drops-as e in rw is (ended-survives a l)
 
     -- what there was to tell is still to be told
-    pub drops-tell : Drops d f → toTell (after d f .station) (after d f .antenna) ≡ toTell (d .station) (d .antenna)
+    pub drops-tell : Drops d f → toTell (after d f .station .desk) (after d f .antenna .drive) ≡ toTell (d .station .desk) (d .antenna .drive)
     unfolding toTell
     drops-tell e = let k = drops-survive e in rw (k .subscribed, k .raised, k .told)
 
@@ -108,5 +117,5 @@ module _ (d : Device) where
     pub ends-survive : Ends d f → Survives d (after d f)
     ends-survive e = drops-survive (inl e)
 
-    pub ends-tell : Ends d f → toTell (after d f .station) (after d f .antenna) ≡ toTell (d .station) (d .antenna)
+    pub ends-tell : Ends d f → toTell (after d f .station .desk) (after d f .antenna .drive) ≡ toTell (d .station .desk) (d .antenna .drive)
     ends-tell e = drops-tell (inl e)

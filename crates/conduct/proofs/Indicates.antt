@@ -26,7 +26,7 @@ use Rattle.conduct.proofs.Comes.{comes-so}
 
 module _ (d : Device) (f : List ℕ) (r : ℕ) (s : Session) (w : Numbered d f (Rr r) r s)
     (free : pends (sessionAfter s r .pending) ≡ false) (none : waitingOf (d .antenna .motion) ≡ Nothing)
-    (news : toTell (stationAfter (d .station) s r) (d .antenna) ≡ true) where
+    (news : toTell (stationAfter (d .station) s r .desk) (d .antenna .drive) ≡ true) where
   pub indication-sent : judgedFrame d f
       ≡ saying
       (deviceOf d (indicates (stationAfter (d .station) s r) (sessionAfter s r) (d .antenna .drive .raised)) (d .antenna))
@@ -37,7 +37,7 @@ module _ (d : Device) (f : List ℕ) (r : ℕ) (s : Session) (w : Numbered d f (
   -- it pends, it says what is raised, and told is not yet changed by it
   pub indication-pends : (after d f .station .link ≡ Connected (awaiting (sessionAfter s r) Indication))
       × (after d f .station .desk .said ≡ d .antenna .drive .raised)
-      × (after d f .station .desk .told ≡ stationAfter (d .station) s r .told)
+      × (after d f .station .desk .told ≡ stationAfter (d .station) s r .desk .told)
   unfolding saying deviceOf indicates
   indication-pends = (
     ap (λ (t : Turn). t .device .station .link) indication-sent,

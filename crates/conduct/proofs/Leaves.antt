@@ -28,6 +28,7 @@ use Rattle.station.specs.Station.{answersWith}
 use Rattle.acknowledge.specs.Acknowledge.{sessionAfter, stationAfter, acknowledged}
 use Rattle.poll.specs.Poll as poll
 use Rattle.states.specs.States.{newSession, begun, released}
+use Rattle.states.proofs.Renews.{renewed-ends}
 use Rattle.link.specs.Frames.{numberIn, Numbered}
 use Rattle.conduct.specs.Conduct.{after, Accepted, TiltDue}
 use Rattle.conduct.specs.Endings.{Assigns, Ends, Drops}
@@ -65,14 +66,14 @@ module _ (d : Device) (f : List ℕ) where
   there s r = stationAfter (d .station) s r
 
   abbrev told : Session → ℕ → Alarms
-  told s r = there s r .told
+  told s r = there s r .desk .told
 
   -- the device as it was; a session ended; a good N(R) read, and no more; then what an accepted message or RR adds
   module _ (P : Device → Type 0)
       (same : P d)
       (assigned : (a : ℕ) → Assigns d f a → P (endedAs d a AddressAssigned))
       (ended : Drops d f → (l : Link) → P (endedAs d (d .station .desk .address) l))
-      (settled : (o : Order) (r : ℕ) (s : Session) → numberIn o ≡ some r → Numbered d f o r s → P (acknowledged d s r))
+      (relieved : (o : Order) (r : ℕ) (s : Session) → numberIn o ≡ some r → Numbered d f o r s → P (acknowledged d s r))
       (heeded : (s : Session) (n r : ℕ) → Accepted d f s n r
       → P (unansweredAs d s r (d .antenna) (told s r) (d .station .desk .subscribed)))
       (started : (w : TiltDue d f)
@@ -97,7 +98,7 @@ module _ (d : Device) (f : List ℕ) where
     left-cases (Comes.assigns a w) = assigned a w
     left-cases (Comes.begins w l) = ended (inr (inl (record { own = w; link = l }))) (Connected newSession)
     left-cases (Comes.declines o w n l) = same
-    left-cases (Comes.renews s w l) = ended (inl (Ends.renews s w l)) (Connected newSession)
+    left-cases (Comes.renews s w l) = rw (renewed-ends d) (ended (inl (Ends.renews s w l)) (Connected newSession))
     left-cases (Comes.leaves s w l) = ended (inl (Ends.leaves s w l)) AddressAssigned
     left-cases (Comes.miscounts s o r w l n b) = ended (inl (Ends.miscounts s o r w l n b)) AddressAssigned
     left-cases (Comes.unknown s w l) = ended (inl (Ends.unknown s w l)) AddressAssigned
@@ -110,14 +111,14 @@ module _ (d : Device) (f : List ℕ) where
     left-cases (Comes.answers s n r b w e) =
         answered (record { session = s; ns = n; nr = r; frame = w; answers = ap (λ (c : Carried). c .reply) e }) b
     left-cases (Comes.murmurs s n r w h) = heeded s n r w
-    left-cases (Comes.repeats s n r w a) = settled (Info n r) r s refl w
-    left-cases (Comes.resends s r w p) = settled (Rr r) r s refl w
+    left-cases (Comes.repeats s n r w a) = relieved (Info n r) r s refl w
+    left-cases (Comes.resends s r w p) = relieved (Rr r) r s refl w
     left-cases (Comes.delivers s r b w p q) =
         delivered b (record { collects = record { session = s; nr = r; numbered = w; free = p }; waits = q })
     left-cases (Comes.indicates s r w p q t) =
         indicated (record { collects = record { session = s; nr = r; numbered = w; free = p }; idle = q; news = t })
-    left-cases (Comes.rests s r w p q t) = settled (Rr r) r s refl w
-    left-cases (Comes.pauses s r w) = settled (Rnr r) r s refl w
+    left-cases (Comes.rests s r w p q t) = relieved (Rr r) r s refl w
+    left-cases (Comes.pauses s r w) = relieved (Rnr r) r s refl w
 
     pub after-cases : P (after d f)
     after-cases = rw (comes-leaves d f (comes d f)) (left-cases (comes d f))

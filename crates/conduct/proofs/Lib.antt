@@ -1,5 +1,6 @@
 -- What is proved of a device's conduct.
 pub mod Settles
+pub mod Addressed
 pub mod Turns
 pub mod Within
 pub mod Stays

@@ -27,7 +27,7 @@ use Rattle.message.specs.declared.Reply.{Reply}
 use Rattle.station.specs.declared.Turn.{Turn}
 use Rattle.station.specs.Station.{awaiting, answersWith}
 use Rattle.station.specs.Turns.{saying}
-use Rattle.acknowledge.specs.Acknowledge.{emptied, settled, sessionAfter, stationAfter, acknowledged}
+use Rattle.acknowledge.specs.Acknowledge.{emptied, relieved, sessionAfter, stationAfter, acknowledged}
 use Rattle.acknowledge.proofs.Settled.{station-kept, session-kept, session-moved}
 use Rattle.poll.specs.Poll as poll
 use Rattle.poll.specs.Poll.{toTell}
@@ -50,7 +50,7 @@ module _ (d : Device) (f : List ℕ) where
 
   pub answered-pends : (w : Answered d f) → (pendingIn (after d f .station .link) ≡ Answer)
       × (after d f .station .desk .reply ≡ carriedHere (acknowledged d (w .session) (w .nr)) (drop 2 f) .payload)
-      × (after d f .station .desk .said ≡ stationAfter (d .station) (w .session) (w .nr) .said)
+      × (after d f .station .desk .said ≡ stationAfter (d .station) (w .session) (w .nr) .desk .said)
   unfolding informedBy informOf carriedBy repliedBy saying acknowledged deviceOf answersWith awaiting heeded
   answered-pends w =
       let s = w .session in
@@ -65,7 +65,7 @@ module _ (d : Device) (f : List ℕ) where
 
   pub delivered-pends : (reached : Bool) (w : Delivers d f reached) → (pendingIn (after d f .station .link) ≡ Answer)
       × (after d f .station .desk .reply ≡ payloadOf (resultOf reached))
-      × (after d f .station .desk .said ≡ stationAfter (d .station) (w .collects .session) (w .collects .nr) .said)
+      × (after d f .station .desk .said ≡ stationAfter (d .station) (w .collects .session) (w .collects .nr) .desk .said)
   unfolding left deviceOf answersWith awaiting
   delivered-pends reached w =
       let c = w .collects in
@@ -78,7 +78,7 @@ module _ (d : Device) (f : List ℕ) where
 
   pub tells-pends : (w : Tells d f) → (pendingIn (after d f .station .link) ≡ Indication)
       × (after d f .station .desk .said ≡ d .antenna .drive .raised)
-      × (after d f .station .desk .reply ≡ stationAfter (d .station) (w .collects .session) (w .collects .nr) .reply)
+      × (after d f .station .desk .reply ≡ stationAfter (d .station) (w .collects .session) (w .collects .nr) .desk .reply)
   unfolding left deviceOf poll.indicates awaiting
   tells-pends w =
       let c = w .collects in
@@ -100,12 +100,12 @@ module _ (d : Device) (f : List ℕ) where
     module _ (s : Session) (r : ℕ) (removes : acknowledges s r ≡ true) where
       -- nothing is left of it, whatever else the message changes
       heard-empty : (n : Antenna) (told : Alarms) (sub : Bool) → Empty (unansweredAs d s r n told sub)
-      unfolding deviceOf heeded taken sessionAfter stationAfter emptied settled unsaidAt
+      unfolding deviceOf heeded taken sessionAfter stationAfter emptied relieved unsaidAt
       heard-empty n told sub = rw removes (refl, refl, refl)
 
-      settled-empty : Empty (acknowledged d s r)
-      unfolding acknowledged deviceOf stationAfter emptied settled unsaidAt
-      settled-empty = rw removes (refl, refl, refl)
+      relieved-empty : Empty (acknowledged d s r)
+      unfolding acknowledged deviceOf stationAfter emptied relieved unsaidAt
+      relieved-empty = rw removes (refl, refl, refl)
 
       info-empty : (n : ℕ) → Numbered d f (Info n r) r s → Empty (after d f)
       unfolding informedBy saying repliedBy acknowledged deviceOf
@@ -117,7 +117,7 @@ module _ (d : Device) (f : List ℕ) where
           (λ a e. absurd
           (unanswered
           (record { session = s; ns = n; nr = r; frame = record { numbered = w; accepted = a }; answers = e })))
-          (λ a. settled-empty))
+          (λ a. relieved-empty))
 
       rr-empty : Numbered d f (Rr r) r s → Empty (after d f)
       unfolding left pends
@@ -129,18 +129,18 @@ module _ (d : Device) (f : List ℕ) where
           collects : Collects d f
           collects = record { session = s; nr = r; numbered = w; free = free }
 
-          rests : (b : Bool) → toTell (stationAfter (d .station) s r) (d .antenna) ≡ b
+          rests : (b : Bool) → toTell (stationAfter (d .station) s r .desk) (d .antenna .drive) ≡ b
               → waitingOf (d .antenna .motion) ≡ Nothing → Empty (after d f)
           rests true t e = absurd (untold (record { collects = collects; idle = e; news = t }))
-          rests false t e = rw (comes-leaves d f (Comes.rests s r w free e t)) settled-empty
+          rests false t e = rw (comes-leaves d f (Comes.rests s r w free e t)) relieved-empty
 
           waits : (q : Waits) → waitingOf (d .antenna .motion) ≡ q → Empty (after d f)
           waits (Result b) e = absurd (undelivered b (record { collects = collects; waits = e }))
-          waits Nothing e = rests (toTell (stationAfter (d .station) s r) (d .antenna)) refl e
+          waits Nothing e = rests (toTell (stationAfter (d .station) s r .desk) (d .antenna .drive)) refl e
 
       rnr-empty : Numbered d f (Rnr r) r s → Empty (after d f)
       unfolding left
-      rnr-empty w = rw (comes-leaves d f (Comes.pauses s r w)) settled-empty
+      rnr-empty w = rw (comes-leaves d f (Comes.pauses s r w)) relieved-empty
 
     pub removed-empty : Acknowledges d f → Empty (after d f)
     removed-empty (s, w) =

@@ -18,6 +18,7 @@ use Rattle.record.specs.declared.Pending.{Pending}
 use Rattle.record.specs.declared.Pending.the-variants.{Nothing, Answer, Indication}
 use Rattle.record.specs.declared.Session.{Session}
 use Rattle.record.specs.declared.Link.the-variants.{Connected}
+use Rattle.record.specs.declared.Desk.{Desk}
 use Rattle.record.specs.declared.Station.{Station}
 use Rattle.record.specs.declared.Device.{Device}
 use Rattle.record.specs.Allowed.{identityOf}
@@ -33,11 +34,11 @@ use Rattle.xid_answer.proofs.Lengths.{scan-field, assignment-field}
 use Rattle.station.specs.declared.Turn.{Turn}
 use Rattle.station.specs.Station.{resent, awaiting, answersWith}
 use Rattle.station.specs.Turns.{saying, pend, ready}
-use Rattle.acknowledge.specs.Acknowledge.{emptied, settled, sessionAfter, stationAfter, acknowledged}
+use Rattle.acknowledge.specs.Acknowledge.{emptied, relieved, sessionAfter, stationAfter, acknowledged}
 use Rattle.acknowledge.proofs.Settled.{station-kept, session-kept}
 use Rattle.poll.specs.Poll as poll
 use Rattle.inform.specs.Inform.{heeded}
-use Rattle.states.specs.States.{begun, released}
+use Rattle.states.specs.States.{begun, renewed, released}
 use Rattle.speech.specs.Speech.{pendingOctets, linkOctets, isSilent, controlBy, payloadBy, frameBy}
 use Rattle.link.specs.Link.{judgedFrame}
 use Rattle.link.specs.Frames.{controlOf}
@@ -110,11 +111,11 @@ module _ (s : Session) (r : ℕ) where
   unfolding sessionAfter emptied
   good-s g = ⊎-elim (λ w. rw (w .0, w .1)) (λ w. rw (w .0, w .1)) (good-cases g)
 
-address-kept : (t : Station) (s : Session) (r : ℕ) → stationAfter t s r .address ≡ t .address
-unfolding stationAfter settled unsaidAt
+address-kept : (t : Station) (s : Session) (r : ℕ) → stationAfter t s r .desk .address ≡ t .desk .address
+unfolding stationAfter relieved unsaidAt
 address-kept t s r = go (acknowledges s r)
   where
-    go : (b : Bool) → (cond b (settled t s) t) .address ≡ t .address
+    go : (b : Bool) → (cond b (relieved t s) t) .desk .address ≡ t .desk .address
     go true = refl
     go false = refl
 
@@ -189,7 +190,7 @@ result-is true = result-reached
 result-is false = result-missed
 
 -- what is pending, as it is said
-pending-is : (t : Station) (p : Pending) → pendingOctets t p ≡ pendingSaid t p
+pending-is : (t : Desk) (p : Pending) → pendingOctets t p ≡ pendingSaid t p
 unfolding pendingOctets pendingSaid indicationOf messageOf indication
 pending-is t Nothing = refl
 pending-is t Answer = refl
@@ -235,7 +236,7 @@ module _ (d : Device) (s : Session) (r : ℕ) (good : goodNumber s r ≡ true) w
         → frameBy (deviceOf d (poll.indicates (stationAfter (d .station) s r) (sessionAfter s r) a) n)
         (pend (sessionAfter s r))
         ≡ info (d .station .desk .address) r (s .r)
-        (indication (changesOf (a .flags) (stationAfter (d .station) s r .told .flags)))
+        (indication (changesOf (a .flags) (stationAfter (d .station) s r .desk .told .flags)))
     unfolding frameBy isSilent controlBy payloadBy deviceOf poll.indicates awaiting linkOctets pendingOctets info
         indicationOf messageOf indication
     indicates-says a = same-frame (address-kept (d .station) s r) now refl
@@ -243,18 +244,18 @@ module _ (d : Device) (s : Session) (r : ℕ) (good : goodNumber s r ≡ true) w
   -- what was pending
   module _ (link : d .station .link ≡ Connected s) where
     pends-says : r ≡ s .s → frameBy (deviceOf d (d .station) (d .antenna)) (pend s)
-        ≡ info (d .station .desk .address) r (s .r) (pendingSaid (d .station) (s .pending))
+        ≡ info (d .station .desk .address) r (s .r) (pendingSaid (d .station .desk) (s .pending))
     unfolding frameBy isSilent controlBy payloadBy deviceOf linkOctets info
     pends-says e =
         same-frame refl (ap (λ (k : ℕ). infoOf k (s .r)) (sym e) ∙ info-control r (s .r))
-        (ap (linkOctets (d .station)) link ∙ pending-is (d .station) (s .pending))
+        (ap (linkOctets (d .station .desk)) link ∙ pending-is (d .station .desk) (s .pending))
 
     ready-says : frameBy (deviceOf d (d .station) (d .antenna)) (ready s) ≡ rr (d .station .desk .address) (s .r)
     unfolding frameBy isSilent controlBy payloadBy deviceOf rr
     ready-says = same-frame refl (rr-control (s .r)) refl
 
     again-says : r ≡ s .s → (p : Pending) → s .pending ≡ p
-        → frameBy (deviceOf d (d .station) (d .antenna)) (resent s) ≡ again (d .station) s r p
+        → frameBy (deviceOf d (d .station) (d .antenna)) (resent s) ≡ again (d .station .desk) s r p
     unfolding resent pends again
     again-says e Nothing h =
         ap (λ (p : Pending). frameBy (deviceOf d (d .station) (d .antenna)) (cond (pends p) (pend s) (ready s))) h
@@ -262,47 +263,47 @@ module _ (d : Device) (s : Session) (r : ℕ) (good : goodNumber s r ≡ true) w
     again-says e Answer h =
         ap (λ (p : Pending). frameBy (deviceOf d (d .station) (d .antenna)) (cond (pends p) (pend s) (ready s))) h
         ∙ pends-says e
-        ∙ ap (λ (p : Pending). info (d .station .desk .address) r (s .r) (pendingSaid (d .station) p)) h
+        ∙ ap (λ (p : Pending). info (d .station .desk .address) r (s .r) (pendingSaid (d .station .desk) p)) h
     again-says e Indication h =
         ap (λ (p : Pending). frameBy (deviceOf d (d .station) (d .antenna)) (cond (pends p) (pend s) (ready s))) h
         ∙ pends-says e
-        ∙ ap (λ (p : Pending). info (d .station .desk .address) r (s .r) (pendingSaid (d .station) p)) h
+        ∙ ap (λ (p : Pending). info (d .station .desk .address) r (s .r) (pendingSaid (d .station .desk) p)) h
 
 module _ (d : Device) (f : List ℕ) where
   repeats-says : (s : Session) (r : ℕ) → d .station .link ≡ Connected s → goodNumber s r ≡ true
-      → frameBy (acknowledged d s r) (resent (sessionAfter s r)) ≡ again (d .station) s r (kept s r)
+      → frameBy (acknowledged d s r) (resent (sessionAfter s r)) ≡ again (d .station .desk) s r (kept s r)
   unfolding acknowledged again
   repeats-says s r link good = ⊎-elim stays removes (good-cases s r good)
     where
-      stays : Stays s r → frameBy (acknowledged d s r) (resent (sessionAfter s r)) ≡ again (d .station) s r (kept s r)
+      stays : Stays s r → frameBy (acknowledged d s r) (resent (sessionAfter s r)) ≡ again (d .station .desk) s r (kept s r)
       stays (a, e, k) =
           ap₂ (λ (t : Station) (z : Session). frameBy (deviceOf d t (d .antenna)) (resent z))
           (station-kept (d .station) s r a) (session-kept (d .station) s r a)
           ∙ again-says d s r good link e (s .pending) refl
-          ∙ ap (again (d .station) s r) (sym k)
+          ∙ ap (again (d .station .desk) s r) (sym k)
 
       removes : Removes s r
-          → frameBy (acknowledged d s r) (resent (sessionAfter s r)) ≡ again (d .station) s r (kept s r)
+          → frameBy (acknowledged d s r) (resent (sessionAfter s r)) ≡ again (d .station .desk) s r (kept s r)
       removes (a, e, k) =
           ap (frameBy (acknowledged d s r)) (emptied-rests s r a) ∙ rests-says d s r good (d .antenna)
-          ∙ ap (again (d .station) s r) (sym k)
+          ∙ ap (again (d .station .desk) s r) (sym k)
 
   resends-says : (s : Session) (r : ℕ) → d .station .link ≡ Connected s → goodNumber s r ≡ true
       → pends (sessionAfter s r .pending) ≡ true
       → frameBy (acknowledged d s r) (pend (sessionAfter s r))
-      ≡ info (d .station .desk .address) r (s .r) (pendingSaid (d .station) (s .pending))
+      ≡ info (d .station .desk .address) r (s .r) (pendingSaid (d .station .desk) (s .pending))
   unfolding acknowledged sessionAfter emptied pends
   resends-says s r link good p = ⊎-elim stays removes (good-cases s r good)
     where
       stays : Stays s r → frameBy (acknowledged d s r) (pend (sessionAfter s r))
-          ≡ info (d .station .desk .address) r (s .r) (pendingSaid (d .station) (s .pending))
+          ≡ info (d .station .desk .address) r (s .r) (pendingSaid (d .station .desk) (s .pending))
       stays (a, e, k) =
           ap₂ (λ (t : Station) (z : Session). frameBy (deviceOf d t (d .antenna)) (pend z))
           (station-kept (d .station) s r a) (session-kept (d .station) s r a)
           ∙ pends-says d s r good link e
 
       removes : Removes s r → frameBy (acknowledged d s r) (pend (sessionAfter s r))
-          ≡ info (d .station .desk .address) r (s .r) (pendingSaid (d .station) (s .pending))
+          ≡ info (d .station .desk .address) r (s .r) (pendingSaid (d .station .desk) (s .pending))
       removes (a, e, k) = absurd (true-not-false (sym p ∙ rw a))
 
   rejects : (s : Session) (why : ℕ) → some (d .station .desk .address ∷ 0x97 ∷ controlOf f ∷ countsOf s ∷ why ∷ [])
@@ -312,7 +313,7 @@ module _ (d : Device) (f : List ℕ) where
 
   -- what a device says of a frame, of each case, octet by octet
   pub says-octets : (c : Comes d f) → frameBy (left d f c) (says d f c) ≡ octetsSaid d f c
-  unfolding left says octetsSaid frameBy isSilent controlBy payloadBy begun released endedAs unsaidAt frmr acknowledged
+  unfolding left says octetsSaid frameBy isSilent controlBy payloadBy begun renewed released endedAs unsaidAt frmr acknowledged
   says-octets (unread w) = refl
   says-octets (scans w a) = ap some (scan-is (d .station .desk .address) (identityOf (d .plate)))
   says-octets (assigns a w) = ap some (assignment-is a (identityOf (d .plate)))

@@ -26,13 +26,13 @@ use Rattle.inform.specs.Inform.{repliedBy}
 use Rattle.states.specs.States.{informedBy, polledBy, pausedBy}
 use Rattle.link.specs.Link.{judgedFrame}
 use Rattle.link.specs.Frames.{Numbered}
-use Rattle.conduct.proofs.Settles.{settled-link, address-kept, r-kept, info-is, rr-is, rnr-is}
+use Rattle.conduct.proofs.Settles.{relieved-link, address-kept, r-kept, info-is, rr-is, rnr-is}
 use Rattle.conduct.proofs.Turns.{poll-cases, inform-cases}
 
 -- S after a good N(R) is N(R)
-pub settled-number : (s : Session) (r : ℕ) → goodNumber s r ≡ true → sessionAfter s r .s ≡ r
+pub relieved-number : (s : Session) (r : ℕ) → goodNumber s r ≡ true → sessionAfter s r .s ≡ r
 unfolding goodNumber sessionAfter emptied
-settled-number s r g = go (acknowledges s r) refl g
+relieved-number s r g = go (acknowledges s r) refl g
   where
     go : (b : Bool) → acknowledges s r ≡ b → (eqb r (s .s) || b) ≡ true → (cond b (emptied s) s) .s ≡ r
     go true e h = sym (acknowledges-exactly s r .0 e .1)
@@ -50,7 +50,7 @@ module _ (d : Device) (s : Session) (r : ℕ) (l : d .station .link ≡ Connecte
   kept-counted t e =
       record {
         session = sessionAfter s r;
-        link = ap (λ (x : Device). x .station .link) e ∙ settled-link d s r l;
+        link = ap (λ (x : Device). x .station .link) e ∙ relieved-link d s r l;
         due = r-kept s r;
         number = refl;
       }

@@ -18,7 +18,7 @@ use Rattle.record.specs.declared.Link.the-variants.{AddressAssigned, Connected}
 use Rattle.record.specs.declared.Device.{Device}
 use Rattle.record.specs.Changes.{unsaidAt}
 use Rattle.session.specs.Session.{pends, acknowledges, taken}
-use Rattle.acknowledge.specs.Acknowledge.{emptied, settled, retold, sessionAfter, stationAfter}
+use Rattle.acknowledge.specs.Acknowledge.{emptied, relieved, sessionAfter, stationAfter}
 use Rattle.acknowledge.specs.Acknowledge.{acknowledged}
 use Rattle.record.specs.Changes.{deviceOf}
 use Rattle.message.specs.Carried.{carriedOf}
@@ -55,27 +55,27 @@ module _ (d : Device) (s : Session) (r : ℕ) where
   antenna-kept = refl
 
   pub address-kept : acknowledged d s r .station .desk .address ≡ d .station .desk .address
-  unfolding acknowledged deviceOf stationAfter settled unsaidAt
+  unfolding acknowledged deviceOf stationAfter relieved unsaidAt
   address-kept = go (acknowledges s r)
     where
-      go : (b : Bool) → (cond b (settled (d .station) s) (d .station)) .address ≡ d .station .desk .address
+      go : (b : Bool) → (cond b (relieved (d .station) s) (d .station)) .desk .address ≡ d .station .desk .address
       go true = refl
       go false = refl
 
   pub subscribed-kept : acknowledged d s r .station .desk .subscribed ≡ d .station .desk .subscribed
-  unfolding acknowledged deviceOf stationAfter settled unsaidAt retold
+  unfolding acknowledged deviceOf stationAfter relieved unsaidAt
   subscribed-kept = go (acknowledges s r)
     where
-      go : (b : Bool) → (cond b (settled (d .station) s) (d .station)) .subscribed ≡ d .station .desk .subscribed
+      go : (b : Bool) → (cond b (relieved (d .station) s) (d .station)) .desk .subscribed ≡ d .station .desk .subscribed
       go true = refl
       go false = refl
 
   -- the device is in the session after it
-  pub settled-link : d .station .link ≡ Connected s → acknowledged d s r .station .link ≡ Connected (sessionAfter s r)
-  unfolding acknowledged deviceOf stationAfter sessionAfter settled unsaidAt
-  settled-link l = go (acknowledges s r)
+  pub relieved-link : d .station .link ≡ Connected s → acknowledged d s r .station .link ≡ Connected (sessionAfter s r)
+  unfolding acknowledged deviceOf stationAfter sessionAfter relieved unsaidAt
+  relieved-link l = go (acknowledges s r)
     where
-      go : (b : Bool) → (cond b (settled (d .station) s) (d .station)) .link ≡ Connected (cond b (emptied s) s)
+      go : (b : Bool) → (cond b (relieved (d .station) s) (d .station)) .link ≡ Connected (cond b (emptied s) s)
       go true = refl
       go false = l
 
@@ -87,10 +87,10 @@ module _ (d : Device) (s : Session) (r : ℕ) where
 module _ (d : Device) (s : Session) (r : ℕ) (m : List ℕ) where
   -- so a message is carried out as by d, but for what is told
   pub carried-kept : carriedHere (acknowledged d s r) m
-      ≡ carriedOf (d .plate) (d .antenna) (stationAfter (d .station) s r .told) (d .station .desk .subscribed) m
+      ≡ carriedOf (d .plate) (d .antenna) (stationAfter (d .station) s r .desk .told) (d .station .desk .subscribed) m
   unfolding acknowledged deviceOf
   carried-kept =
-      ap (λ b. carriedOf (d .plate) (d .antenna) (stationAfter (d .station) s r .told) b m) (subscribed-kept d s r)
+      ap (λ b. carriedOf (d .plate) (d .antenna) (stationAfter (d .station) s r .desk .told) b m) (subscribed-kept d s r)
 
 pub r-kept : (s : Session) (r : ℕ) → sessionAfter s r .r ≡ s .r
 unfolding sessionAfter emptied

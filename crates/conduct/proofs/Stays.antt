@@ -39,23 +39,17 @@ use Rattle.record.specs.Changes.{deviceOf}
 use Rattle.poll.specs.Poll.{pollOf}
 use Rattle.inform.specs.Inform.{informOf, repliedBy}
 use Rattle.states.specs.States.{informedBy, polledBy, pausedBy}
-use Rattle.states.specs.States.{begun, released, rejected}
+use Rattle.states.specs.States.{begun, renewed, released, rejected}
 use Rattle.link.specs.Frames.{hasAddress}
 use Rattle.link.proofs.Cases.{judged-cases}
 use Rattle.conduct.specs.Conduct.{after}
 use Rattle.conduct.proofs.Settles.{nothing-pends}
 use Rattle.conduct.proofs.Turns.{poll-cases, inform-cases}
-use Rattle.conduct.proofs.Within.{Within, within, allowed-within, taken-numbers, settled-within}
+use Rattle.conduct.proofs.Addressed.{link-addressed}
+use Rattle.conduct.proofs.Within.{Within, within, allowed-within, taken-numbers, relieved-within}
 
 abbrev Good : Turn → Type 0
 Good t = allowedDevice (t .device) ≡ true
-
--- a device that has an address has one of 1 to 254
-has-addressed : (t : Station) (l : Link) → linkAllowed t l ≡ true → hasAddress l ≡ true → addressed (t .address) ≡ true
-unfolding linkAllowed
-has-addressed t NoAddress e h = absurd (false≢true h)
-has-addressed t AddressAssigned e h = e
-has-addressed t (Connected s) e h = and-parts (addressed (t .address)) (sessionAllowed t s) e .0
 
 -- the address that an assignment gives is one of 1 to 254
 assignment-addressed : (i m : List ℕ) (a : ℕ) → readOf i m ≡ xids.Xid.Assignment a → addressed a ≡ true
@@ -74,7 +68,7 @@ module _ (d : Device) (allowed : allowedDevice d ≡ true) where
   module _ (has : hasAddress (d .station .link) ≡ true) where
     own-address : addressed (d .station .desk .address) ≡ true
     unfolding stationAllowed
-    own-address = has-addressed (d .station) (d .station .link) (sound d allowed .station) has
+    own-address = link-addressed (d .station .desk) (d .station .link) (sound d allowed .station) has
 
     begun-stays : allowedDevice (begun d) ≡ true
     unfolding begun linkAllowed unsaidAt sessionAllowed numbersAllowed pendingFits
@@ -83,6 +77,12 @@ module _ (d : Device) (allowed : allowedDevice d ≡ true) where
     released-stays : allowedDevice (released d) ≡ true
     unfolding released
     released-stays = assigned-stays (d .station .desk .address) own-address
+
+-- the end of one session, and the beginning of the next
+renewed-stays : (d : Device) → allowedDevice d ≡ true → hasAddress (d .station .link) ≡ true
+    → allowedDevice (renewed d) ≡ true
+unfolding renewed released endedAs unsaidAt
+renewed-stays d allowed has = begun-stays (released d) (released-stays d allowed has) refl
 
 -- ---- in a session, the acknowledged answer being removed
 
@@ -107,7 +107,7 @@ module _ (d : Device) (s : Session) (w : Within d s) where
         fits = result-fits b;
       })
 
-  indication-stays : toTell (d .station) (d .antenna) ≡ true
+  indication-stays : toTell (d .station .desk) (d .antenna .drive) ≡ true
       → allowedDevice (deviceOf d (indicates (d .station) s (d .antenna .drive .raised)) (d .antenna)) ≡ true
   unfolding deviceOf indicates awaiting pendingFits numbersAllowed toTell
   indication-stays e =
@@ -147,13 +147,13 @@ stays-allowed d f allowed =
     (λ a w e. assigned-stays d allowed a (assignment-addressed (identityOf (d .plate)) (drop 2 f) a e))
     (λ w l. begun-stays d allowed (ap hasAddress l))
     (λ o w n l. allowed)
-    (λ s w l. begun-stays d allowed (ap hasAddress l))
+    (λ s w l. renewed-stays d allowed (ap hasAddress l))
     (λ s w l. released-stays d allowed (ap hasAddress l))
     (λ s o r w l n b. released-stays d allowed (ap hasAddress l))
     (λ s w l. released-stays d allowed (ap hasAddress l))
-    (λ s n r w. inform-stays (acknowledged d s r) (sessionAfter s r) (settled s r (w .link)) n (drop 2 f))
-    (λ s r w. poll-stays (acknowledged d s r) (sessionAfter s r) (settled s r (w .link)))
-    (λ s r w. allowed-within (acknowledged d s r) (sessionAfter s r) (settled s r (w .link)))
+    (λ s n r w. inform-stays (acknowledged d s r) (sessionAfter s r) (relieved s r (w .link)) n (drop 2 f))
+    (λ s r w. poll-stays (acknowledged d s r) (sessionAfter s r) (relieved s r (w .link)))
+    (λ s r w. allowed-within (acknowledged d s r) (sessionAfter s r) (relieved s r (w .link)))
   where
-    settled : (s : Session) (r : ℕ) → d .station .link ≡ Connected s → Within (acknowledged d s r) (sessionAfter s r)
-    settled s r l = settled-within d s r (within d s allowed l)
+    relieved : (s : Session) (r : ℕ) → d .station .link ≡ Connected s → Within (acknowledged d s r) (sessionAfter s r)
+    relieved s r l = relieved-within d s r (within d s allowed l)

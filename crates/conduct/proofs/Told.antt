@@ -18,7 +18,7 @@ use Rattle.record.specs.declared.Device.{Device}
 use Rattle.record.specs.Desk.{calm}
 use Rattle.record.specs.Changes.{unsaidAt, endedAs}
 use Rattle.session.specs.Session.{acknowledges, accepts}
-use Rattle.acknowledge.specs.Acknowledge.{sessionAfter, stationAfter, settled, retold, toldAfter}
+use Rattle.acknowledge.specs.Acknowledge.{sessionAfter, stationAfter, relieved, toldAfter}
 use Rattle.acknowledge.proofs.Settled.{station-kept, told-said}
 use Rattle.station.specs.declared.Turn.{Turn}
 use Rattle.station.specs.Station.{answersWith}
@@ -31,6 +31,7 @@ use Rattle.poll.specs.Poll.{indicates}
 use Rattle.inform.specs.Inform.{heeded, carriedHere, repliedBy}
 use Rattle.states.specs.States.{informedBy, polledBy, pausedBy}
 use Rattle.states.specs.States.{begun, released, rejected}
+use Rattle.states.proofs.Renews.{renewed-ends}
 use Rattle.link.specs.Link.{judgedFrame}
 use Rattle.link.specs.Frames.{numberIn, Numbered}
 use Rattle.link.proofs.Cases.{order-cases, judged-cases}
@@ -46,20 +47,20 @@ use Rattle.conduct.proofs.Comes.{comes-leaves}
 
 module _ (t : Station) (s : Session) (r : ℕ) where
   removed-told : acknowledges s r ≡ true → (p : Pending) → s .pending ≡ p
-      → (stationAfter t s r .told ≡ t .told) ⊎ (s .pending ≡ Indication)
-  unfolding stationAfter settled unsaidAt retold toldAfter
+      → (stationAfter t s r .desk .told ≡ t .desk .told) ⊎ (s .pending ≡ Indication)
+  unfolding stationAfter relieved unsaidAt toldAfter
   removed-told e Nothing q = inl (rw (e, q))
   removed-told e Answer q = inl (rw (e, q))
   removed-told e Indication q = inr q
 
   -- an acknowledged indication, or told stays
-  station-told : (stationAfter t s r .told ≡ t .told) ⊎ ((s .pending ≡ Indication) × (acknowledges s r ≡ true))
+  station-told : (stationAfter t s r .desk .told ≡ t .desk .told) ⊎ ((s .pending ≡ Indication) × (acknowledges s r ≡ true))
   station-told = go (acknowledges s r) refl
     where
       go : (b : Bool) → acknowledges s r ≡ b
-          → (stationAfter t s r .told ≡ t .told) ⊎ ((s .pending ≡ Indication) × (acknowledges s r ≡ true))
+          → (stationAfter t s r .desk .told ≡ t .desk .told) ⊎ ((s .pending ≡ Indication) × (acknowledges s r ≡ true))
       go true e = ⊎-elim inl (λ q. inr (q, e)) (removed-told e (s .pending) refl)
-      go false e = inl (ap (λ (x : Station). x .told) (station-kept t s r e))
+      go false e = inl (ap (λ (x : Station). x .desk .told) (station-kept t s r e))
 
 module _ (d : Device) (f : List ℕ) where
   -- what becomes of raised and told
@@ -83,7 +84,7 @@ module _ (d : Device) (f : List ℕ) where
   abbrev Settled : Session → ℕ → Turn → Type 0
   Settled s r t =
       (t .device .antenna .drive .raised ≡ d .antenna .drive .raised)
-      × (t .device .station .desk .told ≡ stationAfter (d .station) s r .told)
+      × (t .device .station .desk .told ≡ stationAfter (d .station) s r .desk .told)
 
   -- nothing but the acknowledgement changes them
   settles : (o : Order) (r : ℕ) (s : Session) → numberIn o ≡ some r → Numbered d f o r s
@@ -126,7 +127,7 @@ module _ (d : Device) (f : List ℕ) where
         carried : accepts (sessionAfter s r) n ≡ true
             → Clears d f
             ⊎ ((carriedHere (acknowledged d s r) (drop 2 f) .antenna .drive .raised ≡ d .antenna .drive .raised)
-            × (carriedHere (acknowledged d s r) (drop 2 f) .told ≡ stationAfter (d .station) s r .told))
+            × (carriedHere (acknowledged d s r) (drop 2 f) .told ≡ stationAfter (d .station) s r .desk .told))
         carried a =
             ⊎-elim
             (λ m.
@@ -154,7 +155,7 @@ module _ (d : Device) (f : List ℕ) where
   alarms-cases =
       judged-cases d f (λ t. judgedFrame d f ≡ t → Changed) (λ u. stay _ refl refl) (λ w x. stay _ refl refl)
       (λ a w x. stay _ refl refl) (λ w l. stay _ refl refl) (λ o w n l. stay _ refl refl)
-      (λ s w l. stay _ refl refl) (λ s w l. stay _ refl refl) (λ s o r w l n b. stay _ refl refl)
+      (λ s w l. rw (renewed-ends d) (stay _ refl refl)) (λ s w l. stay _ refl refl) (λ s o r w l n b. stay _ refl refl)
       (λ s w l. stay _ refl refl) (λ s n r w e. numbered-changes (Info n r) r s refl w)
       (λ s r w e. numbered-changes (Rr r) r s refl w) (λ s r w e. numbered-changes (Rnr r) r s refl w) refl
 

@@ -28,16 +28,16 @@ module _ (d : Device) (s : Session) (P : Turn → Type 0) where
       (results : (b : Bool) → pends (s .pending) ≡ false → waitingOf (d .antenna .motion) ≡ Waits.Result b → P
       (saying (deviceOf d (answersWith (d .station) s (payloadOf (resultOf b))) (moves (d .antenna) Still)) (pend s)))
       (tells : pends (s .pending) ≡ false → waitingOf (d .antenna .motion) ≡ Waits.Nothing
-      → toTell (d .station) (d .antenna) ≡ true → P
+      → toTell (d .station .desk) (d .antenna .drive) ≡ true → P
       (saying (deviceOf d (indicates (d .station) s (d .antenna .drive .raised)) (d .antenna)) (pend s)))
       (rests : pends (s .pending) ≡ false → waitingOf (d .antenna .motion) ≡ Waits.Nothing
-      → toTell (d .station) (d .antenna) ≡ false → P (saying d (ready s))) where
+      → toTell (d .station .desk) (d .antenna .drive) ≡ false → P (saying d (ready s))) where
     pub poll-cases : P (pollOf d s)
     unfolding pollOf waitingPoll idlePoll
     poll-cases = go (pends (s .pending)) refl
       where
         told : pends (s .pending) ≡ false → waitingOf (d .antenna .motion) ≡ Waits.Nothing → (b : Bool)
-            → toTell (d .station) (d .antenna) ≡ b → P
+            → toTell (d .station .desk) (d .antenna .drive) ≡ b → P
             (cond b (saying (deviceOf d (indicates (d .station) s (d .antenna .drive .raised)) (d .antenna)) (pend s))
             (saying d (ready s)))
         told p w true e = tells p w e
@@ -45,7 +45,7 @@ module _ (d : Device) (s : Session) (P : Turn → Type 0) where
 
         waits : pends (s .pending) ≡ false → (w : Waits) → waitingOf (d .antenna .motion) ≡ w
             → P (waitingPoll d s w)
-        waits p Waits.Nothing e = told p e (toTell (d .station) (d .antenna)) refl
+        waits p Waits.Nothing e = told p e (toTell (d .station .desk) (d .antenna .drive)) refl
         waits p (Waits.Result b) e = results b p e
 
         go : (b : Bool) → pends (s .pending) ≡ b → P

@@ -14,10 +14,10 @@ use Rattle.record.specs.Allowed.{platesAllowed, numbersAllowed, pendingFits, se
 use Rattle.record.specs.Allowed.{stationAllowed, owedAllowed, allowedDevice}
 use Rattle.record.proofs.Stays.{sound, allowed-by}
 use Rattle.session.specs.Session.{acknowledges, taken}
-use Rattle.acknowledge.specs.Acknowledge.{emptied, settled, sessionAfter, stationAfter}
+use Rattle.acknowledge.specs.Acknowledge.{emptied, relieved, sessionAfter, stationAfter}
 use Rattle.acknowledge.specs.Acknowledge.{acknowledged}
 use Rattle.record.specs.Changes.{deviceOf}
-use Rattle.conduct.proofs.Settles.{address-kept, settled-link}
+use Rattle.conduct.proofs.Settles.{address-kept, relieved-link}
 
 pub record Within (d : Device) (s : Session) : Type 0 where
   pub plate : platesAllowed (d .plate) ≡ true
@@ -25,15 +25,15 @@ pub record Within (d : Device) (s : Session) : Type 0 where
   pub address : addressed (d .station .desk .address) ≡ true
   pub link : d .station .link ≡ Connected s
   pub numbers : numbersAllowed s ≡ true
-  pub fits : pendingFits (d .station) (s .pending) ≡ true
+  pub fits : pendingFits (d .station .desk) (s .pending) ≡ true
 
 pub within : (d : Device) (s : Session) → allowedDevice d ≡ true → d .station .link ≡ Connected s → Within d s
 unfolding stationAllowed linkAllowed sessionAllowed
 within d s e l =
     let w = sound d e in
-    let here = and-parts (addressed (d .station .desk .address)) (sessionAllowed (d .station) s)
-    (sym (ap (linkAllowed (d .station)) l) ∙ w .station) in
-    let session = and-parts (numbersAllowed s) (pendingFits (d .station) (s .pending)) (here .1) in
+    let here = and-parts (addressed (d .station .desk .address)) (sessionAllowed (d .station .desk) s)
+    (sym (ap (linkAllowed (d .station .desk)) l) ∙ w .station) in
+    let session = and-parts (numbersAllowed s) (pendingFits (d .station .desk) (s .pending)) (here .1) in
     record {
       plate = w .plate;
       range = w .range;
@@ -50,7 +50,7 @@ allowed-within d s w =
     (record {
       plate = w .plate;
       range = w .range;
-      station = ap (linkAllowed (d .station)) (w .link) ∙ rw (w .address, w .numbers, w .fits);
+      station = ap (linkAllowed (d .station .desk)) (w .link) ∙ rw (w .address, w .numbers, w .fits);
       owed = rw (w .link);
     })
 
@@ -68,14 +68,14 @@ taken-numbers s e =
     rw (parts .1, lt-ltb _ 8 (next-below (s .r)))
 
 -- the device after a good N(R), in the session after it
-pub settled-within : (d : Device) (s : Session) (r : ℕ) → Within d s → Within (acknowledged d s r) (sessionAfter s r)
-unfolding acknowledged deviceOf stationAfter sessionAfter settled emptied pendingFits
-settled-within d s r w =
+pub relieved-within : (d : Device) (s : Session) (r : ℕ) → Within d s → Within (acknowledged d s r) (sessionAfter s r)
+unfolding acknowledged deviceOf stationAfter sessionAfter relieved emptied pendingFits
+relieved-within d s r w =
     record {
       plate = w .plate;
       range = w .range;
       address = ap addressed (address-kept d s r) ∙ w .address;
-      link = settled-link d s r (w .link);
+      link = relieved-link d s r (w .link);
       numbers = numbers (acknowledges s r);
       fits = fits (acknowledges s r);
     }
@@ -85,6 +85,6 @@ settled-within d s r w =
     numbers false = w .numbers
 
     fits : (b : Bool)
-        → pendingFits (cond b (settled (d .station) s) (d .station)) ((cond b (emptied s) s) .pending) ≡ true
+        → pendingFits (cond b (relieved (d .station) s) (d .station) .desk) ((cond b (emptied s) s) .pending) ≡ true
     fits true = refl
     fits false = w .fits

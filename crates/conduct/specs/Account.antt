@@ -52,7 +52,7 @@ pub record Delivers (d : Device) (f : List ℕ) (reached : Bool) : Type 0 where
 pub record Tells (d : Device) (f : List ℕ) : Type 0 where
   pub collects : Collects d f
   pub idle : waitingOf (d .antenna .motion) ≡ Nothing
-  pub news : toTell (stationAfter (d .station) (collects .session) (collects .nr)) (d .antenna) ≡ true
+  pub news : toTell (stationAfter (d .station) (collects .session) (collects .nr) .desk) (d .antenna .drive) ≡ true
 
 abbrev pub Acknowledges : Device → List ℕ → Type 0
 Acknowledges d f = (s : Session) × Acknowledging d f s
@@ -107,13 +107,13 @@ pub record Account (d : Device) (f : List ℕ) : Type 0 where
   -- an answer, a result and an indication that are sent become pending
   pub answered : (w : Answered d f) → (pendingIn (after d f .station .link) ≡ Answer)
       × (after d f .station .desk .reply ≡ carriedHere (acknowledged d (w .session) (w .nr)) (drop 2 f) .payload)
-      × (after d f .station .desk .said ≡ stationAfter (d .station) (w .session) (w .nr) .said)
+      × (after d f .station .desk .said ≡ stationAfter (d .station) (w .session) (w .nr) .desk .said)
   pub delivered : (reached : Bool) (w : Delivers d f reached) → (pendingIn (after d f .station .link) ≡ Answer)
       × (after d f .station .desk .reply ≡ payloadOf (resultOf reached))
-      × (after d f .station .desk .said ≡ stationAfter (d .station) (w .collects .session) (w .collects .nr) .said)
+      × (after d f .station .desk .said ≡ stationAfter (d .station) (w .collects .session) (w .collects .nr) .desk .said)
   pub told-of : (w : Tells d f) → (pendingIn (after d f .station .link) ≡ Indication)
       × (after d f .station .desk .said ≡ d .antenna .drive .raised)
-      × (after d f .station .desk .reply ≡ stationAfter (d .station) (w .collects .session) (w .collects .nr) .reply)
+      × (after d f .station .desk .reply ≡ stationAfter (d .station) (w .collects .session) (w .collects .nr) .desk .reply)
   -- an acknowledgement removes it, where nothing else is sent; and in no other way does it change
   pub removed : Acknowledges d f → (Answered d f → ⊥) → ((reached : Bool) → Delivers d f reached → ⊥)
       → (Tells d f → ⊥)

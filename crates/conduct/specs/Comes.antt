@@ -65,7 +65,7 @@ pub data Comes (d : Device) (f : List ℕ) : Type 0 where
   subscribes : (s : Session) (n r : ℕ) → Accepted d f s n r → drop 2 f ≡ 0x12 ∷ 0 ∷ 0 ∷ [] → Comes d f
   answers : (s : Session) (n r : ℕ) (b : List ℕ) → Accepted d f s n r
       → carriedHere (acknowledged d s r) (drop 2 f)
-      ≡ replies b (d .antenna) (stationAfter (d .station) s r .told) (d .station .desk .subscribed)
+      ≡ replies b (d .antenna) (stationAfter (d .station) s r .desk .told) (d .station .desk .subscribed)
       → Comes d f
   murmurs : (s : Session) (n r : ℕ) → Accepted d f s n r → length (drop 2 f) < 3 → Comes d f
   -- "Any other isn't carried out and moves nothing; it gets the pending answer again, else RR with N(R) = R."
@@ -76,10 +76,10 @@ pub data Comes (d : Device) (f : List ℕ) : Type 0 where
   delivers : (s : Session) (r : ℕ) (reached : Bool) → Numbered d f (Rr r) r s
       → pends (sessionAfter s r .pending) ≡ false → waitingOf (d .antenna .motion) ≡ Result reached → Comes d f
   indicates : (s : Session) (r : ℕ) → Numbered d f (Rr r) r s → pends (sessionAfter s r .pending) ≡ false
-      → waitingOf (d .antenna .motion) ≡ Nothing → toTell (stationAfter (d .station) s r) (d .antenna) ≡ true
+      → waitingOf (d .antenna .motion) ≡ Nothing → toTell (stationAfter (d .station) s r .desk) (d .antenna .drive) ≡ true
       → Comes d f
   rests : (s : Session) (r : ℕ) → Numbered d f (Rr r) r s → pends (sessionAfter s r .pending) ≡ false
-      → waitingOf (d .antenna .motion) ≡ Nothing → toTell (stationAfter (d .station) s r) (d .antenna) ≡ false
+      → waitingOf (d .antenna .motion) ≡ Nothing → toTell (stationAfter (d .station) s r .desk) (d .antenna .drive) ≡ false
       → Comes d f
   -- "RNR gets RR."
   pauses : (s : Session) (r : ℕ) → Numbered d f (Rnr r) r s → Comes d f
@@ -108,15 +108,15 @@ left d f (leaves s w l) = released d
 left d f (miscounts s o r w l n b) = released d
 left d f (unknown s w l) = released d
 left d f (starts s n r w due) =
-    unansweredAs d s r (moves (d .antenna) (Owing (askedOf (drop 2 f)))) (stationAfter (d .station) s r .told)
+    unansweredAs d s r (moves (d .antenna) (Owing (askedOf (drop 2 f)))) (stationAfter (d .station) s r .desk .told)
     (d .station .desk .subscribed)
 left d f (clears s n r w m) = answeredAs d s r (quieted (d .antenna)) calm (d .station .desk .subscribed) (successOf 0x06 [])
 left d f (subscribes s n r w m) =
-    answeredAs d s r (d .antenna) (stationAfter (d .station) s r .told) true (successOf 0x12 [])
+    answeredAs d s r (d .antenna) (stationAfter (d .station) s r .desk .told) true (successOf 0x12 [])
 left d f (answers s n r b w e) =
-    answeredAs d s r (d .antenna) (stationAfter (d .station) s r .told) (d .station .desk .subscribed) b
+    answeredAs d s r (d .antenna) (stationAfter (d .station) s r .desk .told) (d .station .desk .subscribed) b
 left d f (murmurs s n r w h) =
-    unansweredAs d s r (d .antenna) (stationAfter (d .station) s r .told) (d .station .desk .subscribed)
+    unansweredAs d s r (d .antenna) (stationAfter (d .station) s r .desk .told) (d .station .desk .subscribed)
 left d f (repeats s n r w a) = acknowledged d s r
 left d f (resends s r w p) = acknowledged d s r
 left d f (delivers s r reached w p q) =

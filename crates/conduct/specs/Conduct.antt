@@ -73,7 +73,7 @@ pub record TiltStarted (d : Device) (f : List ℕ) (s : Session) (r : ℕ) : Typ
   pub antenna : after d f .antenna ≡ started (d .antenna) (askedOf (drop 2 f)) Started
   pub link : after d f .station .link ≡ Connected (movedOn s r)
   pub station : after d f .station
-      ≡ heeded (stationAfter (d .station) s r) (movedOn s r) (stationAfter (d .station) s r .told)
+      ≡ heeded (stationAfter (d .station) s r) (movedOn s r) (stationAfter (d .station) s r .desk .told)
       (d .station .desk .subscribed)
   pub said : judgedFrame d f .say ≡ ready (movedOn s r)
 

@@ -24,6 +24,7 @@ use Rattle.antenna.specs.Alarms.{changesOf}
 use Rattle.record.specs.declared.Pending.{Pending}
 use Rattle.record.specs.declared.Pending.the-variants.{Nothing, Answer, Indication}
 use Rattle.record.specs.declared.Session.{Session}
+use Rattle.record.specs.declared.Desk.{Desk}
 use Rattle.record.specs.declared.Station.{Station}
 use Rattle.record.specs.declared.Device.{Device}
 use Rattle.record.specs.Allowed.{identityOf}
@@ -50,16 +51,16 @@ kept s r = cond (eqb r (s .s)) (s .pending) Nothing
 unfoldable pub indication : List ℕ → List ℕ
 indication pairs = 0x07 ∷ length pairs % 256 ∷ length pairs / 256 % 256 ∷ pairs
 
-unfoldable pub pendingSaid : Station → Pending → List ℕ
-pendingSaid t Nothing = []
-pendingSaid t Answer = take (t .reply .len) (t .reply .octets)
-pendingSaid t Indication = indication (changesOf (t .said .flags) (t .told .flags))
+unfoldable pub pendingSaid : Desk → Pending → List ℕ
+pendingSaid k Nothing = []
+pendingSaid k Answer = take (k .reply .len) (k .reply .octets)
+pendingSaid k Indication = indication (changesOf (k .said .flags) (k .told .flags))
 
 -- "it gets the pending answer again, else RR with N(R) = R"
-unfoldable pub again : Station → Session → ℕ → Pending → Option (List ℕ)
-again t s r Nothing = rr (t .address) (s .r)
-again t s r Answer = info (t .address) r (s .r) (pendingSaid t Answer)
-again t s r Indication = info (t .address) r (s .r) (pendingSaid t Indication)
+unfoldable pub again : Desk → Session → ℕ → Pending → Option (List ℕ)
+again k s r Nothing = rr (k .address) (s .r)
+again k s r Answer = info (k .address) r (s .r) (pendingSaid k Answer)
+again k s r Indication = info (k .address) r (s .r) (pendingSaid k Indication)
 
 -- "V(S) is S, or S+1 with an answer pending."
 unfoldable pub sentNumber : ℕ → Pending → ℕ
@@ -102,11 +103,11 @@ octetsSaid d f (clears s n r w m) = info (d .station .desk .address) r (s .r + 1
 octetsSaid d f (subscribes s n r w m) = info (d .station .desk .address) r (s .r + 1) (0x12 ∷ 1 ∷ 0 ∷ 0x00 ∷ [])
 octetsSaid d f (answers s n r b w e) = info (d .station .desk .address) r (s .r + 1) b
 octetsSaid d f (murmurs s n r w few) = rr (d .station .desk .address) (s .r + 1)
-octetsSaid d f (repeats s n r w a) = again (d .station) s r (kept s r)
-octetsSaid d f (resends s r w p) = info (d .station .desk .address) r (s .r) (pendingSaid (d .station) (s .pending))
+octetsSaid d f (repeats s n r w a) = again (d .station .desk) s r (kept s r)
+octetsSaid d f (resends s r w p) = info (d .station .desk .address) r (s .r) (pendingSaid (d .station .desk) (s .pending))
 octetsSaid d f (delivers s r reached w p q) = info (d .station .desk .address) r (s .r) (resultSaid reached)
 octetsSaid d f (indicates s r w p q t) =
     info (d .station .desk .address) r (s .r)
-    (indication (changesOf (d .antenna .drive .raised .flags) (stationAfter (d .station) s r .told .flags)))
+    (indication (changesOf (d .antenna .drive .raised .flags) (stationAfter (d .station) s r .desk .told .flags)))
 octetsSaid d f (rests s r w p q t) = rr (d .station .desk .address) (s .r)
 octetsSaid d f (pauses s r w) = rr (d .station .desk .address) (s .r)

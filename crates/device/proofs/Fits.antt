@@ -16,7 +16,7 @@ use Rattle.record.specs.declared.Pending.the-variants.{Nothing, Answer, Indicat
 use Rattle.record.specs.declared.Link.{Link}
 use Rattle.record.specs.declared.Link.the-variants.{NoAddress, AddressAssigned, Connected}
 use Rattle.record.specs.declared.Plate.{Plate}
-use Rattle.record.specs.declared.Station.{Station}
+use Rattle.record.specs.declared.Desk.{Desk}
 use Rattle.record.specs.declared.Device.{Device}
 use Rattle.record.specs.Allowed.{identityOf, replyMost, identityAllowed, platesAllowed, pendingFits, sessionAllowed}
 use Rattle.record.specs.Allowed.{numbersAllowed, addressed, linkAllowed, stationAllowed, allowedDevice}
@@ -32,13 +32,13 @@ use Rattle.device.proofs.Only.{none-not-some, some-same}
 
 -- ---- what is pending has at most 74 octets
 
-pending-short : (t : Station) (p : Pending) → pendingFits t p ≡ true → length (pendingOctets t p) ≤ replyMost
+pending-short : (t : Desk) (p : Pending) → pendingFits t p ≡ true → length (pendingOctets t p) ≤ replyMost
 unfolding pendingFits pendingOctets
 pending-short t Nothing e = omega arith
 pending-short t Answer e = simp length-take (omega (arith, leb-true (t .reply .len) replyMost e))
 pending-short t Indication e = omega (arith, indication-fits (t .said) (t .told))
 
-link-short : (t : Station) (l : Link) → linkAllowed t l ≡ true → length (linkOctets t l) ≤ replyMost
+link-short : (t : Desk) (l : Link) → linkAllowed t l ≡ true → length (linkOctets t l) ≤ replyMost
 unfolding linkAllowed linkOctets sessionAllowed
 link-short t NoAddress e = omega arith
 link-short t AddressAssigned e = omega arith
@@ -90,7 +90,7 @@ module _ (d : Device) (allowed : allowedDevice d ≡ true) where
 -- ---- its address
 
 -- "an address of 0 to 254"
-address-most : (t : Station) (l : Link) → linkAllowed t l ≡ true → t .address ≤ 254
+address-most : (t : Desk) (l : Link) → linkAllowed t l ≡ true → t .address ≤ 254
 unfolding linkAllowed
 address-most t NoAddress e = omega (arith, eqb-true (t .address) 0 e)
 address-most t AddressAssigned e = addressed-most (t .address) e

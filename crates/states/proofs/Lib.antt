@@ -1,2 +1,3 @@
 -- What is proved of the link states beside the promise.
 pub mod Only
+pub mod Renews
