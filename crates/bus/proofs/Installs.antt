@@ -62,7 +62,7 @@ module _ (ds : List Device) (c : Cabled ds) (xs : List (List ℕ)) (few : length
     ready : (d : Device) → List·Memᴰ d ds → Ready (last d)
     ready d m =
         let (k, h, p) = device-place d m in
-        record { allowed = last-kept d m .allowed; has = ap hasAddress (held d m k h p .1) }
+        record { allowed = last-kept d m .allowed; link = held d m k h p .1 }
 
     tells : (d e : Device) → List·Memᴰ d ds → List·Memᴰ e ds → last d .station .desk .address ≡ last e .station .desk .address
         → paddedIn d ≡ paddedIn e

@@ -26,12 +26,13 @@ use Rattle.record.specs.Changes.{unsaidAt, endedAs}
 use Rattle.record.proofs.Stays.{sound}
 use Rattle.station.specs.declared.Turn.{Turn}
 use Rattle.station.specs.Turns.{saying, mute}
-use Rattle.states.specs.States.{begun}
+use Rattle.states.specs.States.{begun, onSnrm, ua}
 use Rattle.link.specs.Link.{isOwn, addressedBy, controlledBy, judgedFrame}
 use Rattle.link.specs.Frames.{hasAddress}
 use Rattle.link.proofs.Judged.{judged-is}
 use Rattle.speech.specs.Speech.{isSilent, controlBy, payloadBy, frameBy}
 use Rattle.device.specs.Judge.{reacts, reactionOf, deviceAfter}
+use Rattle.conduct.proofs.Addressed.{link-addressed, addressed-bounds}
 use Rattle.conduct.proofs.Answers.{snrm-answered}
 use Rattle.conduct.proofs.Stays.{stays-allowed}
 use Rattle.bus.specs.Cable.{hears, afterLine, afterLines, allAfterLines}
@@ -41,21 +42,22 @@ use Rattle.bus.proofs.Places.{map-same}
 
 -- ---- one device
 
--- allowed, with an address
+-- allowed, and in AddressAssigned
 pub record Ready (d : Device) : Type 0 where
   pub allowed : allowedDevice d ≡ true
-  pub has : hasAddress (d .station .link) ≡ true
+  pub link : d .station .link ≡ AddressAssigned
 
 module _ (d : Device) (w : Ready d) where
   -- the address is one of 1 to 254
   address-bounds : (1 ≤ d .station .desk .address) × (d .station .desk .address ≤ 254)
-  unfolding stationAllowed addressed
+  unfolding stationAllowed
   address-bounds =
-      let a = d .station .desk .address in
-      let parts =
-      and-parts (ltb 0 a) (ltb a 255)
-      (link-addressed (d .station .desk) (d .station .link) (sound d (w .allowed) .station) (w .has)) in
-      (ltb-true 0 a (parts .0), omega (arith, ltb-true a 255 (parts .1)))
+      addressed-bounds (d .station .desk .address)
+      (link-addressed (d .station .desk) (d .station .link) (sound d (w .allowed) .station) (ap hasAddress (w .link)))
+
+  begins : judgedFrame d (d .station .desk .address ∷ 0x93 ∷ []) ≡ saying (begun d) ua
+  unfolding onSnrm
+  begins = snrm-answered d (w .allowed) (ap hasAddress (w .link)) ∙ ap (λ (l : Link). saying (onSnrm d l) ua) (w .link)
 
   pub snrm-heard : hears d (snrmFor d)
       ≡ gives (record { device = begun d; frame = some (d .station .desk .address ∷ 0x73 ∷ []) })
@@ -63,7 +65,7 @@ module _ (d : Device) (w : Ready d) where
   snrm-heard =
       let (least, most) = address-bounds in
       hears-written d (d .station .desk .address) 0x93 [] (w .allowed) (omega arith) (omega arith)
-      ∙ ap (λ (t : Turn). gives (reactionOf t)) (snrm-answered d (w .allowed) (w .has))
+      ∙ ap (λ (t : Turn). gives (reactionOf t)) begins
 
   pub snrm-alone : (o : Device) → allowedDevice o ≡ true → (o .station .desk .address ≡ d .station .desk .address → ⊥)
       → hears o (snrmFor d) ≡ gives (record { device = o; frame = none })
@@ -79,7 +81,7 @@ module _ (d : Device) (w : Ready d) where
   begun-allowed : allowedDevice (begun d) ≡ true
   unfolding saying
   begun-allowed =
-      rw (← ap (λ (t : Turn). t .device) (snrm-answered d (w .allowed) (w .has)))
+      rw (← ap (λ (t : Turn). t .device) begins)
       (stays-allowed d (d .station .desk .address ∷ 0x93 ∷ []) (w .allowed))
 
 -- ---- SNRM to each address in turn
