@@ -32,7 +32,7 @@ use Rattle.xid.proofs.Exactly.{scan-read, scan-exactly, assignment-read, assign
 use Rattle.station.specs.declared.Say.{Say}
 use Rattle.station.specs.declared.Turn.{Turn}
 use Rattle.station.specs.Turns.{saying, mute}
-use Rattle.states.specs.States.{newSession, begun, renewed, onSnrm, ua, connectedBy, isSnrm, assignedBy, linkedBy}
+use Rattle.states.specs.States.{newSession, begun, released, renewed, onSnrm, ua, connectedBy, isSnrm, assignedBy, linkedBy}
 use Rattle.link.specs.Link.{quiet, isOwn}
 use Rattle.link.specs.Link.{xidBy, frameMost}
 use Rattle.link.specs.Link.{judgedFrame}
@@ -56,6 +56,13 @@ unfolding onSnrm renewed begun endedAs unsaidAt
 snrm-session d NoAddress h = absurd (true-not-false (sym h))
 snrm-session d AddressAssigned h = refl
 snrm-session d (Connected s) h = refl
+
+-- at the address that it was
+pub snrm-address : (d : Device) (l : Link) → onSnrm d l .station .desk .address ≡ d .station .desk .address
+unfolding onSnrm renewed begun released endedAs unsaidAt
+snrm-address d NoAddress = refl
+snrm-address d AddressAssigned = refl
+snrm-address d (Connected s) = refl
 
 -- every SNRM that is read, where an address is assigned
 pub snrm-begins : (d : Device) (f : List ℕ) → Own d f Snrm → hasAddress (d .station .link) ≡ true

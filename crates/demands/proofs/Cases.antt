@@ -50,7 +50,7 @@ use Rattle.message.specs.Messages.{driveChecks, checks, inTable, takenBy}
 use Rattle.message.specs.Carried.{carriedOf, outcome, doneBy, replies, unanswered}
 use Rattle.station.specs.Turns.{saying}
 use Rattle.record.specs.Changes.{deviceOf}
-use Rattle.acknowledge.specs.Acknowledge.{acknowledged, emptied, toldAfter, retold, settled as settledStation}
+use Rattle.acknowledge.specs.Acknowledge.{acknowledged, emptied, toldAfter, relieved}
 use Rattle.poll.specs.Poll.{indicates, toTell, idlePoll, waitingPoll, pollOf}
 use Rattle.report.specs.Reports.{indicationOf}
 use Rattle.antenna.specs.Alarms.{changesAmong, anyDiffer}
@@ -58,7 +58,7 @@ use Rattle.xid_answer.specs.Answer.{scanParams, assignmentParams, scanAnswer, a
 use Rattle.params.specs.Field.{tripleOf, fieldOf, payloadOf as xidPayload}
 use Rattle.inform.specs.Inform.{repliedBy, carriedBy, informOf}
 use Rattle.states.specs.States.{informedBy, polledBy, pausedBy, rnrBy}
-use Rattle.states.specs.States.{begun, released, rejected, infoBy, rrBy, connectedBy, isSnrm, assignedBy, linkedBy}
+use Rattle.states.specs.States.{begun, renewed, released, rejected, infoBy, rrBy, connectedBy, isSnrm, assignedBy, linkedBy}
 use Rattle.link.specs.Link.{quiet, ownBy, xidBy, everyoneBy, isOwn, addressedBy, controlledBy, judgedFrame, frameMost}
 use Rattle.conduct.specs.Conduct.{after, Meeting, frame, event, meets, run}
 use Rattle.speech.specs.Speech.{pendingOctets, linkOctets, isSilent, controlBy, payloadBy, frameBy}
@@ -219,7 +219,7 @@ computed : All starred × All further
 unfolding All Holds heard scan.driven scan.fresh scan.ended scan.over scan.reported standsAt step stepIn noted listing
     goOn next carry zeroHalf named word packed rowsOf flat phaseOf stateOf fresh assigned run meets judged
     judgeRows judgedFrame controlledBy addressedBy isOwn everyoneBy xidBy ownBy quiet linkedBy isSnrm assignedBy connectedBy
-    rrBy infoBy rejected released begun pollOf waitingPoll informedBy informOf carriedBy repliedBy polledBy saying
+    rrBy infoBy rejected released begun renewed pollOf waitingPoll informedBy informOf carriedBy repliedBy polledBy saying
     deviceOf acknowledged sessionAfter stationAfter resent awaiting answersWith heeded pends acknowledges goodNumber
     accepts taken vsOf countsOf polled nextOf infoOf rrOf numberedBy askedBy unsaidAt endedAs canBe afterEvent eventRows
     happened freshOf freshFrom plateFrom identityFrom productFrom versionFrom textsAllowed dataAllowed stateAfter
@@ -230,7 +230,7 @@ unfolding All Holds heard scan.driven scan.fresh scan.ended scan.over scan.repor
     octetsIn isScan scanShape assignmentShape scanMatches answersScan padded masked same identityMatches kindMatches
     vendorMatches assignmentMatches assignedIn messageOf successOf failureOf resultOf payloadOf tiltOctets angleOf
     driveChecks checks inTable takenBy carriedOf outcome doneBy replies unanswered pendingOctets linkOctets isSilent
-    controlBy payloadBy frameBy reacts sizeOf toldOf frameAt bufferAfter emptied toldAfter retold settledStation indicates toTell
+    controlBy payloadBy frameBy reacts sizeOf toldOf frameAt bufferAfter emptied toldAfter relieved indicates toTell
     idlePoll pausedBy rnrBy indicationOf changesAmong anyDiffer withAlarm isAlarm placeOf scanAnswer assignmentAnswer
     scanParams assignmentParams xidPayload fieldOf tripleOf
 computed = (

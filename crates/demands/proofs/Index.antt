@@ -83,14 +83,12 @@ pub use Rattle.scan.proofs.Only.{probe-asks}
 pub use Rattle.scanner.proofs.Only.{new-asks, report-asks}
 pub use Rattle.fresh.proofs.Only.{fresh-asks}
 pub use Rattle.event.proofs.Only.{happen-asks}
-pub use Rattle.motor.proofs.Only.{stopped-asks}
-pub use Rattle.alarms.proofs.Only.{alarmed-asks}
 pub use Rattle.aim.proofs.Only.{aim-at-asks}
 pub use Rattle.drives.proofs.Only.{obey-asks}
 -- ---- the demands
 pub use Rattle.demands.proofs.One.{hear-defined, judge-defined, decode-answers, write-answers, hand-out-answers}
 pub use Rattle.demands.proofs.One.{c-decode-answers, c-write-answers, probe-answers, report-answers, fresh-answers}
-pub use Rattle.demands.proofs.One.{happen-answers, stopped-answers, alarmed-answers, aim-answers}
+pub use Rattle.demands.proofs.One.{happen-answers, aim-answers}
 pub use Rattle.demands.proofs.One.{obey-answers, obey-keeps, broken-words}
 pub use Rattle.demands.proofs.Two.{written-reads-back, written-heard, tilt-exactly, tilt-owed, tilt-number, tilt-once}
 pub use Rattle.demands.proofs.Two.{not-accepted, some-case, each-case, each-octet, judge-case}

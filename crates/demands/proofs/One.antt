@@ -33,14 +33,11 @@ use Rattle.scan.proofs.probe.Reads as probe-reads
 use Rattle.scanner.proofs.report.Reads as report-reads
 use Rattle.fresh.proofs.fresh.Reads as fresh-reads
 use Rattle.event.proofs.happen.Reads as happen-reads
-use Rattle.motor.proofs.stopped.Reads as stopped-reads
-use Rattle.alarms.proofs.alarmed.Reads as alarmed-reads
 use Rattle.device.proofs.judge.Reads as judge-reads
 use Rattle.device.proofs.hear.Reads as hear-reads
 use Rattle.drives.proofs.obey.Reads as obey-reads
 use Rattle.drives.specs.Drives.{After, obeyed, replyOf}
 use Rattle.drives.proofs.Keeps.{isNo, no-keeps}
-use Rattle.antenna.specs.Events.{stoppedAt, alarmedOf}
 use Rattle.antenna.specs.Motions.{aimedAt, aimNumber, Aims}
 use Rattle.antenna.specs.declared.Antenna.{Antenna}
 use Rattle.antenna.specs.declared.Aimed.{Aimed}
@@ -213,15 +210,6 @@ fresh-answers κs a r s = changes-to _ (r .outcome)
 pub happen-answers : (κs : _) (a : _) (r : _) (s : _) → happen-reads.Learnt κs a r s
     → Changes-to (happened (a .0) (a .1 .0)) (a .0) (r .outcome) (r .device)
 happen-answers κs a r s = changes-to _ (r .outcome)
-
--- what happens to one drive
-pub stopped-answers : (κs : _) (a : _) (r : _) (s : _) → stopped-reads.Learnt κs a r s
-    → Changes-to (stoppedAt (a .0) (a .1 .0)) (a .0) (r .outcome) (r .antenna)
-stopped-answers κs a r s = changes-to _ (r .outcome)
-
-pub alarmed-answers : (κs : _) (a : _) (r : _) (s : _) → alarmed-reads.Learnt κs a r s
-    → Changes-to (alarmedOf (a .0) (a .1 .0) (a .1 .1 .0)) (a .0) (r .outcome) (r .antenna)
-alarmed-answers κs a r s = changes-to _ (r .outcome)
 
 -- a tilt asked of a drive: a movement; or its return code, and the antenna as it was
 pub data Aims-at (x : Answer Antenna) (n : Antenna) (r : Aimed) : Type 0 where

@@ -44,7 +44,7 @@ use Rattle.xid.specs.Match.{readOf}
 use Rattle.xid.specs.declared.Xid.the-variants as xid
 use Rattle.xid.proofs.Exactly.{scan-exactly, assignment-exactly}
 use Rattle.station.specs.Turns.{saying}
-use Rattle.states.specs.States.{begun, newSession}
+use Rattle.states.specs.States.{onSnrm, newSession}
 use Rattle.link.specs.Frames.{controlOf, hasAddress, Numbered}
 use Rattle.conduct.specs.Conduct.{after, starts, TiltDue, TiltStarted, occurAll, Meeting, run}
 use Rattle.conduct.specs.Comes.{Comes, left, says}
@@ -62,7 +62,7 @@ use Rattle.conduct.proofs.Settles.{r-kept}
 use Rattle.conduct.proofs.Runs.{run-allowed}
 use Rattle.conduct.proofs.Due.{starts-exactly, due-moves-on}
 use Rattle.conduct.proofs.Again.{starts-once}
-use Rattle.conduct.proofs.Answers.{snrm-answered, snrm-connects}
+use Rattle.conduct.proofs.Answers.{snrm-answered, snrm-address, snrm-connects}
 use Rattle.speech.specs.Speech.{isSilent, controlBy, payloadBy, frameBy}
 use Rattle.device.specs.Judge.{Reaction, reacts, reactionOf, judged, heardBy, heard, saidOf, sizeOf, toldOf, deviceAfter}
 use Rattle.device.specs.Judge.{frameAt, bufferAfter}
@@ -203,12 +203,19 @@ module _ (d : Device) (allowed : allowedDevice d ≡ true) (assigned : hasAddres
   -- SNRM, written on the line to an assigned device, gets UA from its address
   pub snrm-heard : (room : ℕ) → 76 ≤ room
       → heard d (inside (lineOf (d .station .desk .address ∷ 0x93 ∷ []))) room
-      ≡ gives (record { device = begun d; frame = some (d .station .desk .address ∷ 0x73 ∷ []) })
-  unfolding reacts saying frameBy isSilent controlBy payloadBy begun endedAs unsaidAt
+      ≡ gives
+      (record { device = onSnrm d (d .station .link); frame = some (d .station .desk .address ∷ 0x73 ∷ []) })
+  unfolding reacts saying frameBy isSilent controlBy payloadBy
   snrm-heard room h =
       let a = d .station .desk .address in
       written-heard d a 0x93 [] room (omega (arith, address-fits d allowed), (omega arith, tt)) (omega arith)
-      ∙ judge-answer d (a ∷ 0x93 ∷ []) room _ .1 (allowed, h, ap reactionOf (snrm-answered d allowed assigned))
+      ∙ judge-answer d (a ∷ 0x93 ∷ []) room _ .1 (
+        allowed,
+        h,
+        ap reactionOf (snrm-answered d allowed assigned)
+            ∙ ap (λ (x : ℕ). record { device = onSnrm d (d .station .link); frame = some (x ∷ 0x73 ∷ []) })
+            (snrm-address d (d .station .link)),
+      )
 
   -- and a new session
   pub snrm-session : after d (d .station .desk .address ∷ 0x93 ∷ []) .station .link ≡ Connected newSession
