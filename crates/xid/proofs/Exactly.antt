@@ -20,19 +20,22 @@ use Rattle.params.specs.Field.{Values, valuesOf}
 use Rattle.params.proofs.Exact.{one-reading}
 use Rattle.params.proofs.Kept.{both-of, of-both}
 use Rattle.xid.specs.Match.{deviceType, isScan, scanShape, assignmentShape, scanMatches}
-use Rattle.xid.specs.Match.{identityMatches, kindMatches, vendorMatches, assignmentMatches, assigned, judged}
-use Rattle.xid.specs.Match.{readOf}
+use Rattle.xid.specs.Match.{identityMatches, kindMatches, vendorMatches, readOf}
 use Rattle.xid.specs.Meaning.{ScanOf, AssignmentOf, IfGiven, EndOf, Meant, Answers, Takes}
-use Rattle.xid.proofs.Told.{given-none, values-are, scan-values, unmasked, address-one, scan-told}
-use Rattle.xid.proofs.Told.{assignment-told, formed-of, read-is}
+use Rattle.xid.proofs.Rows.{scan-meant, assignment-meant}
+use Rattle.xid.proofs.Told.{given-none, values-are, scan-values, address-one, scan-told}
+use Rattle.xid.proofs.Told.{scan-loud, assignment-loud, assignment-told, formed-of, read-is}
 use Rattle.xid.specs.declared.Xid.the-variants.{Silence, Scan, Assignment}
 
 -- ---- the scan
 
 -- a scan is answered by these devices, and stays silent at all others
 pub scan-read : (i m v k : List ℕ) → ScanOf m v k → readOf i m ≡ cond (answersScan i k v) Scan Silence
-unfolding judged isScan scanShape given octetsIn scanMatches
-scan-read i m v k s = read-is i m (s .params) (s .formed) ∙ rw (s .values, eq-eqb (length v) (length k) (s .equal))
+unfolding isScan scanShape given octetsIn scanMatches
+scan-read i m v k s =
+    read-is i m (s .params) (s .formed)
+    ∙ scan-meant i (valuesOf (s .params)) (rw (s .values, eq-eqb (length v) (length k) (s .equal)))
+    ∙ rw (s .values)
 
 pub scan-exactly : (i m : List ℕ) → readOf i m ≡ Scan ↔ Answers i m
 unfolding scanMatches answersScan
@@ -40,7 +43,7 @@ scan-exactly i m = (there, back)
   where
     there : readOf i m ≡ Scan → Answers i m
     there e =
-        let (ps, f, j) = formed-of i m e (λ (n : Scan ≡ Silence). let z : _≡_ {A = ℕ} 0 1 = cc in omega arith) in
+        let (ps, f, j) = formed-of i m e scan-loud in
         let w = valuesOf ps in
         let (s, t) = scan-told i w j in
         let (vs, long) = scan-values w s in (
@@ -120,19 +123,19 @@ matches-exactly i a x y z = (there, back)
 pub assignment-read : (i m : List ℕ) (a : ℕ) (x y z : Option (List ℕ)) → AssignmentOf m a x y z
     → readOf i m
     ≡ cond (addressed a && (identityMatches i x && (kindMatches y && vendorMatches i z))) (Assignment a) Silence
-unfolding judged assignmentShape assigned assignmentMatches given octetsIn
+unfolding assignmentShape given octetsIn
 assignment-read i m a x y z s =
-    let w : Values = record { identity = x; address = some (a ∷ []); mask = none; kind = y; vendor = z } in
-    read-is i m (s .params) (s .formed) ∙ rw (s .values, unmasked w refl)
+    read-is i m (s .params) (s .formed)
+    ∙ assignment-meant i (valuesOf (s .params)) (rw (s .values))
+    ∙ rw (s .values)
 
 pub assignment-exactly : (i m : List ℕ) (a : ℕ) → readOf i m ≡ Assignment a ↔ Takes i m a
-unfolding assignmentShape assignmentMatches valuesOf
+unfolding assignmentShape valuesOf
 assignment-exactly i m a = (there, back)
   where
     there : readOf i m ≡ Assignment a → Takes i m a
     there e =
-        let loud : Assignment a ≡ Silence → ⊥ = λ n. let z : _≡_ {A = ℕ} 0 1 = cc in omega arith in
-        let (ps, f, j) = formed-of i m e loud in
+        let (ps, f, j) = formed-of i m e assignment-loud in
         let w = valuesOf ps in
         let (s, t, u) = assignment-told i w a j in
         let (there, no-mask) = both-of (given (w .address)) (not (given (w .mask))) s in

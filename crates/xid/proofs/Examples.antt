@@ -10,8 +10,11 @@ use Rattle.compare.specs.Rows.{endsWith}
 use Rattle.record.specs.Allowed.{addressed}
 use Rattle.params.specs.Field.{opened, triplesAfter, before, checked, allRight, rightLength, identityLong, identifiers}
 use Rattle.params.specs.Field.{noneTwice, paramsOf, valueOf, valuesOf, given, octetsIn}
+use Rattle.refusal.specs.Answer.{answered}
 use Rattle.xid.specs.Match.{isScan, scanShape, assignmentShape, scanMatches, identityMatches, kindMatches}
-use Rattle.xid.specs.Match.{vendorMatches, assignmentMatches, assigned, judged, judgedParams, readOf}
+use Rattle.xid.specs.Match.{vendorMatches, noParams, malformed, valuesIn, neither, badAddress, otherIdentity}
+use Rattle.xid.specs.Match.{otherType, otherVendor, otherScan, valueRows, payloadRows, meaningOf, orSilence}
+use Rattle.xid.specs.Match.{payloadAnswer, readOf}
 use Rattle.xid.specs.declared.Xid.{Xid}
 use Rattle.xid.specs.declared.Xid.the-variants.{Silence, Scan, Assignment}
 
@@ -70,19 +73,19 @@ edges =
     ∷ (0x81 ∷ 0xF0 ∷ 6 ∷ 1 ∷ 1 ∷ 0x0B ∷ 3 ∷ 1 ∷ 0x0F ∷ []) gets Scan ∷ []
 
 -- a repeat, a last triple that runs past the end, another identifier, another length, a wrong length field
-abbrev pub malformed : List Row
-malformed =
+abbrev pub misformed : List Row
+misformed =
     (0x81 ∷ 0xF0 ∷ 6 ∷ 2 ∷ 1 ∷ 7 ∷ 2 ∷ 1 ∷ 7 ∷ []) gets Silence
     ∷ (0x81 ∷ 0xF0 ∷ 6 ∷ 2 ∷ 1 ∷ 7 ∷ 1 ∷ 2 ∷ 0x33 ∷ []) gets Silence
     ∷ (0x81 ∷ 0xF0 ∷ 6 ∷ 2 ∷ 1 ∷ 7 ∷ 5 ∷ 1 ∷ 1 ∷ []) gets Silence
     ∷ (0x81 ∷ 0xF0 ∷ 7 ∷ 2 ∷ 1 ∷ 7 ∷ 4 ∷ 2 ∷ 1 ∷ 1 ∷ []) gets Silence
     ∷ (0x81 ∷ 0xF0 ∷ 4 ∷ 2 ∷ 1 ∷ 7 ∷ []) gets Silence ∷ []
 
-pub computed : All right × All unpadded × All named × All left × All padding × All edges × All malformed
-unfolding readOf judgedParams paramsOf opened triplesAfter before checked allRight rightLength identityLong
-    identifiers noneTwice holds valuesOf valueOf given octetsIn judged isScan scanShape assignmentShape
-    scanMatches answersScan padded masked same endsWith identityMatches kindMatches vendorMatches
-    assignmentMatches addressed assigned
+pub computed : All right × All unpadded × All named × All left × All padding × All edges × All misformed
+unfolding readOf payloadAnswer payloadRows valueRows answered orSilence meaningOf malformed noParams valuesIn neither
+    badAddress otherIdentity otherType otherVendor otherScan paramsOf opened triplesAfter before checked allRight
+    rightLength identityLong identifiers noneTwice holds valuesOf valueOf given octetsIn isScan scanShape assignmentShape
+    scanMatches answersScan padded masked same endsWith identityMatches kindMatches vendorMatches addressed
 computed = (
   (refl, (refl, tt)),
   (refl, (refl, tt)),
