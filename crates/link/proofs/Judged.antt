@@ -1,4 +1,5 @@
--- Which sizes are wrong; a frame of 2 to 76 octets goes by its address, its control and what is behind them. Assumes nothing.
+-- Which sizes are wrong; a frame of a right one goes by its address, its control and what is behind them. Assumes
+-- nothing.
 use mathlib.Core.Path.{_≡_, refl, sym, ap, _∙_}
 use mathlib.Core.Bool.{Bool, true, false, _||_, or-true}
 use mathlib.Core.Logic.{_↔_, _⊎_, inl, inr, ⊎-elim}

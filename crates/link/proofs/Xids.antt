@@ -3,17 +3,16 @@
 use mathlib.Core.Path.{_≡_, refl, sym, ap, _∙_}
 use mathlib.Core.Bool.{Bool, true, false, cond, not}
 use mathlib.Core.Logic.{_↔_, Iff·trans, _⊎_, ⊎-elim}
-use mathlib.Core.List.{List, [], _∷_}
+use mathlib.Core.List.{List}
 use Prim.Native.Nat.{ℕ}
 use native.Mathlib.Omega.{arith}
-use borrow.Author.Tests.{eqb-true, eqb-false, eq-eqb, ne-eqb}
+use borrow.Author.Tests.{eqb-true, eqb-false, eq-eqb}
 use lib.Dec.{eqb}
 use lib.ListN.{length, getD, drop}
 use Rattle.octets.specs.Octets.{holds}
-use Rattle.octets.proofs.Words.{true-not-false}
-use Rattle.refusal.specs.Answer.{Answer, gives, refuses, _when_, answered, Given, Clear, numbersOf}
-use Rattle.refusal.proofs.Exactly.{TestsFor, exactly, exactly-tests, exactly-given, answered-all}
-use Rattle.control.specs.Control.{polled, askedBy}
+use Rattle.refusal.specs.Answer.{Answer, gives, refuses, answered, Clear, numbersOf}
+use Rattle.refusal.proofs.Exactly.{TestsFor, exactly-tests, exactly-given, answered-all}
+use Rattle.control.specs.Control.{askedBy}
 use Rattle.params.specs.Field.{Values}
 use Rattle.record.specs.declared.Device.{Device}
 use Rattle.record.specs.Allowed.{identityOf}
@@ -24,7 +23,7 @@ use Rattle.station.specs.declared.Say.{Say}
 use Rattle.station.specs.declared.Turn.{Turn}
 use Rattle.station.specs.Turns.{saying, mute}
 use Rattle.link.specs.Link.{allStations, xidControl, quiet, xidBy, wrongSize, judgedFrame}
-use Rattle.link.specs.Frames.{controlOf, Everyone, unfit, missized, unheeded}
+use Rattle.link.specs.Frames.{controlOf, missized, unfit, unheeded}
 use Rattle.link.specs.Xids.{wrongAddress, wrongControl, xidRows, xidAnswer, xidMeans}
 use Rattle.link.proofs.Judged.{size-right}
 use Rattle.link.proofs.Cases.{everyone-is, unread-silent}

@@ -14,6 +14,7 @@ use xid::Xid;
 
 // The address of a frame to every device.
 const ALL_STATIONS: u8 = 0xFF;
+
 const XID_CONTROL: u8 = 0xBF;
 
 fn say(device: Device, say: Say) -> Turn

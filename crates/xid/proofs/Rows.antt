@@ -1,14 +1,15 @@
 -- What the rows of a payload come to, by its shape, and of which shape each of them is. Assumes nothing.
 use mathlib.Core.Path.{_≡_, refl, sym, _∙_}
-use mathlib.Core.Bool.{Bool, true, false, cond, not, _&&_, and-false}
+use mathlib.Core.Bool.{Bool, true, false, cond, not, _&&_, _||_}
+use mathlib.Core.Logic.{_↔_}
 use mathlib.Core.List.{List, [], _∷_}
 use mathlib.Core.Option.{Option, none, some}
 use Prim.Native.Nat.{ℕ}
 use borrow.Author.Tests.{not-true}
 use lib.Dec.{eqb}
 use lib.ListN.{length}
-use Rattle.refusal.specs.Answer.{gives, refuses, Answer, _when_, answered, Clear}
-use Rattle.refusal.proofs.Exactly.{exactly-given}
+use Rattle.refusal.specs.Answer.{_when_, answered}
+use Rattle.octets.proofs.Words.{true-not-false}
 use Rattle.record.specs.Allowed.{addressed}
 use Rattle.params.specs.Field.{Param, WellFormed, paramsOf, Values, valuesOf, given, octetsIn}
 use Rattle.params.proofs.Exact.{params-exactly}
@@ -17,7 +18,6 @@ use Rattle.xid.specs.Match.{isScan, scanShape, isAssignment, assignmentS
 use Rattle.xid.specs.Match.{identityMatches, kindMatches, vendorMatches, noParams, malformed, valuesIn, neither}
 use Rattle.xid.specs.Match.{badAddress, otherIdentity, otherType, otherVendor, otherScan, valueRows, payloadRows}
 use Rattle.xid.specs.Match.{meaningOf, orSilence, meantTo, payloadAnswer, readOf}
-use Rattle.xid.specs.declared.Xid.{Xid}
 use Rattle.xid.specs.declared.Xid.the-variants.{Silence, Scan, Assignment}
 
 -- ---- no payload has both shapes
@@ -92,3 +92,52 @@ module _ (i m : List ℕ) where
   pub formed-read : (ps : List Param) → paramsOf m ≡ some ps → readOf i m ≡ meantTo i (valuesOf ps)
   unfolding readOf payloadAnswer payloadRows malformed noParams valuesIn answered meantTo
   formed-read ps e = rw e
+
+-- ---- each condition, both ways: 6 to 9 are of an assignment, 10 of a scan
+
+pub malformed-exactly : (m : List ℕ) → malformed m ≡ false ↔ ((ps : List Param) × WellFormed m ps)
+unfolding malformed noParams
+malformed-exactly m = (go (paramsOf m) refl, λ (ps, f). rw (params-exactly m ps .1 f))
+  where
+    go : (o : Option (List Param)) → paramsOf m ≡ o → noParams o ≡ false → (ps : List Param) × WellFormed m ps
+    go none p e = absurd (true-not-false e)
+    go (some ps) p e = (ps, params-exactly m ps .0 p)
+
+-- a test of a shape fails
+of-shape : (s t : Bool) → s && not t ≡ true ↔ (s ≡ true) × (t ≡ false)
+of-shape s t = (
+  λ e. let (a, b) = both-of s (not t) e in (a, not-true t b),
+  λ (a, b). rw (a, b),
+)
+
+module _ (w : Values) where
+  pub neither-exactly : neither w ≡ true ↔ (isScan w ≡ false) × (isAssignment w ≡ false)
+  unfolding neither
+  neither-exactly = (go (isScan w) (isAssignment w), λ (a, b). rw (a, b))
+    where
+      go : (s a : Bool) → not (s || a) ≡ true → (s ≡ false) × (a ≡ false)
+      go true a e = absurd (true-not-false (sym e))
+      go false true e = absurd (true-not-false (sym e))
+      go false false e = (refl, refl)
+
+  pub address-exactly : badAddress w ≡ true ↔ (isAssignment w ≡ true) × (addressed (addressOf w) ≡ false)
+  unfolding badAddress
+  address-exactly = of-shape (isAssignment w) (addressed (addressOf w))
+
+  pub type-exactly : otherType w ≡ true ↔ (isAssignment w ≡ true) × (kindMatches (w .kind) ≡ false)
+  unfolding otherType
+  type-exactly = of-shape (isAssignment w) (kindMatches (w .kind))
+
+  module _ (i : List ℕ) where
+    pub identity-exactly : otherIdentity i w ≡ true
+        ↔ (isAssignment w ≡ true) × (identityMatches i (w .identity) ≡ false)
+    unfolding otherIdentity
+    identity-exactly = of-shape (isAssignment w) (identityMatches i (w .identity))
+
+    pub vendor-exactly : otherVendor i w ≡ true ↔ (isAssignment w ≡ true) × (vendorMatches i (w .vendor) ≡ false)
+    unfolding otherVendor
+    vendor-exactly = of-shape (isAssignment w) (vendorMatches i (w .vendor))
+
+    pub scan-differs : otherScan i w ≡ true ↔ (isScan w ≡ true) × (scanMatches i w ≡ false)
+    unfolding otherScan
+    scan-differs = of-shape (isScan w) (scanMatches i w)
