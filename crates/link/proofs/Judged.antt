@@ -16,9 +16,9 @@ use Rattle.link.specs.Link.{controlledBy, wrongSize, judgedFrame, frameM
 
 module _ (f : List ℕ) where
   -- "fewer than 2 or more than 76 octets"
-  pub size-exactly : wrongSize f ≡ true ↔ (length f < 2) ⊎ (frameMost < length f)
+  pub wrong-size-exactly : wrongSize f ≡ true ↔ (length f < 2) ⊎ (frameMost < length f)
   unfolding wrongSize
-  size-exactly = (
+  wrong-size-exactly = (
     go (ltb (length f) 2) refl,
     ⊎-elim (λ h. rw (lt-ltb (length f) 2 h)) (λ h. rw (lt-ltb frameMost (length f) h) (or-true (ltb (length f) 2))),
   )

@@ -6,7 +6,7 @@ use mathlib.Core.Logic.{_↔_, Iff·trans, _⊎_, ⊎-elim}
 use mathlib.Core.List.{List}
 use Prim.Native.Nat.{ℕ}
 use native.Mathlib.Omega.{arith}
-use borrow.Author.Tests.{eqb-true, eqb-false, eq-eqb}
+use borrow.Author.Tests.{eqb-true, eqb-false, eq-eqb, ne-eqb, not-true}
 use lib.Dec.{eqb}
 use lib.ListN.{length, getD, drop}
 use Rattle.octets.specs.Octets.{holds}
@@ -28,7 +28,24 @@ use Rattle.link.specs.Xids.{wrongAddress, wrongControl, xidRows, xidAnsw
 use Rattle.link.proofs.Judged.{size-right}
 use Rattle.link.proofs.Cases.{everyone-is, unread-silent}
 
--- ---- the rows of the frame
+-- ---- the rows 2 and 3, both ways; 1 is `wrong-size-exactly` of Judged
+
+module _ (f : List ℕ) where
+  pub wrong-address-exactly : wrongAddress f ≡ true ↔ (getD f 0 0 ≡ allStations → ⊥)
+  unfolding wrongAddress
+  wrong-address-exactly = (
+    λ e. eqb-false (getD f 0 0) allStations (not-true _ e),
+    λ n. ap not (ne-eqb (getD f 0 0) allStations n),
+  )
+
+  pub wrong-control-exactly : wrongControl f ≡ true ↔ (controlOf f ≡ xidControl → ⊥)
+  unfolding wrongControl
+  wrong-control-exactly = (
+    λ e. eqb-false (controlOf f) xidControl (not-true _ e),
+    λ n. ap not (ne-eqb (controlOf f) xidControl n),
+  )
+
+-- ---- what the first three rows come to
 
 module _ (i f : List ℕ) where
   missized-means : wrongSize f ≡ true → xidMeans i f ≡ xids.Xid.Silence
@@ -51,17 +68,14 @@ module _ (i f : List ℕ) where
 
 -- ---- what a frame to all stations, and an XID at any address, comes to
 
-abbrev own : Device → List ℕ
-own d = identityOf (d .plate)
-
 module _ (d : Device) (f : List ℕ) where
-  silent-both : judgedFrame d f ≡ mute d → xidMeans (own d) f ≡ xids.Xid.Silence
-      → judgedFrame d f ≡ xidBy d (xidMeans (own d) f)
+  silent-both : judgedFrame d f ≡ mute d → xidMeans (identityOf (d .plate)) f ≡ xids.Xid.Silence
+      → judgedFrame d f ≡ xidBy d (xidMeans (identityOf (d .plate)) f)
   unfolding xidBy
   silent-both e h = e ∙ sym (ap (xidBy d) h)
 
   -- to all stations
-  pub all-judged : getD f 0 0 ≡ allStations → judgedFrame d f ≡ xidBy d (xidMeans (own d) f)
+  pub all-judged : getD f 0 0 ≡ allStations → judgedFrame d f ≡ xidBy d (xidMeans (identityOf (d .plate)) f)
   unfolding wrongAddress wrongControl
   all-judged a = size (wrongSize f) refl
     where
@@ -69,22 +83,22 @@ module _ (d : Device) (f : List ℕ) where
       fits = ap not (eq-eqb (getD f 0 0) allStations a)
 
       control : wrongSize f ≡ false → (c : Bool) → eqb (controlOf f) xidControl ≡ c
-          → judgedFrame d f ≡ xidBy d (xidMeans (own d) f)
+          → judgedFrame d f ≡ xidBy d (xidMeans (identityOf (d .plate)) f)
       control s true c =
           let (least, most) = size-right f s in
           let e = eqb-true (controlOf f) xidControl c in
           everyone-is d f (record { least = least; most = most; address = a; control = e })
-          ∙ sym (ap (xidBy d) (payload-means (own d) f s fits (ap not c)))
+          ∙ sym (ap (xidBy d) (payload-means (identityOf (d .plate)) f s fits (ap not c)))
       control s false c =
           silent-both (unread-silent d f (unfit a (eqb-false (controlOf f) xidControl c)))
-          (miscontrolled-means (own d) f s fits (ap not c))
+          (miscontrolled-means (identityOf (d .plate)) f s fits (ap not c))
 
-      size : (b : Bool) → wrongSize f ≡ b → judgedFrame d f ≡ xidBy d (xidMeans (own d) f)
-      size true s = silent-both (unread-silent d f (missized s)) (missized-means (own d) f s)
+      size : (b : Bool) → wrongSize f ≡ b → judgedFrame d f ≡ xidBy d (xidMeans (identityOf (d .plate)) f)
+      size true s = silent-both (unread-silent d f (missized s)) (missized-means (identityOf (d .plate)) f s)
       size false s = control s (eqb (controlOf f) xidControl) refl
 
   -- an XID, whatever its address: at the own address it is silence, as the second row says
-  pub xid-judged : controlOf f ≡ xidControl → judgedFrame d f ≡ xidBy d (xidMeans (own d) f)
+  pub xid-judged : controlOf f ≡ xidControl → judgedFrame d f ≡ xidBy d (xidMeans (identityOf (d .plate)) f)
   unfolding wrongAddress askedBy quiet
   xid-judged c = go (eqb (getD f 0 0) allStations) refl (wrongSize f) refl
     where
@@ -92,12 +106,12 @@ module _ (d : Device) (f : List ℕ) where
       unread = rw c
 
       go : (a : Bool) → eqb (getD f 0 0) allStations ≡ a → (b : Bool) → wrongSize f ≡ b
-          → judgedFrame d f ≡ xidBy d (xidMeans (own d) f)
+          → judgedFrame d f ≡ xidBy d (xidMeans (identityOf (d .plate)) f)
       go true a b s = all-judged (eqb-true (getD f 0 0) allStations a)
-      go false a true s = silent-both (unread-silent d f (missized s)) (missized-means (own d) f s)
+      go false a true s = silent-both (unread-silent d f (missized s)) (missized-means (identityOf (d .plate)) f s)
       go false a false s =
           silent-both (unread-silent d f (unheeded (eqb-false (getD f 0 0) allStations a) unread))
-          (misaddressed-means (own d) f s (ap not a))
+          (misaddressed-means (identityOf (d .plate)) f s (ap not a))
 
 -- ---- the ten numbers, in their order
 
@@ -112,67 +126,67 @@ module _ (i f : List ℕ) where
   unfolding xidAnswer
   by-rows k = exactly-tests k (xidRows i f) (meaningOf values)
 
-  pub size-given : xidAnswer i f ≡ refuses 1 ↔ (wrongSize f ≡ true)
+  pub row-1 : xidAnswer i f ≡ refuses 1 ↔ (wrongSize f ≡ true)
   unfolding TestsFor numbersOf holds xidRows payloadRows valueRows
-  size-given = by-rows 1
+  row-1 = by-rows 1
 
-  pub address-given : xidAnswer i f ≡ refuses 2 ↔ (wrongSize f ≡ false) × (wrongAddress f ≡ true)
+  pub row-2 : xidAnswer i f ≡ refuses 2 ↔ (wrongSize f ≡ false) × (wrongAddress f ≡ true)
   unfolding TestsFor numbersOf holds xidRows payloadRows valueRows
-  address-given = by-rows 2
+  row-2 = by-rows 2
 
-  pub control-given : xidAnswer i f ≡ refuses 3
+  pub row-3 : xidAnswer i f ≡ refuses 3
       ↔ (wrongSize f ≡ false) × (wrongAddress f ≡ false) × (wrongControl f ≡ true)
   unfolding TestsFor numbersOf holds xidRows payloadRows valueRows
-  control-given = Iff·trans (by-rows 3) (λ g. (search), λ w. (search))
+  row-3 = Iff·trans (by-rows 3) (λ g. (search), λ w. (search))
 
-  pub malformed-given : xidAnswer i f ≡ refuses 4
+  pub row-4 : xidAnswer i f ≡ refuses 4
       ↔ (wrongSize f ≡ false) × (wrongAddress f ≡ false) × (wrongControl f ≡ false) × (malformed payload ≡ true)
   unfolding TestsFor numbersOf holds xidRows payloadRows valueRows
-  malformed-given = Iff·trans (by-rows 4) (λ g. (search), λ w. (search))
+  row-4 = Iff·trans (by-rows 4) (λ g. (search), λ w. (search))
 
-  pub neither-given : xidAnswer i f ≡ refuses 5
+  pub row-5 : xidAnswer i f ≡ refuses 5
       ↔ (wrongSize f ≡ false) × (wrongAddress f ≡ false) × (wrongControl f ≡ false) × (malformed payload ≡ false)
       × (neither values ≡ true)
   unfolding TestsFor numbersOf holds xidRows payloadRows valueRows
-  neither-given = Iff·trans (by-rows 5) (λ g. (search), λ w. (search))
+  row-5 = Iff·trans (by-rows 5) (λ g. (search), λ w. (search))
 
-  pub value-given : xidAnswer i f ≡ refuses 6
+  pub row-6 : xidAnswer i f ≡ refuses 6
       ↔ (wrongSize f ≡ false) × (wrongAddress f ≡ false) × (wrongControl f ≡ false) × (malformed payload ≡ false)
       × (neither values ≡ false) × (badAddress values ≡ true)
   unfolding TestsFor numbersOf holds xidRows payloadRows valueRows
-  value-given = Iff·trans (by-rows 6) (λ g. (search), λ w. (search))
+  row-6 = Iff·trans (by-rows 6) (λ g. (search), λ w. (search))
 
-  pub identity-given : xidAnswer i f ≡ refuses 7
+  pub row-7 : xidAnswer i f ≡ refuses 7
       ↔ (wrongSize f ≡ false) × (wrongAddress f ≡ false) × (wrongControl f ≡ false) × (malformed payload ≡ false)
       × (neither values ≡ false) × (badAddress values ≡ false) × (otherIdentity i values ≡ true)
   unfolding TestsFor numbersOf holds xidRows payloadRows valueRows
-  identity-given = Iff·trans (by-rows 7) (λ g. (search), λ w. (search))
+  row-7 = Iff·trans (by-rows 7) (λ g. (search), λ w. (search))
 
-  pub type-given : xidAnswer i f ≡ refuses 8
+  pub row-8 : xidAnswer i f ≡ refuses 8
       ↔ (wrongSize f ≡ false) × (wrongAddress f ≡ false) × (wrongControl f ≡ false) × (malformed payload ≡ false)
       × (neither values ≡ false) × (badAddress values ≡ false) × (otherIdentity i values ≡ false)
       × (otherType values ≡ true)
   unfolding TestsFor numbersOf holds xidRows payloadRows valueRows
-  type-given = Iff·trans (by-rows 8) (λ g. (search), λ w. (search))
+  row-8 = Iff·trans (by-rows 8) (λ g. (search), λ w. (search))
 
-  pub vendor-given : xidAnswer i f ≡ refuses 9
+  pub row-9 : xidAnswer i f ≡ refuses 9
       ↔ (wrongSize f ≡ false) × (wrongAddress f ≡ false) × (wrongControl f ≡ false) × (malformed payload ≡ false)
       × (neither values ≡ false) × (badAddress values ≡ false) × (otherIdentity i values ≡ false)
       × (otherType values ≡ false) × (otherVendor i values ≡ true)
   unfolding TestsFor numbersOf holds xidRows payloadRows valueRows
-  vendor-given = Iff·trans (by-rows 9) (λ g. (search), λ w. (search))
+  row-9 = Iff·trans (by-rows 9) (λ g. (search), λ w. (search))
 
-  pub scan-given : xidAnswer i f ≡ refuses 10
+  pub row-10 : xidAnswer i f ≡ refuses 10
       ↔ (wrongSize f ≡ false) × (wrongAddress f ≡ false) × (wrongControl f ≡ false) × (malformed payload ≡ false)
       × (neither values ≡ false) × (badAddress values ≡ false) × (otherIdentity i values ≡ false)
       × (otherType values ≡ false) × (otherVendor i values ≡ false) × (otherScan i values ≡ true)
   unfolding TestsFor numbersOf holds xidRows payloadRows valueRows
-  scan-given = Iff·trans (by-rows 10) (λ g. (search), λ w. (search))
+  row-10 = Iff·trans (by-rows 10) (λ g. (search), λ w. (search))
 
   -- none of the ten holds: a scan that is answered, or an assignment that is taken
-  pub none-given : (x : xids.Xid) → xidAnswer i f ≡ gives x ↔ Clear (xidRows i f) × (meaningOf values ≡ x)
+  pub row-none : (x : xids.Xid) → xidAnswer i f ≡ gives x ↔ Clear (xidRows i f) × (meaningOf values ≡ x)
   unfolding xidAnswer
-  none-given x = exactly-given (xidRows i f) (meaningOf values) x
+  row-none x = exactly-given (xidRows i f) (meaningOf values) x
 
 -- ---- a device answers exactly if no row holds
 
@@ -186,22 +200,22 @@ spoken d w = go (isScan w)
 
 module _ (d : Device) (f : List ℕ) (xid : controlOf f ≡ xidControl) where
   -- a number is silence, and the device as it was
-  pub number-silent : (k : ℕ) → xidAnswer (own d) f ≡ refuses k → judgedFrame d f ≡ mute d
+  pub number-silent : (k : ℕ) → xidAnswer (identityOf (d .plate)) f ≡ refuses k → judgedFrame d f ≡ mute d
   unfolding xidMeans orSilence xidBy
   number-silent k e = xid-judged d f xid ∙ ap (λ (x : Answer xids.Xid). xidBy d (orSilence x)) e
 
-  pub clear-answered : Clear (xidRows (own d) f) → judgedFrame d f ≡ xidBy d (meaningOf (valuesIn (drop 2 f)))
+  pub clear-answered : Clear (xidRows (identityOf (d .plate)) f) → judgedFrame d f ≡ xidBy d (meaningOf (valuesIn (drop 2 f)))
   unfolding xidMeans orSilence
   clear-answered c =
       xid-judged d f xid
-      ∙ ap (λ (x : Answer xids.Xid). xidBy d (orSilence x)) (none-given (own d) f _ .1 (c, refl))
+      ∙ ap (λ (x : Answer xids.Xid). xidBy d (orSilence x)) (row-none (identityOf (d .plate)) f _ .1 (c, refl))
 
-  pub answers-exactly : (judgedFrame d f .say ≡ Say.Silence → ⊥) ↔ Clear (xidRows (own d) f)
+  pub answers-exactly : (judgedFrame d f .say ≡ Say.Silence → ⊥) ↔ Clear (xidRows (identityOf (d .plate)) f)
   unfolding xidAnswer saying
   answers-exactly = (
     λ n.
-        ⊎-elim (λ g. none-given (own d) f _ .0 g .0)
+        ⊎-elim (λ g. row-none (identityOf (d .plate)) f _ .0 g .0)
         (λ r. absurd (n (ap (λ (t : Turn). t .say) (number-silent (r .0) (r .2)))))
-        (answered-all (xidRows (own d) f) (meaningOf (valuesIn (drop 2 f)))),
+        (answered-all (xidRows (identityOf (d .plate)) f) (meaningOf (valuesIn (drop 2 f)))),
     λ c e. spoken d (valuesIn (drop 2 f)) (sym (ap (λ (t : Turn). t .say) (clear-answered c)) ∙ e),
   )

@@ -93,7 +93,7 @@ module _ (i m : List ℕ) where
   unfolding readOf payloadAnswer payloadRows malformed noParams valuesIn answered meantTo
   formed-read ps e = rw e
 
--- ---- each condition, both ways: 6 to 9 are of an assignment, 10 of a scan
+-- ---- the rows 4 and 5, both ways
 
 pub malformed-exactly : (m : List ℕ) → malformed m ≡ false ↔ ((ps : List Param) × WellFormed m ps)
 unfolding malformed noParams
@@ -103,41 +103,11 @@ malformed-exactly m = (go (paramsOf m) refl, λ (ps, f). rw (params-exactly m ps
     go none p e = absurd (true-not-false e)
     go (some ps) p e = (ps, params-exactly m ps .0 p)
 
--- a test of a shape fails
-of-shape : (s t : Bool) → s && not t ≡ true ↔ (s ≡ true) × (t ≡ false)
-of-shape s t = (
-  λ e. let (a, b) = both-of s (not t) e in (a, not-true t b),
-  λ (a, b). rw (a, b),
-)
-
-module _ (w : Values) where
-  pub neither-exactly : neither w ≡ true ↔ (isScan w ≡ false) × (isAssignment w ≡ false)
-  unfolding neither
-  neither-exactly = (go (isScan w) (isAssignment w), λ (a, b). rw (a, b))
-    where
-      go : (s a : Bool) → not (s || a) ≡ true → (s ≡ false) × (a ≡ false)
-      go true a e = absurd (true-not-false (sym e))
-      go false true e = absurd (true-not-false (sym e))
-      go false false e = (refl, refl)
-
-  pub address-exactly : badAddress w ≡ true ↔ (isAssignment w ≡ true) × (addressed (addressOf w) ≡ false)
-  unfolding badAddress
-  address-exactly = of-shape (isAssignment w) (addressed (addressOf w))
-
-  pub type-exactly : otherType w ≡ true ↔ (isAssignment w ≡ true) × (kindMatches (w .kind) ≡ false)
-  unfolding otherType
-  type-exactly = of-shape (isAssignment w) (kindMatches (w .kind))
-
-  module _ (i : List ℕ) where
-    pub identity-exactly : otherIdentity i w ≡ true
-        ↔ (isAssignment w ≡ true) × (identityMatches i (w .identity) ≡ false)
-    unfolding otherIdentity
-    identity-exactly = of-shape (isAssignment w) (identityMatches i (w .identity))
-
-    pub vendor-exactly : otherVendor i w ≡ true ↔ (isAssignment w ≡ true) × (vendorMatches i (w .vendor) ≡ false)
-    unfolding otherVendor
-    vendor-exactly = of-shape (isAssignment w) (vendorMatches i (w .vendor))
-
-    pub scan-differs : otherScan i w ≡ true ↔ (isScan w ≡ true) × (scanMatches i w ≡ false)
-    unfolding otherScan
-    scan-differs = of-shape (isScan w) (scanMatches i w)
+pub neither-exactly : (w : Values) → neither w ≡ true ↔ (isScan w ≡ false) × (isAssignment w ≡ false)
+unfolding neither
+neither-exactly w = (go (isScan w) (isAssignment w), λ (a, b). rw (a, b))
+  where
+    go : (s a : Bool) → not (s || a) ≡ true → (s ≡ false) × (a ≡ false)
+    go true a e = absurd (true-not-false (sym e))
+    go false true e = absurd (true-not-false (sym e))
+    go false false e = (refl, refl)
