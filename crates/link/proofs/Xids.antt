@@ -204,7 +204,8 @@ module _ (d : Device) (f : List ℕ) (xid : controlOf f ≡ xidControl) where
   unfolding xidMeans orSilence xidBy
   number-silent k e = xid-judged d f xid ∙ ap (λ (x : Answer xids.Xid). xidBy d (orSilence x)) e
 
-  pub clear-answered : Clear (xidRows (identityOf (d .plate)) f) → judgedFrame d f ≡ xidBy d (meaningOf (valuesIn (drop 2 f)))
+  pub clear-answered : Clear (xidRows (identityOf (d .plate)) f)
+      → judgedFrame d f ≡ xidBy d (meaningOf (valuesIn (drop 2 f)))
   unfolding xidMeans orSilence
   clear-answered c =
       xid-judged d f xid
