@@ -21,6 +21,7 @@ use Rattle.record.specs.Changes.{endedAs}
 use Rattle.session.specs.Session.{goodNumber}
 use Rattle.xid.specs.Match.{readOf}
 use Rattle.xid.specs.declared.Xid as xids
+use Rattle.xid.proofs.Told.{silence-numbered}
 use Rattle.station.specs.declared.Say.{Say}
 use Rattle.station.specs.declared.Turn.{Turn}
 use Rattle.station.specs.Turns.{saying, mute}
@@ -64,7 +65,8 @@ module _ (d : Device) (f : List ℕ) where
   unread-silent (missized e) = rw e
   unread-silent (unpolled e) = controlled-silent (rw e)
   unread-silent (unfit a c) = addressed-silent (rw (a, ne-eqb (controlOf f) xidControl c))
-  unread-silent (unmeant w e) = everyone-is d f w ∙ ap (xidBy d) e
+  unread-silent (unmeant k w g) =
+      everyone-is d f w ∙ ap (xidBy d) (silence-numbered (identityOf (d .plate)) (drop 2 f) .1 (k, g))
   unread-silent (elsewhere a o) = addressed-silent (rw (ne-eqb (getD f 0 0) allStations a, o))
   unread-silent (unheeded a q) =
       addressed-silent (rw (ne-eqb (getD f 0 0) allStations a) (either (isOwn d (getD f 0 0)) (rw q) refl))
@@ -144,7 +146,9 @@ module _ (d : Device) (f : List ℕ) (P : Turn → Type 0)
 
   xid-cases : Everyone f → (x : xids.Xid) → readOf (identityOf (d .plate)) (drop 2 f) ≡ x → P (xidBy d x)
   unfolding xidBy
-  xid-cases w xids.Xid.Silence e = silent (unmeant w e)
+  xid-cases w xids.Xid.Silence e =
+      let (k, g) = silence-numbered (identityOf (d .plate)) (drop 2 f) .0 e in
+      silent (unmeant k w g)
   xid-cases w xids.Xid.Scan e = scanned w e
   xid-cases w (xids.Xid.Assignment a) e = assigned a w e
 

@@ -37,10 +37,14 @@ module _ (f : List ℕ) where
       go true e h = absurd (true-not-false h)
       go false e h = (ltb-false (length f) 2 e, ltb-false frameMost (length f) h)
 
+  pub size-fits : 2 ≤ length f → length f ≤ frameMost → wrongSize f ≡ false
+  unfolding wrongSize
+  size-fits two most = rw (le-ltb (length f) 2 two, le-ltb frameMost (length f) most)
+
 module _ (d : Device) (f : List ℕ) (two : 2 ≤ length f) (most : length f ≤ frameMost) where
   pub judged-is : judgedFrame d f ≡ controlledBy d (getD f 0 0) (getD f 1 0) (drop 2 f)
-  unfolding judgedFrame wrongSize
-  judged-is = rw (le-ltb (length f) 2 two, le-ltb frameMost (length f) most)
+  unfolding judgedFrame
+  judged-is = rw (size-fits f two most)
 
   pub judged-by : (t : Turn) → t ≡ controlledBy d (getD f 0 0) (getD f 1 0) (take (length f - 2) (drop 2 f))
       → t ≡ judgedFrame d f

@@ -6,7 +6,7 @@ use mathlib.Core.Logic.{_↔_, Iff·trans, _⊎_, ⊎-elim}
 use mathlib.Core.List.{List}
 use Prim.Native.Nat.{ℕ}
 use native.Mathlib.Omega.{arith}
-use borrow.Author.Tests.{eqb-true, eqb-false, eq-eqb, ne-eqb, not-true}
+use borrow.Author.Tests.{eqb-true, eqb-false, eq-eqb, ne-eqb, not-true, not-false}
 use lib.Dec.{eqb}
 use lib.ListN.{length, getD, drop}
 use Rattle.octets.specs.Octets.{holds}
@@ -23,9 +23,9 @@ use Rattle.station.specs.declared.Say.{Say}
 use Rattle.station.specs.declared.Turn.{Turn}
 use Rattle.station.specs.Turns.{saying, mute}
 use Rattle.link.specs.Link.{allStations, xidControl, quiet, xidBy, wrongSize, judgedFrame}
-use Rattle.link.specs.Frames.{controlOf, missized, unfit, unheeded}
+use Rattle.link.specs.Frames.{controlOf, Everyone, missized, unfit, unheeded}
 use Rattle.link.specs.Xids.{wrongAddress, wrongControl, xidRows, xidAnswer, xidMeans}
-use Rattle.link.proofs.Judged.{size-right}
+use Rattle.link.proofs.Judged.{size-right, size-fits}
 use Rattle.link.proofs.Cases.{everyone-is, unread-silent}
 
 -- ---- the rows 2 and 3, both ways; 1 is `wrong-size-exactly` of Judged
@@ -43,6 +43,25 @@ module _ (f : List ℕ) where
   wrong-control-exactly = (
     λ e. eqb-false (controlOf f) xidControl (not-true _ e),
     λ n. ap not (ne-eqb (controlOf f) xidControl n),
+  )
+
+  -- an XID frame to all stations is one of which the first three rows do not hold
+  pub everyone-exactly : Everyone f ↔ (wrongSize f ≡ false) × (wrongAddress f ≡ false) × (wrongControl f ≡ false)
+  unfolding wrongAddress wrongControl
+  everyone-exactly = (
+    λ w. (
+      size-fits f (w .least) (w .most),
+      ap not (eq-eqb (getD f 0 0) allStations (w .address)),
+      ap not (eq-eqb (controlOf f) xidControl (w .control)),
+    ),
+    λ (s, a, c).
+        let (least, most) = size-right f s in
+        record {
+          least = least;
+          most = most;
+          address = eqb-true (getD f 0 0) allStations (not-false _ a);
+          control = eqb-true (controlOf f) xidControl (not-false _ c);
+        },
   )
 
 -- ---- what the first three rows come to

@@ -15,6 +15,7 @@ use mathlib.Core.Option.{Option, none, some}
 use Prim.Native.Nat.{ℕ, _≤_}
 use lib.Dec.{eqb}
 use lib.ListN.{length, getD, drop}
+use Rattle.refusal.specs.Answer.{Given}
 use Rattle.control.specs.Control.{polled, askedBy}
 use Rattle.control.specs.declared.Order.{Order}
 use Rattle.control.specs.declared.Order.the-variants.{Xid, Snrm, Disc, Info, Rr, Rnr, Unknown}
@@ -23,8 +24,7 @@ use Rattle.record.specs.declared.Link.{Link}
 use Rattle.record.specs.declared.Link.the-variants.{NoAddress, AddressAssigned, Connected}
 use Rattle.record.specs.declared.Device.{Device}
 use Rattle.record.specs.Allowed.{identityOf}
-use Rattle.xid.specs.Match.{readOf}
-use Rattle.xid.specs.declared.Xid as xids
+use Rattle.xid.specs.Match.{payloadRows}
 use Rattle.session.specs.Session.{goodNumber}
 use Rattle.link.specs.Link.{allStations, xidControl, quiet, isOwn, frameMost, wrongSize}
 
@@ -80,8 +80,8 @@ pub data Unread (d : Device) (f : List ℕ) : Type 0 where
   unpolled : polled (controlOf f) ≡ false → Unread d f
   -- "Address 0xFF: only XID (0xBF) is read."
   unfit : getD f 0 0 ≡ allStations → (controlOf f ≡ xidControl → ⊥) → Unread d f
-  -- an XID that is malformed, neither scan nor assignment, or does not match
-  unmeant : Everyone f → readOf (identityOf (d .plate)) (drop 2 f) ≡ xids.Xid.Silence → Unread d f
+  -- an XID that is malformed, neither scan nor assignment, or does not match: the first of its rows that holds has k
+  unmeant : (k : ℕ) → Everyone f → Given k (payloadRows (identityOf (d .plate)) (drop 2 f)) → Unread d f
   -- "Any other address than the device's own nonzero one: silence."
   elsewhere : (getD f 0 0 ≡ allStations → ⊥) → isOwn d (getD f 0 0) ≡ false → Unread d f
   -- "Own address, XID: silence. SNRM, DISC, RR or RNR with payload: silence."

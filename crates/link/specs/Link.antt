@@ -25,10 +25,11 @@ use Rattle.station.specs.declared.Turn.{Turn}
 use Rattle.station.specs.Turns.{saying, mute}
 use Rattle.states.specs.States.{linkedBy}
 
--- "Address 0xFF: only XID (0xBF) is read."
+-- "Address 0xFF"
 abbrev pub allStations : ℕ
 allStations = 0xFF
 
+-- "XID (0xBF)"
 abbrev pub xidControl : ℕ
 xidControl = 0xBF
 

@@ -12,7 +12,7 @@ use station::Say;
 use station::Turn;
 use xid::Xid;
 
-// The address of a frame to every device.
+// The address of a frame to every device, and the control of an XID.
 const ALL_STATIONS: u8 = 0xFF;
 
 const XID_CONTROL: u8 = 0xBF;

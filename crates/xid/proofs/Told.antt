@@ -1,6 +1,7 @@
 -- What follows for the values of a payload from how it is judged. Assumes nothing.
 use mathlib.Core.Path.{_≡_, refl, sym, ap, _∙_}
 use mathlib.Core.Bool.{Bool, true, false, cond, not, _&&_, _||_, false≢true}
+use mathlib.Core.Logic.{_↔_, ⊎-elim}
 use mathlib.Core.List.{List, [], _∷_}
 use mathlib.Core.Option.{Option, none, some}
 use Prim.Native.Nat.{ℕ}
@@ -15,11 +16,11 @@ use Rattle.params.specs.Field.{Values, valuesOf}
 use Rattle.params.proofs.Exact.{params-exactly}
 use Rattle.params.proofs.Kept.{both-of, of-both}
 use Rattle.record.specs.Allowed.{addressed}
-use Rattle.refusal.specs.Answer.{Answer, gives, refuses, Clear}
-use Rattle.refusal.proofs.Exactly.{exactly-given}
+use Rattle.refusal.specs.Answer.{Answer, gives, refuses, Given, Clear}
+use Rattle.refusal.proofs.Exactly.{exactly, exactly-given, answered-all}
 use Rattle.xid.specs.Match.{isScan, scanShape, isAssignment, scanMatches, addressOf, identityMatches, kindMatches}
 use Rattle.xid.specs.Match.{vendorMatches, neither, badAddress, otherIdentity, otherType, otherVendor, otherScan}
-use Rattle.xid.specs.Match.{valueRows, meaningOf, orSilence, meantTo, readOf}
+use Rattle.xid.specs.Match.{valuesIn, valueRows, payloadRows, meaningOf, orSilence, meantTo, payloadAnswer, readOf}
 use Rattle.xid.proofs.Rows.{allFit, malformed-read, formed-read}
 use Rattle.xid.specs.declared.Xid.{Xid}
 use Rattle.xid.specs.declared.Xid.the-variants.{Silence, Scan, Assignment}
@@ -182,3 +183,21 @@ formed-of i m {x} e n = go (paramsOf m) refl
 
 pub read-is : (i m : List ℕ) (ps : List Param) → WellFormed m ps → readOf i m ≡ meantTo i (valuesOf ps)
 read-is i m ps f = formed-read i m ps (params-exactly m ps .1 f)
+
+-- silence is for a payload with a number, and for nothing else
+pub silence-numbered : (i m : List ℕ) → readOf i m ≡ Silence ↔ ((k : ℕ) × Given k (payloadRows i m))
+unfolding readOf payloadAnswer orSilence meaningOf
+silence-numbered i m = (
+  λ e.
+      ⊎-elim (λ g. absurd (loud (isScan w) (sym (ap orSilence g) ∙ e)))
+      (λ r. (r .0, exactly (r .0) (payloadRows i m) (meaningOf w) .0 (r .2)))
+      (answered-all (payloadRows i m) (meaningOf w)),
+  λ (k, g). ap orSilence (exactly k (payloadRows i m) (meaningOf w) .1 g),
+)
+  where
+    w : Values
+    w = valuesIn m
+
+    loud : (s : Bool) → cond s Scan (Assignment (addressOf w)) ≡ Silence → ⊥
+    loud true e = scan-loud e
+    loud false e = assignment-loud e

@@ -2,15 +2,16 @@
 -- in a well-formed payload, i the octets of the device's identity, unpadded.
 --   deviceType          == 0x01
 --   isScan w            == w is a scan: "exactly 1 and 3, of equal length"; scanShape == the first half of it
---   isAssignment w      == w is an assignment: "2 present, 3 absent"
+--   isAssignment w      == w is an assignment: "2 present, 3 absent"; assignmentShape == the same of what is given
 --   scanMatches i w     == the scan w is answered by the identity i
---   addressOf w         == the address value; `addressed` (1 to 254) says whether it is one
+--   addressOf w         == the address value; `addressed` says whether it is 1 to 254
 --   identityMatches i x == "If 1 is given": its value x is the end of the identity i
 --   kindMatches x       == "If 4 .. is given": its value x is the device's type
 --   vendorMatches i x   == "If .. 6 is given": its value x is the vendor of the identity i
 -- Why a device does not answer is the first that holds of ten conditions, in this order; the number of a row is its
 -- place. The first three, of the frame, stand in link/specs/Xids: 1 its size, 2 its address octet, 3 its control.
---   malformed m         == 4: the payload m is not well formed; valuesIn m == the values in it, none where it is not
+--   malformed m         == 4: the payload m is not well formed: noParams of what is read in it
+--   valuesIn m          == the values in the payload m, none given where it is malformed
 --   neither w           == 5: w is no scan and no assignment
 --   badAddress w        == 6: an assignment, and its address value is not 1 to 254
 --   otherIdentity i w   == 7: an assignment, and the identity in it is not the end of i
@@ -70,7 +71,7 @@ isAssignment w = assignmentShape (given (w .address)) (given (w .mask))
 unfoldable pub scanMatches : List ℕ → Values → Bool
 scanMatches i w = answersScan i (octetsIn (w .mask)) (octetsIn (w .identity))
 
--- "value 1 to 254"
+-- "2 (address, 1)"
 abbrev pub addressOf : Values → ℕ
 addressOf w = getD (octetsIn (w .address)) 0 0
 
