@@ -42,8 +42,8 @@ use Rattle.inform.specs.Inform.{heeded}
 use Rattle.params.specs.Field.{opened, triplesAfter, before, checked, allRight, rightLength, identityLong, identifiers}
 use Rattle.params.specs.Field.{noneTwice, paramsOf, valueOf, valuesOf, given, octetsIn}
 use Rattle.xid.specs.Match.{isScan, scanShape, assignmentShape, scanMatches, identityMatches, kindMatches}
-use Rattle.xid.specs.Match.{vendorMatches, assignmentMatches, assigned as assignedIn, judged as judgedXid, judgedParams}
-use Rattle.xid.specs.Match.{readOf}
+use Rattle.xid.specs.Match.{vendorMatches, noParams, malformed, valuesIn, neither, badAddress, otherIdentity, otherType}
+use Rattle.xid.specs.Match.{otherVendor, otherScan, valueRows, payloadRows, meaningOf, orSilence, payloadAnswer, readOf}
 use Rattle.payload.specs.Payloads.{messageOf, successOf, failureOf, resultOf, payloadOf}
 use Rattle.tilt.specs.Tilts.{tiltOctets, angleOf}
 use Rattle.message.specs.Messages.{driveChecks, checks, inTable, takenBy}
@@ -59,7 +59,8 @@ use Rattle.params.specs.Field.{tripleOf, fieldOf, payloadOf as xidPayload}
 use Rattle.inform.specs.Inform.{repliedBy, carriedBy, informOf}
 use Rattle.states.specs.States.{informedBy, polledBy, pausedBy, rnrBy}
 use Rattle.states.specs.States.{begun, renewed, released, rejected, infoBy, rrBy, connectedBy, isSnrm, assignedBy, linkedBy}
-use Rattle.link.specs.Link.{quiet, ownBy, xidBy, everyoneBy, isOwn, addressedBy, controlledBy, judgedFrame, frameMost}
+use Rattle.link.specs.Link.{quiet, ownBy, xidBy, everyoneBy, isOwn, addressedBy, controlledBy, frameMost, wrongSize}
+use Rattle.link.specs.Link.{judgedFrame}
 use Rattle.conduct.specs.Conduct.{after, Meeting, frame, event, meets, run}
 use Rattle.speech.specs.Speech.{pendingOctets, linkOctets, isSilent, controlBy, payloadBy, frameBy}
 use Rattle.device.specs.Judge.{reacts, judgeRows, judged, sizeOf, toldOf, frameAt, bufferAfter}
@@ -218,17 +219,19 @@ _also_ a b = (a, b)
 computed : All starred × All further
 unfolding All Holds heard scan.driven scan.fresh scan.ended scan.over scan.reported standsAt step stepIn noted listing
     goOn next carry zeroHalf named word packed rowsOf flat phaseOf stateOf fresh assigned run meets judged
-    judgeRows judgedFrame controlledBy addressedBy isOwn everyoneBy xidBy ownBy quiet linkedBy isSnrm assignedBy connectedBy
+    judgeRows wrongSize judgedFrame controlledBy addressedBy isOwn everyoneBy xidBy ownBy quiet linkedBy isSnrm assignedBy connectedBy
     rrBy infoBy rejected released begun renewed pollOf waitingPoll informedBy informOf carriedBy repliedBy polledBy saying
     deviceOf acknowledged sessionAfter stationAfter resent awaiting answersWith heeded pends acknowledges goodNumber
     accepts taken vsOf countsOf polled nextOf infoOf rrOf numberedBy askedBy unsaidAt endedAs canBe afterEvent eventRows
     happened freshOf freshFrom plateFrom identityFrom productFrom versionFrom textsAllowed dataAllowed stateAfter
     answered allowedDevice owedAllowed stationAllowed linkAllowed addressed sessionAllowed pendingFits numbersAllowed
     platesAllowed identityAllowed allowedIdentity allPrintable printable lastOf holds _atStartOf_ inRange busyOf runs
-    owesOf waitingOf unowedOf moves started restedOf at canStop atMost sameAs readOf judgedParams judgedXid paramsOf
+    owesOf waitingOf unowedOf moves started restedOf at canStop atMost sameAs readOf payloadAnswer payloadRows
+    valueRows orSilence meaningOf malformed noParams valuesIn neither badAddress otherIdentity otherType otherVendor
+    otherScan paramsOf
     opened triplesAfter before checked allRight rightLength identityLong identifiers noneTwice valuesOf valueOf given
     octetsIn isScan scanShape assignmentShape scanMatches answersScan padded masked same identityMatches kindMatches
-    vendorMatches assignmentMatches assignedIn messageOf successOf failureOf resultOf payloadOf tiltOctets angleOf
+    vendorMatches messageOf successOf failureOf resultOf payloadOf tiltOctets angleOf
     driveChecks checks inTable takenBy carriedOf outcome doneBy replies unanswered pendingOctets linkOctets isSilent
     controlBy payloadBy frameBy reacts sizeOf toldOf frameAt bufferAfter emptied toldAfter relieved indicates toTell
     idlePoll pausedBy rnrBy indicationOf changesAmong anyDiffer withAlarm isAlarm placeOf scanAnswer assignmentAnswer

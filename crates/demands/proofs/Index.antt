@@ -24,6 +24,15 @@ pub use Rattle.whole_scan.proofs.Exactly.{run-exactly, new-run-exactly}
 pub use Rattle.params.proofs.Exact.{params-exactly, one-reading}
 pub use Rattle.xid.proofs.Exactly.{scan-exactly, assignment-exactly, never-both, address-edge}
 pub use Rattle.xid.proofs.Probe.{probe-scan, probe-read}
+-- ---- why a device does not answer an XID frame: each condition, both ways, each number, both ways, and the device by them
+pub use Rattle.link.proofs.Judged.{wrong-size-exactly}
+pub use Rattle.link.proofs.Xids.{wrong-address-exactly, wrong-control-exactly, everyone-exactly}
+pub use Rattle.xid.proofs.Rows.{malformed-exactly, neither-exactly}
+pub use Rattle.xid.proofs.Exactly.{bad-address-exactly, other-identity-exactly, other-type-exactly}
+pub use Rattle.xid.proofs.Exactly.{other-vendor-exactly, other-scan-exactly}
+pub use Rattle.xid.proofs.Told.{silence-numbered}
+pub use Rattle.link.proofs.Xids.{row-1, row-2, row-3, row-4, row-5, row-6, row-7, row-8, row-9, row-10, row-none}
+pub use Rattle.link.proofs.Xids.{xid-judged, all-judged, number-silent, answers-exactly}
 -- ---- messages: each return code exactly when, and the answer that says it; set tilt alone starts a movement; what
 -- ---- the others are answered, octet by octet
 pub use Rattle.message.proofs.Exact.{given-24, given-25, given-19, given-05, given-13, given-none}

@@ -1,12 +1,12 @@
 -- All that can come of a frame: every frame does one of twelve things, each with its reason (`judged-cases`). Assumes
 -- nothing.
 use mathlib.Core.Path.{_≡_, refl, ap, _∙_}
-use mathlib.Core.Bool.{Bool, true, false, cond, _||_, or-true}
+use mathlib.Core.Bool.{Bool, true, false, cond}
 use mathlib.Core.List.{List}
 use mathlib.Core.Option.{none, some}
 use Prim.Native.Nat.{ℕ, _≤_}
-use borrow.Author.Tests.{ltb-true, ltb-false, lt-ltb, eqb-true, eqb-false, ne-eqb}
-use lib.Dec.{ltb, eqb}
+use borrow.Author.Tests.{eqb-true, eqb-false, ne-eqb}
+use lib.Dec.{eqb}
 use lib.ListN.{length, getD, drop}
 use Rattle.octets.proofs.Words.{true-not-false}
 use Rattle.control.specs.Control.{polled, askedBy}
@@ -21,16 +21,17 @@ use Rattle.record.specs.Changes.{endedAs}
 use Rattle.session.specs.Session.{goodNumber}
 use Rattle.xid.specs.Match.{readOf}
 use Rattle.xid.specs.declared.Xid as xids
+use Rattle.xid.proofs.Told.{silence-numbered}
 use Rattle.station.specs.declared.Say.{Say}
 use Rattle.station.specs.declared.Turn.{Turn}
 use Rattle.station.specs.Turns.{saying, mute}
 use Rattle.states.specs.States.{begun, renewed, released, ua, dm, rejected, informedBy, polledBy, pausedBy}
 use Rattle.states.specs.States.{infoBy, rrBy, rnrBy, connectedBy, isSnrm, assignedBy, linkedBy}
-use Rattle.link.specs.Link.{quiet, ownBy, xidBy, everyoneBy, isOwn, addressedBy, controlledBy, frameMost}
-use Rattle.link.specs.Link.{judgedFrame}
+use Rattle.link.specs.Link.{allStations, xidControl, quiet, ownBy, xidBy, everyoneBy, isOwn, addressedBy}
+use Rattle.link.specs.Link.{controlledBy, frameMost, wrongSize, judgedFrame}
 use Rattle.link.specs.Frames.{controlOf, Own, numberIn, Numbered, Everyone, Unread}
-use Rattle.link.specs.Frames.{short, long, unpolled, unfit, unmeant, elsewhere, unheeded, unassigned}
-use Rattle.link.proofs.Judged.{judged-is}
+use Rattle.link.specs.Frames.{missized, unpolled, unfit, unmeant, elsewhere, unheeded, unassigned}
+use Rattle.link.proofs.Judged.{size-right, judged-is}
 
 pub own-is : (d : Device) (f : List ℕ) (o : Order) → Own d f o
     → judgedFrame d f ≡ linkedBy d (d .station .link) o (controlOf f) (drop 2 f)
@@ -52,7 +53,7 @@ either false e h = h
 module _ (d : Device) (f : List ℕ) where
   controlled-silent : controlledBy d (getD f 0 0) (controlOf f) (drop 2 f) ≡ mute d → judgedFrame d f ≡ mute d
   unfolding judgedFrame
-  controlled-silent e = either (ltb (length f) 2 || ltb frameMost (length f)) refl e
+  controlled-silent e = either (wrongSize f) refl e
 
   addressed-silent : addressedBy d (getD f 0 0) (controlOf f) (drop 2 f) ≡ mute d → judgedFrame d f ≡ mute d
   unfolding controlledBy
@@ -61,14 +62,14 @@ module _ (d : Device) (f : List ℕ) where
   -- every reason is one
   pub unread-silent : Unread d f → judgedFrame d f ≡ mute d
   unfolding judgedFrame controlledBy addressedBy everyoneBy ownBy xidBy linkedBy
-  unread-silent (short h) = rw (lt-ltb (length f) 2 h)
-  unread-silent (long h) = rw (lt-ltb frameMost (length f) h, or-true (ltb (length f) 2))
+  unread-silent (missized e) = rw e
   unread-silent (unpolled e) = controlled-silent (rw e)
-  unread-silent (unfit a c) = addressed-silent (rw (a, ne-eqb (controlOf f) 0xBF c))
-  unread-silent (unmeant w e) = everyone-is d f w ∙ ap (xidBy d) e
-  unread-silent (elsewhere a o) = addressed-silent (rw (ne-eqb (getD f 0 0) 0xFF a, o))
+  unread-silent (unfit a c) = addressed-silent (rw (a, ne-eqb (controlOf f) xidControl c))
+  unread-silent (unmeant k w g) =
+      everyone-is d f w ∙ ap (xidBy d) (silence-numbered (identityOf (d .plate)) (drop 2 f) .1 (k, g))
+  unread-silent (elsewhere a o) = addressed-silent (rw (ne-eqb (getD f 0 0) allStations a, o))
   unread-silent (unheeded a q) =
-      addressed-silent (rw (ne-eqb (getD f 0 0) 0xFF a) (either (isOwn d (getD f 0 0)) (rw q) refl))
+      addressed-silent (rw (ne-eqb (getD f 0 0) allStations a) (either (isOwn d (getD f 0 0)) (rw q) refl))
   unread-silent (unassigned o w l) =
       own-is d f o w ∙ ap (λ (k : Link). linkedBy d k o (controlOf f) (drop 2 f)) l
 
@@ -145,48 +146,48 @@ module _ (d : Device) (f : List ℕ) (P : Turn → Type 0)
 
   xid-cases : Everyone f → (x : xids.Xid) → readOf (identityOf (d .plate)) (drop 2 f) ≡ x → P (xidBy d x)
   unfolding xidBy
-  xid-cases w xids.Xid.Silence e = silent (unmeant w e)
+  xid-cases w xids.Xid.Silence e =
+      let (k, g) = silence-numbered (identityOf (d .plate)) (drop 2 f) .0 e in
+      silent (unmeant k w g)
   xid-cases w xids.Xid.Scan e = scanned w e
   xid-cases w (xids.Xid.Assignment a) e = assigned a w e
 
   module _ (least : 2 ≤ length f) (most : length f ≤ frameMost) where
-    everyone-cases : getD f 0 0 ≡ 0xFF → (b : Bool) → eqb (controlOf f) 0xBF ≡ b
+    everyone-cases : getD f 0 0 ≡ allStations → (b : Bool) → eqb (controlOf f) xidControl ≡ b
         → P (cond b (xidBy d (readOf (identityOf (d .plate)) (drop 2 f))) (mute d))
     everyone-cases a true e =
         xid-cases (record { least = least; most = most; address = a; control = eqb-true _ _ e }) _ refl
-    everyone-cases a false e = silent (unfit a (eqb-false (controlOf f) 0xBF e))
+    everyone-cases a false e = silent (unfit a (eqb-false (controlOf f) xidControl e))
 
-    own-cases : polled (controlOf f) ≡ true → eqb (getD f 0 0) 0xFF ≡ false → isOwn d (getD f 0 0) ≡ true
+    own-cases : polled (controlOf f) ≡ true → eqb (getD f 0 0) allStations ≡ false → isOwn d (getD f 0 0) ≡ true
         → (b : Bool) → quiet (askedBy (controlOf f)) (eqb (length (drop 2 f)) 0) ≡ b → P
         (cond b (mute d) (linkedBy d (d .station .link) (askedBy (controlOf f)) (controlOf f) (drop 2 f)))
-    own-cases p a o true e = silent (unheeded (eqb-false (getD f 0 0) 0xFF a) e)
+    own-cases p a o true e = silent (unheeded (eqb-false (getD f 0 0) allStations a) e)
     own-cases p a o false e =
         linked-cases (askedBy (controlOf f))
         (record { least = least; most = most; poll = p; all = a; own = o; order = refl; read = e }) _ refl
 
-    addressed-cases : polled (controlOf f) ≡ true → (a : Bool) → eqb (getD f 0 0) 0xFF ≡ a → (o : Bool)
+    addressed-cases : polled (controlOf f) ≡ true → (a : Bool) → eqb (getD f 0 0) allStations ≡ a → (o : Bool)
         → isOwn d (getD f 0 0) ≡ o → P
         (cond a (everyoneBy d (controlOf f) (drop 2 f))
         (cond o (ownBy d (askedBy (controlOf f)) (controlOf f) (drop 2 f)) (mute d)))
     unfolding everyoneBy ownBy
-    addressed-cases p true a o e = everyone-cases (eqb-true _ _ a) (eqb (controlOf f) 0xBF) refl
+    addressed-cases p true a o e = everyone-cases (eqb-true _ _ a) (eqb (controlOf f) xidControl) refl
     addressed-cases p false a true e = own-cases p a e _ refl
-    addressed-cases p false a false e = silent (elsewhere (eqb-false (getD f 0 0) 0xFF a) e)
+    addressed-cases p false a false e = silent (elsewhere (eqb-false (getD f 0 0) allStations a) e)
 
     controlled-cases : (p : Bool) → polled (controlOf f) ≡ p
         → P (cond p (addressedBy d (getD f 0 0) (controlOf f) (drop 2 f)) (mute d))
     unfolding addressedBy
-    controlled-cases true p = addressed-cases p (eqb (getD f 0 0) 0xFF) refl (isOwn d (getD f 0 0)) refl
+    controlled-cases true p = addressed-cases p (eqb (getD f 0 0) allStations) refl (isOwn d (getD f 0 0)) refl
     controlled-cases false p = silent (unpolled p)
 
   -- each frame does one of these things
   pub judged-cases : P (judgedFrame d f)
   unfolding judgedFrame controlledBy
-  judged-cases = go (ltb (length f) 2) refl (ltb frameMost (length f)) refl
+  judged-cases = go (wrongSize f) refl
     where
-      go : (a : Bool) → ltb (length f) 2 ≡ a → (b : Bool) → ltb frameMost (length f) ≡ b
-          → P (cond (a || b) (mute d) (controlledBy d (getD f 0 0) (getD f 1 0) (drop 2 f)))
-      go true a b e = silent (short (ltb-true (length f) 2 a))
-      go false a true e = silent (long (ltb-true frameMost (length f) e))
-      go false a false e =
-          controlled-cases (ltb-false (length f) 2 a) (ltb-false frameMost (length f) e) (polled (controlOf f)) refl
+      go : (b : Bool) → wrongSize f ≡ b
+          → P (cond b (mute d) (controlledBy d (getD f 0 0) (getD f 1 0) (drop 2 f)))
+      go true e = silent (missized e)
+      go false e = let (least, most) = size-right f e in controlled-cases least most (polled (controlOf f)) refl

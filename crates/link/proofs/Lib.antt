@@ -2,4 +2,5 @@
 pub mod Silence
 pub mod Judged
 pub mod Cases
+pub mod Xids
 pub mod Only

@@ -3,7 +3,7 @@
 --   hasAddress l       == an address is assigned in the link state l
 --   Own d f o          == f is read at the own address of the device d, and its control asks o
 --   Numbered d f o r s == the same in the session s, and the N(R) = r of the order o is good
---   Everyone f         == f is an XID frame to 0xFF
+--   Everyone f         == f is an XID frame to all stations, of a right size
 --   numberIn o         == the N(R) of the order o, if it has one
 --   Supervised o       == o is "SNRM, DISC, RR or RNR", which have no payload
 --   Unread d f         == d is silent to f, and why
@@ -12,9 +12,10 @@ use mathlib.Core.Path.{_≡_}
 use mathlib.Core.Bool.{Bool, true, false}
 use mathlib.Core.List.{List}
 use mathlib.Core.Option.{Option, none, some}
-use Prim.Native.Nat.{ℕ, _<_, _≤_}
+use Prim.Native.Nat.{ℕ, _≤_}
 use lib.Dec.{eqb}
 use lib.ListN.{length, getD, drop}
+use Rattle.refusal.specs.Answer.{Given}
 use Rattle.control.specs.Control.{polled, askedBy}
 use Rattle.control.specs.declared.Order.{Order}
 use Rattle.control.specs.declared.Order.the-variants.{Xid, Snrm, Disc, Info, Rr, Rnr, Unknown}
@@ -23,10 +24,9 @@ use Rattle.record.specs.declared.Link.{Link}
 use Rattle.record.specs.declared.Link.the-variants.{NoAddress, AddressAssigned, Connected}
 use Rattle.record.specs.declared.Device.{Device}
 use Rattle.record.specs.Allowed.{identityOf}
-use Rattle.xid.specs.Match.{readOf}
-use Rattle.xid.specs.declared.Xid as xids
+use Rattle.xid.specs.Match.{payloadRows}
 use Rattle.session.specs.Session.{goodNumber}
-use Rattle.link.specs.Link.{quiet, isOwn, frameMost}
+use Rattle.link.specs.Link.{allStations, xidControl, quiet, isOwn, frameMost, wrongSize}
 
 abbrev pub controlOf : List ℕ → ℕ
 controlOf f = getD f 1 0
@@ -40,7 +40,7 @@ pub record Own (d : Device) (f : List ℕ) (o : Order) : Type 0 where
   pub least : 2 ≤ length f
   pub most : length f ≤ frameMost
   pub poll : polled (controlOf f) ≡ true
-  pub all : eqb (getD f 0 0) 0xFF ≡ false
+  pub all : eqb (getD f 0 0) allStations ≡ false
   pub own : isOwn d (getD f 0 0) ≡ true
   pub order : askedBy (controlOf f) ≡ o
   pub read : quiet o (eqb (length (drop 2 f)) 0) ≡ false
@@ -53,8 +53,8 @@ pub record Numbered (d : Device) (f : List ℕ) (o : Order) (r : ℕ) (s : Sessi
 pub record Everyone (f : List ℕ) : Type 0 where
   pub least : 2 ≤ length f
   pub most : length f ≤ frameMost
-  pub address : getD f 0 0 ≡ 0xFF
-  pub control : controlOf f ≡ 0xBF
+  pub address : getD f 0 0 ≡ allStations
+  pub control : controlOf f ≡ xidControl
 
 -- the N(R) of "I, RR and RNR"
 abbrev pub numberIn : Order → Option ℕ
@@ -75,17 +75,17 @@ pub data Supervised (o : Order) : Type 0 where
 
 pub data Unread (d : Device) (f : List ℕ) : Type 0 where
   -- "fewer than 2 or more than 76 octets, silence"
-  short : length f < 2 → Unread d f
-  long : frameMost < length f → Unread d f
+  missized : wrongSize f ≡ true → Unread d f
   -- "Control octets below have the poll bit set; with it clear, silence."
   unpolled : polled (controlOf f) ≡ false → Unread d f
   -- "Address 0xFF: only XID (0xBF) is read."
-  unfit : getD f 0 0 ≡ 0xFF → (controlOf f ≡ 0xBF → ⊥) → Unread d f
-  -- an XID that is malformed, neither scan nor assignment, or does not match
-  unmeant : Everyone f → readOf (identityOf (d .plate)) (drop 2 f) ≡ xids.Xid.Silence → Unread d f
+  unfit : getD f 0 0 ≡ allStations → (controlOf f ≡ xidControl → ⊥) → Unread d f
+  -- an XID that is malformed, neither scan nor assignment, or does not match: the first of its rows that holds has k
+  unmeant : (k : ℕ) → Everyone f → Given k (payloadRows (identityOf (d .plate)) (drop 2 f)) → Unread d f
   -- "Any other address than the device's own nonzero one: silence."
-  elsewhere : (getD f 0 0 ≡ 0xFF → ⊥) → isOwn d (getD f 0 0) ≡ false → Unread d f
+  elsewhere : (getD f 0 0 ≡ allStations → ⊥) → isOwn d (getD f 0 0) ≡ false → Unread d f
   -- "Own address, XID: silence. SNRM, DISC, RR or RNR with payload: silence."
-  unheeded : (getD f 0 0 ≡ 0xFF → ⊥) → quiet (askedBy (controlOf f)) (eqb (length (drop 2 f)) 0) ≡ true → Unread d f
+  unheeded : (getD f 0 0 ≡ allStations → ⊥) → quiet (askedBy (controlOf f)) (eqb (length (drop 2 f)) 0) ≡ true
+      → Unread d f
   -- a nonzero address in NoAddress, which no allowed record has
   unassigned : (o : Order) → Own d f o → d .station .link ≡ NoAddress → Unread d f

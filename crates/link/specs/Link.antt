@@ -1,7 +1,9 @@
 -- A decoded frame judged. 01, "The link".
+--   allStations      == 0xFF, the address of a frame to every device; xidControl == 0xBF
 --   quiet o bare     == o is not read at the own address, with payload or bare
 --   ownBy d o c p    == at the own address
---   xidBy d x        == at 0xFF, an XID that means x
+--   xidBy d x        == to all stations, an XID that means x
+--   wrongSize f      == f has "fewer than 2 or more than 76 octets"
 --   judgedFrame d f  == the frame f, of address, control and payload
 -- Assumes nothing.
 use mathlib.Core.Bool.{Bool, true, false, cond, not, _&&_, _||_}
@@ -22,6 +24,14 @@ use Rattle.station.specs.declared.Say.{Say}
 use Rattle.station.specs.declared.Turn.{Turn}
 use Rattle.station.specs.Turns.{saying, mute}
 use Rattle.states.specs.States.{linkedBy}
+
+-- "Address 0xFF"
+abbrev pub allStations : ℕ
+allStations = 0xFF
+
+-- "XID (0xBF)"
+abbrev pub xidControl : ℕ
+xidControl = 0xBF
 
 -- "Own address, XID: silence. SNRM, DISC, RR or RNR with payload: silence."
 unfoldable pub quiet : Order → Bool → Bool
@@ -44,14 +54,15 @@ xidBy d (xids.Xid.Assignment a) = saying (endedAs d a AddressAssigned) Say.Assig
 
 -- "Address 0xFF: only XID (0xBF) is read."
 unfoldable pub everyoneBy : Device → ℕ → List ℕ → Turn
-everyoneBy d c p = cond (eqb c 0xBF) (xidBy d (readOf (identityOf (d .plate)) p)) (mute d)
+everyoneBy d c p = cond (eqb c xidControl) (xidBy d (readOf (identityOf (d .plate)) p)) (mute d)
 
 -- "Any other address than the device's own nonzero one: silence."
 unfoldable pub isOwn : Device → ℕ → Bool
 isOwn d a = eqb a (d .station .desk .address) && not (eqb a 0)
 
 unfoldable pub addressedBy : Device → ℕ → ℕ → List ℕ → Turn
-addressedBy d a c p = cond (eqb a 0xFF) (everyoneBy d c p) (cond (isOwn d a) (ownBy d (askedBy c) c p) (mute d))
+addressedBy d a c p =
+    cond (eqb a allStations) (everyoneBy d c p) (cond (isOwn d a) (ownBy d (askedBy c) c p) (mute d))
 
 -- "Control octets below have the poll bit set; with it clear, silence."
 unfoldable pub controlledBy : Device → ℕ → ℕ → List ℕ → Turn
@@ -61,6 +72,8 @@ controlledBy d a c p = cond (polled c) (addressedBy d a c p) (mute d)
 abbrev pub frameMost : ℕ
 frameMost = 76
 
+unfoldable pub wrongSize : List ℕ → Bool
+wrongSize f = ltb (length f) 2 || ltb frameMost (length f)
+
 unfoldable pub judgedFrame : Device → List ℕ → Turn
-judgedFrame d f =
-    cond (ltb (length f) 2 || ltb frameMost (length f)) (mute d) (controlledBy d (getD f 0 0) (getD f 1 0) (drop 2 f))
+judgedFrame d f = cond (wrongSize f) (mute d) (controlledBy d (getD f 0 0) (getD f 1 0) (drop 2 f))

@@ -12,6 +12,11 @@ use station::Say;
 use station::Turn;
 use xid::Xid;
 
+// The address of a frame to every device, and the control of an XID.
+const ALL_STATIONS: u8 = 0xFF;
+
+const XID_CONTROL: u8 = 0xBF;
+
 fn say(device: Device, say: Say) -> Turn
     ensures { λ r. ⌜ r ≡ saying device say ⌝ }
 {
@@ -62,7 +67,7 @@ fn everyone(device: Device, control: u8, m: &[u8]) -> Turn
     ensures { λ r. ⌜ r ≡ everyoneBy device control (now (m .entry)) ⌝ }
 {
     let plate = device.plate;
-    if control == 0xBF {
+    if control == XID_CONTROL {
         return by_xid(device, xid::read(plate, m));
     }
     say(device, Say::Silence)
@@ -83,7 +88,7 @@ fn is_own(device: Device, address: u8) -> bool
 fn addressed(device: Device, address: u8, control: u8, m: &[u8]) -> Turn
     ensures { λ r. ⌜ r ≡ addressedBy device address control (now (m .entry)) ⌝ }
 {
-    if address == 0xFF {
+    if address == ALL_STATIONS {
         return everyone(device, control, m);
     }
     if is_own(device, address) {

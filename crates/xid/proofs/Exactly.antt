@@ -1,17 +1,19 @@
 -- A scan is answered exactly if the padded identity, its left-most octets masked, is the value; an assignment is taken
--- exactly if its address value is 1 to 254 and all that it names fits; no payload is both. For octets of any content
--- and identities of any octets. Assumes nothing.
+-- exactly if its address value is 1 to 254 and all that it names fits; no payload is both; each mismatch, which is of
+-- one of the two. For octets of any content and identities of any octets. Assumes nothing.
 use mathlib.Core.Path.{_≡_, refl, sym, ap, _∙_}
-use mathlib.Core.Bool.{Bool, true, cond, not, _&&_}
+use mathlib.Core.Bool.{Bool, true, false, cond, not, _&&_}
 use mathlib.Core.Logic.{_↔_, _⊎_, ⊎-elim}
 use mathlib.Core.List.{List, [], _∷_}
 use mathlib.Core.Option.{Option, none, some}
-use Prim.Native.Nat.{ℕ}
+use Prim.Native.Nat.{ℕ, _≤_}
 use native.Mathlib.Omega.{arith}
 use borrow.Author.Tests.{eq-eqb, leb-true, le-leb, ltb-true, lt-ltb, not-true}
 use lib.Dec.{leb, ltb}
 use lib.ListN.{length, take}
-use Rattle.identity.specs.Identity.{vendor, same, answersScan}
+use Rattle.octets.proofs.Words.{true-not-false}
+use Rattle.identity.specs.Bits.{masked}
+use Rattle.identity.specs.Identity.{vendor, same, padded, answersScan}
 use Rattle.identity.proofs.Scans.{same-is, is-same}
 use Rattle.compare.specs.Rows.{rightmost, endsWith}
 use Rattle.record.specs.Allowed.{addressed}
@@ -19,20 +21,24 @@ use Rattle.params.specs.Field.{given, octetsIn}
 use Rattle.params.specs.Field.{Values, valuesOf}
 use Rattle.params.proofs.Exact.{one-reading}
 use Rattle.params.proofs.Kept.{both-of, of-both}
-use Rattle.xid.specs.Match.{deviceType, isScan, scanShape, assignmentShape, scanMatches}
-use Rattle.xid.specs.Match.{identityMatches, kindMatches, vendorMatches, assignmentMatches, assigned, judged}
-use Rattle.xid.specs.Match.{readOf}
+use Rattle.xid.specs.Match.{deviceType, isScan, scanShape, isAssignment, assignmentShape, scanMatches, addressOf}
+use Rattle.xid.specs.Match.{identityMatches, kindMatches, vendorMatches, badAddress, otherIdentity, otherType}
+use Rattle.xid.specs.Match.{otherVendor, otherScan, readOf}
 use Rattle.xid.specs.Meaning.{ScanOf, AssignmentOf, IfGiven, EndOf, Meant, Answers, Takes}
-use Rattle.xid.proofs.Told.{given-none, values-are, scan-values, unmasked, address-one, scan-told}
-use Rattle.xid.proofs.Told.{assignment-told, formed-of, read-is}
+use Rattle.xid.proofs.Rows.{scan-meant, assignment-meant}
+use Rattle.xid.proofs.Told.{given-none, values-are, scan-values, address-one, scan-told}
+use Rattle.xid.proofs.Told.{scan-loud, assignment-loud, assignment-told, formed-of, read-is}
 use Rattle.xid.specs.declared.Xid.the-variants.{Silence, Scan, Assignment}
 
 -- ---- the scan
 
 -- a scan is answered by these devices, and stays silent at all others
 pub scan-read : (i m v k : List ℕ) → ScanOf m v k → readOf i m ≡ cond (answersScan i k v) Scan Silence
-unfolding judged isScan scanShape given octetsIn scanMatches
-scan-read i m v k s = read-is i m (s .params) (s .formed) ∙ rw (s .values, eq-eqb (length v) (length k) (s .equal))
+unfolding isScan scanShape given octetsIn scanMatches
+scan-read i m v k s =
+    read-is i m (s .params) (s .formed)
+    ∙ scan-meant i (valuesOf (s .params)) (rw (s .values, eq-eqb (length v) (length k) (s .equal)))
+    ∙ rw (s .values)
 
 pub scan-exactly : (i m : List ℕ) → readOf i m ≡ Scan ↔ Answers i m
 unfolding scanMatches answersScan
@@ -40,7 +46,7 @@ scan-exactly i m = (there, back)
   where
     there : readOf i m ≡ Scan → Answers i m
     there e =
-        let (ps, f, j) = formed-of i m e (λ (n : Scan ≡ Silence). let z : _≡_ {A = ℕ} 0 1 = cc in omega arith) in
+        let (ps, f, j) = formed-of i m e scan-loud in
         let w = valuesOf ps in
         let (s, t) = scan-told i w j in
         let (vs, long) = scan-values w s in (
@@ -120,19 +126,19 @@ matches-exactly i a x y z = (there, back)
 pub assignment-read : (i m : List ℕ) (a : ℕ) (x y z : Option (List ℕ)) → AssignmentOf m a x y z
     → readOf i m
     ≡ cond (addressed a && (identityMatches i x && (kindMatches y && vendorMatches i z))) (Assignment a) Silence
-unfolding judged assignmentShape assigned assignmentMatches given octetsIn
+unfolding assignmentShape given octetsIn
 assignment-read i m a x y z s =
-    let w : Values = record { identity = x; address = some (a ∷ []); mask = none; kind = y; vendor = z } in
-    read-is i m (s .params) (s .formed) ∙ rw (s .values, unmasked w refl)
+    read-is i m (s .params) (s .formed)
+    ∙ assignment-meant i (valuesOf (s .params)) (rw (s .values))
+    ∙ rw (s .values)
 
 pub assignment-exactly : (i m : List ℕ) (a : ℕ) → readOf i m ≡ Assignment a ↔ Takes i m a
-unfolding assignmentShape assignmentMatches valuesOf
+unfolding assignmentShape valuesOf
 assignment-exactly i m a = (there, back)
   where
     there : readOf i m ≡ Assignment a → Takes i m a
     there e =
-        let loud : Assignment a ≡ Silence → ⊥ = λ n. let z : _≡_ {A = ℕ} 0 1 = cc in omega arith in
-        let (ps, f, j) = formed-of i m e loud in
+        let (ps, f, j) = formed-of i m e assignment-loud in
         let w = valuesOf ps in
         let (s, t, u) = assignment-told i w a j in
         let (there, no-mask) = both-of (given (w .address)) (not (given (w .mask))) s in
@@ -149,6 +155,58 @@ assignment-exactly i m a = (there, back)
     back (x, y, z, s, w) =
         assignment-read i m a x y z s
         ∙ ap (λ (t : Bool). cond t (Assignment a) Silence) (matches-exactly i a x y z .1 w)
+
+-- ---- the rows 6 to 10, both ways: a payload of the shape, and what 01 asks of it is not so
+
+mismatch : (s t : Bool) {P : Type 0} → (t ≡ true ↔ P) → s && not t ≡ true ↔ (s ≡ true) × (P → ⊥)
+mismatch s t {P} (told, tells) = (
+  λ e.
+      let (a, b) = both-of s (not t) e in
+      (a, λ p. true-not-false (sym (tells p) ∙ not-true t b)),
+  λ (a, n). rw a (go t told n),
+)
+  where
+    go : (b : Bool) → (b ≡ true → P) → (P → ⊥) → not b ≡ true
+    go true h n = absurd (n (h refl))
+    go false h n = refl
+
+module _ (w : Values) where
+  pub bad-address-exactly : badAddress w ≡ true
+      ↔ (isAssignment w ≡ true) × ((1 ≤ addressOf w) × (addressOf w ≤ 254) → ⊥)
+  unfolding badAddress addressed
+  bad-address-exactly =
+      mismatch (isAssignment w) (ltb 0 (addressOf w) && ltb (addressOf w) 255) (
+        λ e.
+            let (low, high) = both-of (ltb 0 (addressOf w)) (ltb (addressOf w) 255) e in
+            (ltb-true 0 (addressOf w) low, omega (arith, ltb-true (addressOf w) 255 high)),
+        λ (least, most).
+            of-both (lt-ltb 0 (addressOf w) least) (lt-ltb (addressOf w) 255 (omega (arith, most))),
+      )
+
+  pub other-type-exactly : otherType w ≡ true
+      ↔ (isAssignment w ≡ true) × (IfGiven (w .kind) (λ (v : List ℕ). v ≡ deviceType ∷ []) → ⊥)
+  unfolding otherType
+  other-type-exactly =
+      mismatch (isAssignment w) (kindMatches (w .kind)) (kind-told (w .kind), kind-tells (w .kind))
+
+  module _ (i : List ℕ) where
+    pub other-identity-exactly : otherIdentity i w ≡ true
+        ↔ (isAssignment w ≡ true) × (IfGiven (w .identity) (EndOf i) → ⊥)
+    unfolding otherIdentity
+    other-identity-exactly =
+        mismatch (isAssignment w) (identityMatches i (w .identity))
+        (own-told i (w .identity), own-tells i (w .identity))
+
+    pub other-vendor-exactly : otherVendor i w ≡ true
+        ↔ (isAssignment w ≡ true) × (IfGiven (w .vendor) (λ (v : List ℕ). v ≡ take vendor i) → ⊥)
+    unfolding otherVendor
+    other-vendor-exactly =
+        mismatch (isAssignment w) (vendorMatches i (w .vendor)) (maker-told i (w .vendor), maker-tells i (w .vendor))
+
+    pub other-scan-exactly : otherScan i w ≡ true
+        ↔ (isScan w ≡ true) × (masked (padded i) (octetsIn (w .mask)) ≡ octetsIn (w .identity) → ⊥)
+    unfolding otherScan scanMatches answersScan
+    other-scan-exactly = mismatch (isScan w) (scanMatches i w) (same-is _ _, is-same _ _)
 
 -- ---- never both; the edges
 

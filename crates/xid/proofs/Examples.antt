@@ -1,5 +1,6 @@
 -- Computed, for the device of vendor KA with the serial number 0123: an assignment compares from the right and
--- unpadded, a scan from the left and padded; the edges of 01; payloads that are malformed. Assumes nothing.
+-- unpadded, a scan from the left and padded; the edges of 01; payloads that are malformed; each of the numbers 4 to
+-- 10. Assumes nothing.
 use mathlib.Core.Path.{_≡_, refl}
 use mathlib.Core.List.{List, [], _∷_}
 use Prim.Native.Nat.{ℕ}
@@ -10,79 +11,91 @@ use Rattle.compare.specs.Rows.{endsWith}
 use Rattle.record.specs.Allowed.{addressed}
 use Rattle.params.specs.Field.{opened, triplesAfter, before, checked, allRight, rightLength, identityLong, identifiers}
 use Rattle.params.specs.Field.{noneTwice, paramsOf, valueOf, valuesOf, given, octetsIn}
+use Rattle.refusal.specs.Answer.{Answer, gives, refuses, answered}
 use Rattle.xid.specs.Match.{isScan, scanShape, assignmentShape, scanMatches, identityMatches, kindMatches}
-use Rattle.xid.specs.Match.{vendorMatches, assignmentMatches, assigned, judged, judgedParams, readOf}
+use Rattle.xid.specs.Match.{vendorMatches, noParams, malformed, valuesIn, neither, badAddress, otherIdentity}
+use Rattle.xid.specs.Match.{otherType, otherVendor, otherScan, valueRows, payloadRows, meaningOf}
+use Rattle.xid.specs.Match.{payloadAnswer}
 use Rattle.xid.specs.declared.Xid.{Xid}
-use Rattle.xid.specs.declared.Xid.the-variants.{Silence, Scan, Assignment}
+use Rattle.xid.specs.declared.Xid.the-variants.{Scan, Assignment}
 
 infix 70 _gets_
 pub data Row : Type 0 where
-  _gets_ : List ℕ → Xid → Row
+  _gets_ : List ℕ → Answer Xid → Row
 
 abbrev pub ka : List ℕ
 ka = 0x4B ∷ 0x41 ∷ 0x30 ∷ 0x31 ∷ 0x32 ∷ 0x33 ∷ []
 
--- each payload means that to this device
+-- each payload means that to this device, or gets that number
 abbrev pub All : List Row → Type 0
 All [] = Unit {0}
-All (m gets x ∷ rows) = (readOf ka m ≡ x) × All rows
+All (m gets x ∷ rows) = (payloadAnswer ka m ≡ x) × All rows
 
 -- an assignment, from the right: the right-most three octets of the identity, and the left-most three
 abbrev pub right : List Row
 right =
-    (0x81 ∷ 0xF0 ∷ 8 ∷ 1 ∷ 3 ∷ 0x31 ∷ 0x32 ∷ 0x33 ∷ 2 ∷ 1 ∷ 7 ∷ []) gets Assignment 7
-    ∷ (0x81 ∷ 0xF0 ∷ 8 ∷ 1 ∷ 3 ∷ 0x4B ∷ 0x41 ∷ 0x30 ∷ 2 ∷ 1 ∷ 7 ∷ []) gets Silence ∷ []
+    (0x81 ∷ 0xF0 ∷ 8 ∷ 1 ∷ 3 ∷ 0x31 ∷ 0x32 ∷ 0x33 ∷ 2 ∷ 1 ∷ 7 ∷ []) gets gives (Assignment 7)
+    ∷ (0x81 ∷ 0xF0 ∷ 8 ∷ 1 ∷ 3 ∷ 0x4B ∷ 0x41 ∷ 0x30 ∷ 2 ∷ 1 ∷ 7 ∷ []) gets refuses 7 ∷ []
 
 -- and unpadded: all of it, and its end with padding
 abbrev pub unpadded : List Row
 unpadded =
-    (0x81 ∷ 0xF0 ∷ 11 ∷ 2 ∷ 1 ∷ 7 ∷ 1 ∷ 6 ∷ 0x4B ∷ 0x41 ∷ 0x30 ∷ 0x31 ∷ 0x32 ∷ 0x33 ∷ []) gets Assignment 7
-    ∷ (0x81 ∷ 0xF0 ∷ 7 ∷ 1 ∷ 2 ∷ 0x33 ∷ 0x20 ∷ 2 ∷ 1 ∷ 7 ∷ []) gets Silence ∷ []
+    (0x81 ∷ 0xF0 ∷ 11 ∷ 2 ∷ 1 ∷ 7 ∷ 1 ∷ 6 ∷ 0x4B ∷ 0x41 ∷ 0x30 ∷ 0x31 ∷ 0x32 ∷ 0x33 ∷ []) gets gives (Assignment 7)
+    ∷ (0x81 ∷ 0xF0 ∷ 7 ∷ 1 ∷ 2 ∷ 0x33 ∷ 0x20 ∷ 2 ∷ 1 ∷ 7 ∷ []) gets refuses 7 ∷ []
 
 -- type and vendor: its own, another type, another vendor
 abbrev pub named : List Row
 named =
-    (0x81 ∷ 0xF0 ∷ 10 ∷ 6 ∷ 2 ∷ 0x4B ∷ 0x41 ∷ 4 ∷ 1 ∷ 1 ∷ 2 ∷ 1 ∷ 254 ∷ []) gets Assignment 254
-    ∷ (0x81 ∷ 0xF0 ∷ 6 ∷ 4 ∷ 1 ∷ 0x11 ∷ 2 ∷ 1 ∷ 7 ∷ []) gets Silence
-    ∷ (0x81 ∷ 0xF0 ∷ 7 ∷ 6 ∷ 2 ∷ 0x4B ∷ 0x42 ∷ 2 ∷ 1 ∷ 7 ∷ []) gets Silence ∷ []
+    (0x81 ∷ 0xF0 ∷ 10 ∷ 6 ∷ 2 ∷ 0x4B ∷ 0x41 ∷ 4 ∷ 1 ∷ 1 ∷ 2 ∷ 1 ∷ 254 ∷ []) gets gives (Assignment 254)
+    ∷ (0x81 ∷ 0xF0 ∷ 6 ∷ 4 ∷ 1 ∷ 0x11 ∷ 2 ∷ 1 ∷ 7 ∷ []) gets refuses 8
+    ∷ (0x81 ∷ 0xF0 ∷ 7 ∷ 6 ∷ 2 ∷ 0x4B ∷ 0x42 ∷ 2 ∷ 1 ∷ 7 ∷ []) gets refuses 9 ∷ []
 
 -- a scan, from the left: the left-most two octets, and the right-most two
 abbrev pub left : List Row
 left =
-    (0x81 ∷ 0xF0 ∷ 8 ∷ 1 ∷ 2 ∷ 0x4B ∷ 0x41 ∷ 3 ∷ 2 ∷ 0xFF ∷ 0xFF ∷ []) gets Scan
-    ∷ (0x81 ∷ 0xF0 ∷ 8 ∷ 1 ∷ 2 ∷ 0x32 ∷ 0x33 ∷ 3 ∷ 2 ∷ 0xFF ∷ 0xFF ∷ []) gets Silence ∷ []
+    (0x81 ∷ 0xF0 ∷ 8 ∷ 1 ∷ 2 ∷ 0x4B ∷ 0x41 ∷ 3 ∷ 2 ∷ 0xFF ∷ 0xFF ∷ []) gets gives Scan
+    ∷ (0x81 ∷ 0xF0 ∷ 8 ∷ 1 ∷ 2 ∷ 0x32 ∷ 0x33 ∷ 3 ∷ 2 ∷ 0xFF ∷ 0xFF ∷ []) gets refuses 10 ∷ []
 
 -- and padded, the mask first: the seventh octet is 0x20, and no zero
 abbrev pub padding : List Row
 padding =
     (0x81 ∷ 0xF0 ∷ 18 ∷ 3 ∷ 7 ∷ 0 ∷ 0 ∷ 0 ∷ 0 ∷ 0 ∷ 0xFF ∷ 0xFF ∷ 1 ∷ 7 ∷ 0 ∷ 0 ∷ 0 ∷ 0 ∷ 0 ∷ 0x33 ∷ 0x20 ∷ [])
-    gets Scan
+    gets gives Scan
     ∷ (0x81 ∷ 0xF0 ∷ 18 ∷ 3 ∷ 7 ∷ 0 ∷ 0 ∷ 0 ∷ 0 ∷ 0 ∷ 0xFF ∷ 0xFF ∷ 1 ∷ 7 ∷ 0 ∷ 0 ∷ 0 ∷ 0 ∷ 0 ∷ 0x33 ∷ 0 ∷ [])
-    gets Silence
+    gets refuses 10
     ∷ []
 
 -- 01: "Assignment with address value 0 or 255: silence." "Scan value with a bit outside its mask: silence."
 abbrev pub edges : List Row
 edges =
-    (0x81 ∷ 0xF0 ∷ 3 ∷ 2 ∷ 1 ∷ 0 ∷ []) gets Silence
-    ∷ (0x81 ∷ 0xF0 ∷ 3 ∷ 2 ∷ 1 ∷ 255 ∷ []) gets Silence
-    ∷ (0x81 ∷ 0xF0 ∷ 6 ∷ 1 ∷ 1 ∷ 0x4B ∷ 3 ∷ 1 ∷ 0x0F ∷ []) gets Silence
-    ∷ (0x81 ∷ 0xF0 ∷ 6 ∷ 1 ∷ 1 ∷ 0x0B ∷ 3 ∷ 1 ∷ 0x0F ∷ []) gets Scan ∷ []
+    (0x81 ∷ 0xF0 ∷ 3 ∷ 2 ∷ 1 ∷ 0 ∷ []) gets refuses 6
+    ∷ (0x81 ∷ 0xF0 ∷ 3 ∷ 2 ∷ 1 ∷ 255 ∷ []) gets refuses 6
+    ∷ (0x81 ∷ 0xF0 ∷ 6 ∷ 1 ∷ 1 ∷ 0x4B ∷ 3 ∷ 1 ∷ 0x0F ∷ []) gets refuses 10
+    ∷ (0x81 ∷ 0xF0 ∷ 6 ∷ 1 ∷ 1 ∷ 0x0B ∷ 3 ∷ 1 ∷ 0x0F ∷ []) gets gives Scan ∷ []
 
 -- a repeat, a last triple that runs past the end, another identifier, another length, a wrong length field
-abbrev pub malformed : List Row
-malformed =
-    (0x81 ∷ 0xF0 ∷ 6 ∷ 2 ∷ 1 ∷ 7 ∷ 2 ∷ 1 ∷ 7 ∷ []) gets Silence
-    ∷ (0x81 ∷ 0xF0 ∷ 6 ∷ 2 ∷ 1 ∷ 7 ∷ 1 ∷ 2 ∷ 0x33 ∷ []) gets Silence
-    ∷ (0x81 ∷ 0xF0 ∷ 6 ∷ 2 ∷ 1 ∷ 7 ∷ 5 ∷ 1 ∷ 1 ∷ []) gets Silence
-    ∷ (0x81 ∷ 0xF0 ∷ 7 ∷ 2 ∷ 1 ∷ 7 ∷ 4 ∷ 2 ∷ 1 ∷ 1 ∷ []) gets Silence
-    ∷ (0x81 ∷ 0xF0 ∷ 4 ∷ 2 ∷ 1 ∷ 7 ∷ []) gets Silence ∷ []
+abbrev pub misformed : List Row
+misformed =
+    (0x81 ∷ 0xF0 ∷ 6 ∷ 2 ∷ 1 ∷ 7 ∷ 2 ∷ 1 ∷ 7 ∷ []) gets refuses 4
+    ∷ (0x81 ∷ 0xF0 ∷ 6 ∷ 2 ∷ 1 ∷ 7 ∷ 1 ∷ 2 ∷ 0x33 ∷ []) gets refuses 4
+    ∷ (0x81 ∷ 0xF0 ∷ 6 ∷ 2 ∷ 1 ∷ 7 ∷ 5 ∷ 1 ∷ 1 ∷ []) gets refuses 4
+    ∷ (0x81 ∷ 0xF0 ∷ 7 ∷ 2 ∷ 1 ∷ 7 ∷ 4 ∷ 2 ∷ 1 ∷ 1 ∷ []) gets refuses 4
+    ∷ (0x81 ∷ 0xF0 ∷ 4 ∷ 2 ∷ 1 ∷ 7 ∷ []) gets refuses 4 ∷ []
 
-pub computed : All right × All unpadded × All named × All left × All padding × All edges × All malformed
-unfolding readOf judgedParams paramsOf opened triplesAfter before checked allRight rightLength identityLong
-    identifiers noneTwice holds valuesOf valueOf given octetsIn judged isScan scanShape assignmentShape
-    scanMatches answersScan padded masked same endsWith identityMatches kindMatches vendorMatches
-    assignmentMatches addressed assigned
+-- a mask alone, and a scan of unequal lengths; an assignment that is wrong twice gets the first of its numbers
+abbrev pub others : List Row
+others =
+    (0x81 ∷ 0xF0 ∷ 3 ∷ 3 ∷ 1 ∷ 0xFF ∷ []) gets refuses 5
+    ∷ (0x81 ∷ 0xF0 ∷ 7 ∷ 1 ∷ 2 ∷ 0x4B ∷ 0x41 ∷ 3 ∷ 1 ∷ 0xFF ∷ []) gets refuses 5
+    ∷ (0x81 ∷ 0xF0 ∷ 6 ∷ 4 ∷ 1 ∷ 0x11 ∷ 2 ∷ 1 ∷ 0 ∷ []) gets refuses 6
+    ∷ (0x81 ∷ 0xF0 ∷ 9 ∷ 4 ∷ 1 ∷ 0x11 ∷ 1 ∷ 1 ∷ 0x34 ∷ 2 ∷ 1 ∷ 7 ∷ []) gets refuses 7
+    ∷ (0x81 ∷ 0xF0 ∷ 10 ∷ 6 ∷ 2 ∷ 0x4B ∷ 0x42 ∷ 4 ∷ 1 ∷ 0x11 ∷ 2 ∷ 1 ∷ 7 ∷ []) gets refuses 8 ∷ []
+
+pub computed : All right × All unpadded × All named × All left × All padding × All edges × All misformed × All others
+unfolding payloadAnswer payloadRows valueRows answered meaningOf malformed noParams valuesIn neither
+    badAddress otherIdentity otherType otherVendor otherScan paramsOf opened triplesAfter before checked allRight
+    rightLength identityLong identifiers noneTwice holds valuesOf valueOf given octetsIn isScan scanShape assignmentShape
+    scanMatches answersScan padded masked same endsWith identityMatches kindMatches vendorMatches addressed
 computed = (
   (refl, (refl, tt)),
   (refl, (refl, tt)),
@@ -90,5 +103,6 @@ computed = (
   (refl, (refl, tt)),
   (refl, (refl, tt)),
   (refl, (refl, (refl, (refl, tt)))),
+  (refl, (refl, (refl, (refl, (refl, tt))))),
   (refl, (refl, (refl, (refl, (refl, tt))))),
 )

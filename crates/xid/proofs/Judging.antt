@@ -1,5 +1,5 @@
 -- How the tests of the code, one after the other, come to what the definition says. Assumes nothing.
-use mathlib.Core.Path.{_≡_, _∙_}
+use mathlib.Core.Path.{_≡_, sym, ap, _∙_}
 use mathlib.Core.Bool.{Bool, true, false}
 use mathlib.Core.List.{List, [], _∷_}
 use mathlib.Core.Option.{none, some}
@@ -17,9 +17,10 @@ use Rattle.params.specs.declared.Part.{Part}
 use Rattle.params.specs.declared.Part.the-variants.{Absent, At}
 use Rattle.params.specs.declared.Parts.{Parts}
 use Rattle.xid.specs.Match.{isScan, isAssignment, scanMatches, identityMatches, kindMatches}
-use Rattle.xid.specs.Match.{vendorMatches, assignmentMatches, assigned, judged, judgedParams, readOf}
+use Rattle.xid.specs.Match.{vendorMatches, meantTo, readOf}
 use Rattle.xid.specs.declared.Xid.{Xid}
 use Rattle.xid.specs.declared.Xid.the-variants.{Silence, Scan, Assignment}
+use Rattle.xid.proofs.Rows.{scan-meant, assignment-meant, neither-meant, malformed-read, formed-read}
 
 -- ---- the end of the identity, the type, the vendor
 
@@ -63,57 +64,48 @@ scan-given i m f a b c g = g ∙ rw (a, b, c)
 
 -- ---- an assignment, test by test
 
-module _ (i m : List ℕ) (f : Parts) {a : ℕ} (e : a ≡ getD (octetsIn (valueAt m (f .address))) 0 0) where
-  pub address-not : addressed a ≡ false → Silence ≡ assigned i (valuesAt m f)
-  unfolding assigned assignmentMatches valuesAt
-  address-not t = rw (← e, t)
+module _ (i m : List ℕ) (f : Parts) (shape : isAssignment (valuesAt m f) ≡ true) {a : ℕ}
+    (e : a ≡ getD (octetsIn (valueAt m (f .address))) 0 0) where
+  pub address-not : addressed a ≡ false → Silence ≡ meantTo i (valuesAt m f)
+  unfolding valuesAt
+  address-not t = rw (assignment-meant i (valuesAt m f) shape, ← e, t)
 
   module _ (good : addressed a ≡ true) where
-    pub identity-not : identityMatches i (valueAt m (f .identity)) ≡ false → Silence ≡ assigned i (valuesAt m f)
-    unfolding assigned assignmentMatches valuesAt
-    identity-not t = rw (← e, good, t)
+    pub identity-not : identityMatches i (valueAt m (f .identity)) ≡ false → Silence ≡ meantTo i (valuesAt m f)
+    unfolding valuesAt
+    identity-not t = rw (assignment-meant i (valuesAt m f) shape, ← e, good, t)
 
     module _ (own : identityMatches i (valueAt m (f .identity)) ≡ true) where
-      pub kind-not : kindMatches (valueAt m (f .kind)) ≡ false → Silence ≡ assigned i (valuesAt m f)
-      unfolding assigned assignmentMatches valuesAt
-      kind-not t = rw (← e, good, own, t)
+      pub kind-not : kindMatches (valueAt m (f .kind)) ≡ false → Silence ≡ meantTo i (valuesAt m f)
+      unfolding valuesAt
+      kind-not t = rw (assignment-meant i (valuesAt m f) shape, ← e, good, own, t)
 
       module _ (kind : kindMatches (valueAt m (f .kind)) ≡ true) where
-        pub vendor-not : vendorMatches i (valueAt m (f .vendor)) ≡ false → Silence ≡ assigned i (valuesAt m f)
-        unfolding assigned assignmentMatches valuesAt
-        vendor-not t = rw (← e, good, own, kind, t)
+        pub vendor-not : vendorMatches i (valueAt m (f .vendor)) ≡ false → Silence ≡ meantTo i (valuesAt m f)
+        unfolding valuesAt
+        vendor-not t = rw (assignment-meant i (valuesAt m f) shape, ← e, good, own, kind, t)
 
-        pub assigned-all : vendorMatches i (valueAt m (f .vendor)) ≡ true → Assignment a ≡ assigned i (valuesAt m f)
-        unfolding assigned assignmentMatches valuesAt
-        assigned-all t = rw (← e, good, own, kind, t)
+        pub assigned-all : vendorMatches i (valueAt m (f .vendor)) ≡ true → Assignment a ≡ meantTo i (valuesAt m f)
+        unfolding valuesAt
+        assigned-all t = rw (assignment-meant i (valuesAt m f) shape, ← e, good, own, kind, t)
 
 -- ---- either, or silence
 
 module _ (i m : List ℕ) (f : Parts) where
-  pub judged-scan : isScan (valuesAt m f) ≡ true → scanMatches i (valuesAt m f) ≡ true → Scan ≡ judged i (valuesAt m f)
-  unfolding judged
-  judged-scan s t = rw (s, t)
+  pub meant-scan : isScan (valuesAt m f) ≡ true → scanMatches i (valuesAt m f) ≡ true → Scan ≡ meantTo i (valuesAt m f)
+  meant-scan s t = rw (scan-meant i (valuesAt m f) s, t)
 
-  pub judged-other : isScan (valuesAt m f) ≡ true → scanMatches i (valuesAt m f) ≡ false
-      → Silence ≡ judged i (valuesAt m f)
-  unfolding judged
-  judged-other s t = rw (s, t)
+  pub meant-other : isScan (valuesAt m f) ≡ true → scanMatches i (valuesAt m f) ≡ false
+      → Silence ≡ meantTo i (valuesAt m f)
+  meant-other s t = rw (scan-meant i (valuesAt m f) s, t)
 
-  pub judged-assignment : {r : Xid} → isScan (valuesAt m f) ≡ false → isAssignment (valuesAt m f) ≡ true
-      → r ≡ assigned i (valuesAt m f) → r ≡ judged i (valuesAt m f)
-  unfolding judged
-  judged-assignment s t g = g ∙ rw (s, t)
-
-  pub judged-neither : isScan (valuesAt m f) ≡ false → isAssignment (valuesAt m f) ≡ false
-      → Silence ≡ judged i (valuesAt m f)
-  unfolding judged
-  judged-neither s t = rw (s, t)
+  pub meant-neither : isScan (valuesAt m f) ≡ false → isAssignment (valuesAt m f) ≡ false
+      → Silence ≡ meantTo i (valuesAt m f)
+  meant-neither s t = sym (neither-meant i (valuesAt m f) s t)
 
   pub read-formed : {r : Xid} → (ps : List Param) × (paramsOf m ≡ some ps) × (valuesAt m f ≡ valuesOf ps)
-      → r ≡ judged i (valuesAt m f) → r ≡ readOf i m
-  unfolding readOf judgedParams
-  read-formed w g = g ∙ rw (w .1, w .2)
+      → r ≡ meantTo i (valuesAt m f) → r ≡ readOf i m
+  read-formed w g = g ∙ ap (meantTo i) (w .2) ∙ sym (formed-read i m (w .0) (w .1))
 
 pub read-malformed : (i m : List ℕ) → paramsOf m ≡ none → Silence ≡ readOf i m
-unfolding readOf judgedParams
-read-malformed i m e = rw e
+read-malformed i m e = sym (malformed-read i m e)

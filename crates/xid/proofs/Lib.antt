@@ -1,5 +1,6 @@
 -- The laws of scan and assignment that the layers above cite.
 pub mod Shapes
+pub mod Rows
 pub mod Judging
 pub mod Told
 pub mod Exactly

@@ -1,6 +1,7 @@
 -- What follows for the values of a payload from how it is judged. Assumes nothing.
 use mathlib.Core.Path.{_≡_, refl, sym, ap, _∙_}
-use mathlib.Core.Bool.{Bool, true, false, cond, not, _&&_, false≢true}
+use mathlib.Core.Bool.{Bool, true, false, cond, not, _&&_, _||_, false≢true}
+use mathlib.Core.Logic.{_↔_, ⊎-elim}
 use mathlib.Core.List.{List, [], _∷_}
 use mathlib.Core.Option.{Option, none, some}
 use Prim.Native.Nat.{ℕ}
@@ -13,10 +14,14 @@ use Rattle.identity.specs.Identity.{same}
 use Rattle.params.specs.Field.{Param, _is_, rightLength, AllRight, WellFormed, paramsOf, valueOf, given, octetsIn}
 use Rattle.params.specs.Field.{Values, valuesOf}
 use Rattle.params.proofs.Exact.{params-exactly}
-use Rattle.params.proofs.Kept.{both-of}
-use Rattle.xid.specs.Match.{isScan, scanShape, isAssignment, scanMatches, addressOf}
-use Rattle.xid.specs.Match.{assignmentMatches, assigned, judged}
-use Rattle.xid.specs.Match.{judgedParams, readOf}
+use Rattle.params.proofs.Kept.{both-of, of-both}
+use Rattle.record.specs.Allowed.{addressed}
+use Rattle.refusal.specs.Answer.{Answer, gives, refuses, Given, Clear}
+use Rattle.refusal.proofs.Exactly.{exactly, exactly-given, answered-all}
+use Rattle.xid.specs.Match.{isScan, scanShape, isAssignment, scanMatches, addressOf, identityMatches, kindMatches}
+use Rattle.xid.specs.Match.{vendorMatches, neither, badAddress, otherIdentity, otherType, otherVendor, otherScan}
+use Rattle.xid.specs.Match.{valuesIn, valueRows, payloadRows, meaningOf, orSilence, meantTo, payloadAnswer, readOf}
+use Rattle.xid.proofs.Rows.{allFit, malformed-read, formed-read}
 use Rattle.xid.specs.declared.Xid.{Xid}
 use Rattle.xid.specs.declared.Xid.the-variants.{Silence, Scan, Assignment}
 
@@ -73,15 +78,6 @@ scan-values w e =
       eqb-true _ _ long,
     )
 
--- without a mask it is no scan
-pub unmasked : (w : Values) → given (w .mask) ≡ false → isScan w ≡ false
-unfolding isScan scanShape
-unmasked w e = rw e (go (given (w .identity)))
-  where
-    go : (t : Bool) → t && false && eqb (length (octetsIn (w .identity))) (length (octetsIn (w .mask))) ≡ false
-    go true = refl
-    go false = refl
-
 -- a given value has a right length
 pub value-right : (n : ℕ) (ps : List Param) {v : List ℕ} → AllRight ps → valueOf n ps ≡ some v
     → rightLength n (length v) ≡ true
@@ -115,44 +111,93 @@ address-one ps r g =
 pub no-scan : {a : ℕ} → Assignment a ≡ Scan → ⊥
 no-scan e = let z : _≡_ {A = ℕ} 0 1 = cc in omega arith
 
-pub scan-told : (i : List ℕ) (w : Values) → judged i w ≡ Scan → (isScan w ≡ true) × (scanMatches i w ≡ true)
-unfolding judged assigned
-scan-told i w e = go (isScan w) refl (scanMatches i w) refl (isAssignment w) (assignmentMatches i w) e
-  where
-    go : (s : Bool) → isScan w ≡ s → (t : Bool) → scanMatches i w ≡ t → (u v : Bool)
-        → cond s (cond t Scan Silence) (cond u (cond v (Assignment (addressOf w)) Silence) Silence) ≡ Scan
-        → (isScan w ≡ true) × (scanMatches i w ≡ true)
-    go true a true b u v f = (a, b)
-    go true a false b u v f = let z : _≡_ {A = ℕ} 0 1 = cc in let no : ⊥ = omega arith in absurd no
-    go false a t b true true f = absurd (no-scan f)
-    go false a t b true false f = let z : _≡_ {A = ℕ} 0 1 = cc in let no : ⊥ = omega arith in absurd no
-    go false a t b false v f = let z : _≡_ {A = ℕ} 0 1 = cc in let no : ⊥ = omega arith in absurd no
+pub scan-loud : Scan ≡ Silence → ⊥
+scan-loud e = let z : _≡_ {A = ℕ} 0 1 = cc in omega arith
 
-pub assignment-told : (i : List ℕ) (w : Values) (a : ℕ) → judged i w ≡ Assignment a
-    → (isAssignment w ≡ true) × (assignmentMatches i w ≡ true) × (addressOf w ≡ a)
-unfolding judged assigned
-assignment-told i w a e = go (isScan w) (scanMatches i w) (isAssignment w) refl (assignmentMatches i w) refl e
-  where
-    go : (s t u : Bool) → isAssignment w ≡ u → (v : Bool) → assignmentMatches i w ≡ v
-        → cond s (cond t Scan Silence) (cond u (cond v (Assignment (addressOf w)) Silence) Silence) ≡ Assignment a
-        → (isAssignment w ≡ true) × (assignmentMatches i w ≡ true) × (addressOf w ≡ a)
-    go true true u b v c f = absurd (no-scan (sym f))
-    go true false u b v c f = let z : _≡_ {A = ℕ} 0 1 = cc in let no : ⊥ = omega arith in absurd no
-    go false t true b true c f = (b, c, cc)
-    go false t true b false c f = let z : _≡_ {A = ℕ} 0 1 = cc in let no : ⊥ = omega arith in absurd no
-    go false t false b v c f = let z : _≡_ {A = ℕ} 0 1 = cc in let no : ⊥ = omega arith in absurd no
+pub assignment-loud : {a : ℕ} → Assignment a ≡ Silence → ⊥
+assignment-loud e = let z : _≡_ {A = ℕ} 0 1 = cc in omega arith
+
+-- what is no silence comes of no row
+pub answer-told : {x : Answer Xid} {y : Xid} → orSilence x ≡ y → (y ≡ Silence → ⊥) → x ≡ gives y
+unfolding orSilence
+answer-told {x = gives z} e n = ap gives e
+answer-told {x = refuses k} e n = absurd (n (sym e))
+
+-- the row of a shape does not hold: what it asks of this shape fits
+ruled-out : (s t : Bool) → s ≡ true → s && not t ≡ false → t ≡ true
+ruled-out true true e f = refl
+ruled-out true false e f = absurd (true-not-false f)
+ruled-out false t e f = absurd (false≢true e)
+
+module _ (i : List ℕ) (w : Values) where
+  cleared : {x : Xid} → meantTo i w ≡ x → (x ≡ Silence → ⊥) → Clear (valueRows i w) × (meaningOf w ≡ x)
+  unfolding meantTo
+  cleared {x} e n = exactly-given (valueRows i w) (meaningOf w) x .0 (answer-told e n)
+
+  pub scan-told : meantTo i w ≡ Scan → (isScan w ≡ true) × (scanMatches i w ≡ true)
+  unfolding Clear valueRows otherScan meaningOf
+  scan-told e =
+      let (c, m) = cleared e scan-loud in
+      let s = go (isScan w) refl m in
+      (s, ruled-out (isScan w) (scanMatches i w) s (c .1 .1 .1 .1 .1 .0))
+    where
+      go : (s : Bool) → isScan w ≡ s → cond s Scan (Assignment (addressOf w)) ≡ Scan → isScan w ≡ true
+      go true s f = s
+      go false s f = absurd (no-scan f)
+
+  pub assignment-told : (a : ℕ) → meantTo i w ≡ Assignment a
+      → (isAssignment w ≡ true) × (allFit i w ≡ true) × (addressOf w ≡ a)
+  unfolding Clear valueRows neither badAddress otherIdentity otherType otherVendor meaningOf
+  assignment-told a e =
+      let (c, m) = cleared e assignment-loud in
+      let (s, u) = go (isScan w) refl m in
+      let t = some-shape (isScan w) (isAssignment w) s (c .0) in
+      let fits : (b : Bool) → isAssignment w && not b ≡ false → b ≡ true = λ b h. ruled-out (isAssignment w) b t h in (
+        t,
+        of-both (fits (addressed (addressOf w)) (c .1 .0))
+            (of-both (fits (identityMatches i (w .identity)) (c .1 .1 .0))
+            (of-both (fits (kindMatches (w .kind)) (c .1 .1 .1 .0))
+            (fits (vendorMatches i (w .vendor)) (c .1 .1 .1 .1 .0)))),
+        u,
+      )
+    where
+      go : (s : Bool) → isScan w ≡ s → cond s Scan (Assignment (addressOf w)) ≡ Assignment a
+          → (isScan w ≡ false) × (addressOf w ≡ a)
+      go true s f = absurd (no-scan (sym f))
+      go false s f = (s, cc)
+
+      some-shape : (s t : Bool) → s ≡ false → not (s || t) ≡ false → t ≡ true
+      some-shape true t e f = absurd (true-not-false e)
+      some-shape false true e f = refl
+      some-shape false false e f = absurd (true-not-false f)
 
 -- a payload that is not silent is well formed
 pub formed-of : (i m : List ℕ) {x : Xid} → readOf i m ≡ x → (x ≡ Silence → ⊥)
-    → (ps : List Param) × WellFormed m ps × (judged i (valuesOf ps) ≡ x)
-unfolding readOf judgedParams
-formed-of i m {x} e n = go (paramsOf m) refl e
+    → (ps : List Param) × WellFormed m ps × (meantTo i (valuesOf ps) ≡ x)
+formed-of i m {x} e n = go (paramsOf m) refl
   where
-    go : (o : Option (List Param)) → paramsOf m ≡ o → judgedParams i o ≡ x
-        → (ps : List Param) × WellFormed m ps × (judged i (valuesOf ps) ≡ x)
-    go none p f = absurd (n (sym f))
-    go (some ps) p f = (ps, params-exactly m ps .0 p, f)
+    go : (o : Option (List Param)) → paramsOf m ≡ o
+        → (ps : List Param) × WellFormed m ps × (meantTo i (valuesOf ps) ≡ x)
+    go none p = absurd (n (sym e ∙ malformed-read i m p))
+    go (some ps) p = (ps, params-exactly m ps .0 p, sym (formed-read i m ps p) ∙ e)
 
-pub read-is : (i m : List ℕ) (ps : List Param) → WellFormed m ps → readOf i m ≡ judged i (valuesOf ps)
-unfolding readOf judgedParams
-read-is i m ps f = rw (params-exactly m ps .1 f)
+pub read-is : (i m : List ℕ) (ps : List Param) → WellFormed m ps → readOf i m ≡ meantTo i (valuesOf ps)
+read-is i m ps f = formed-read i m ps (params-exactly m ps .1 f)
+
+-- silence is for a payload with a number, and for nothing else
+pub silence-numbered : (i m : List ℕ) → readOf i m ≡ Silence ↔ ((k : ℕ) × Given k (payloadRows i m))
+unfolding readOf payloadAnswer orSilence meaningOf
+silence-numbered i m = (
+  λ e.
+      ⊎-elim (λ g. absurd (loud (isScan w) (sym (ap orSilence g) ∙ e)))
+      (λ r. (r .0, exactly (r .0) (payloadRows i m) (meaningOf w) .0 (r .2)))
+      (answered-all (payloadRows i m) (meaningOf w)),
+  λ (k, g). ap orSilence (exactly k (payloadRows i m) (meaningOf w) .1 g),
+)
+  where
+    w : Values
+    w = valuesIn m
+
+    loud : (s : Bool) → cond s Scan (Assignment (addressOf w)) ≡ Silence → ⊥
+    loud true e = scan-loud e
+    loud false e = assignment-loud e

@@ -2,23 +2,36 @@
 -- in a well-formed payload, i the octets of the device's identity, unpadded.
 --   deviceType          == 0x01
 --   isScan w            == w is a scan: "exactly 1 and 3, of equal length"; scanShape == the first half of it
---   isAssignment w      == w is an assignment: "2 present, 3 absent"
+--   isAssignment w      == w is an assignment: "2 present, 3 absent"; assignmentShape == the same of what is given
 --   scanMatches i w     == the scan w is answered by the identity i
---   addressOf w         == the address value; `addressed` (1 to 254) says whether it is one
+--   addressOf w         == the address value; `addressed` says whether it is 1 to 254
 --   identityMatches i x == "If 1 is given": its value x is the end of the identity i
 --   kindMatches x       == "If 4 .. is given": its value x is the device's type
 --   vendorMatches i x   == "If .. 6 is given": its value x is the vendor of the identity i
---   assignmentMatches   == all four of an assignment: address value, identity, type, vendor
---   judged i w          == scan, assignment or silence; assigned i w == of an assignment
---   readOf i m          == the same of the payload m: a malformed one is silence
+-- Why a device does not answer is the first that holds of ten conditions, in this order; the number of a row is its
+-- place. The first three, of the frame, stand in link/specs/Xids: 1 its size, 2 its address octet, 3 its control.
+--   malformed m         == 4: the payload m is not well formed: noParams of what is read in it
+--   valuesIn m          == the values in the payload m, none given where it is malformed
+--   neither w           == 5: w is no scan and no assignment
+--   badAddress w        == 6: an assignment, and its address value is not 1 to 254
+--   otherIdentity i w   == 7: an assignment, and the identity in it is not the end of i
+--   otherType w         == 8: an assignment, of another type
+--   otherVendor i w     == 9: an assignment, of another vendor
+--   otherScan i w       == 10: a scan, and the masked identity i is not its value
+--   valueRows i w       == the rows 5 to 10; payloadRows i m == the rows 4 to 10
+--   meaningOf w         == what w is where no row holds
+--   orSilence x         == what the answer x means to the device: a number is silence
+--   meantTo i w         == what w means to the identity i: the first of its rows that holds
+--   payloadAnswer i m   == the same of the payload m, with the number; readOf i m == what m means
 --   isGiven p           == the walk found a part p
 -- Assumes nothing.
-use mathlib.Core.Bool.{Bool, true, false, cond, not, _&&_}
+use mathlib.Core.Bool.{Bool, true, false, cond, not, _&&_, _||_}
 use mathlib.Core.List.{List, [], _∷_}
-use mathlib.Core.Option.{Option, none, some}
+use mathlib.Core.Option.{Option, none, some, Option·getD}
 use Prim.Native.Nat.{ℕ}
 use lib.Dec.{eqb}
 use lib.ListN.{length, getD, take}
+use Rattle.refusal.specs.Answer.{Answer, gives, refuses, Row, _when_, answered}
 use Rattle.identity.specs.Identity.{vendor, same, answersScan}
 use Rattle.compare.specs.Rows.{endsWith}
 use Rattle.record.specs.Allowed.{addressed}
@@ -58,7 +71,7 @@ isAssignment w = assignmentShape (given (w .address)) (given (w .mask))
 unfoldable pub scanMatches : List ℕ → Values → Bool
 scanMatches i w = answersScan i (octetsIn (w .mask)) (octetsIn (w .identity))
 
--- "value 1 to 254"
+-- "2 (address, 1)"
 abbrev pub addressOf : Values → ℕ
 addressOf w = getD (octetsIn (w .address)) 0 0
 
@@ -76,28 +89,70 @@ unfoldable pub vendorMatches : List ℕ → Option (List ℕ) → Bool
 vendorMatches i none = true
 vendorMatches i (some v) = same v (take vendor i)
 
-unfoldable pub assignmentMatches : List ℕ → Values → Bool
-assignmentMatches i w =
-    addressed (addressOf w)
-    && (identityMatches i (w .identity) && (kindMatches (w .kind) && vendorMatches i (w .vendor)))
+-- ---- why it is not answered: what the first row that holds says, by the law of refusal/specs/Answer
 
-unfoldable pub assigned : List ℕ → Values → Xid
-assigned i w = cond (assignmentMatches i w) (Assignment (addressOf w)) Silence
+unfoldable pub noParams : Option (List Param) → Bool
+noParams none = true
+noParams (some ps) = false
 
--- ---- either, or silence
+-- "triples of identifier, length, value that fill it exactly"; "A repeat, another identifier, another length: silence"
+unfoldable pub malformed : List ℕ → Bool
+malformed m = noParams (paramsOf m)
 
--- "so is a frame that is neither of the two below"
-unfoldable pub judged : List ℕ → Values → Xid
-judged i w =
-    cond (isScan w) (cond (scanMatches i w) Scan Silence) (cond (isAssignment w) (assigned i w) Silence)
+unfoldable pub valuesIn : List ℕ → Values
+valuesIn m = valuesOf (Option·getD (paramsOf m) [])
 
--- "A repeat, another identifier, another length: silence"
-unfoldable pub judgedParams : List ℕ → Option (List Param) → Xid
-judgedParams i none = Silence
-judgedParams i (some ps) = judged i (valuesOf ps)
+-- "silence; so is a frame that is neither of the two below"
+unfoldable pub neither : Values → Bool
+neither w = not (isScan w || isAssignment w)
+
+-- "value 1 to 254"
+unfoldable pub badAddress : Values → Bool
+badAddress w = isAssignment w && not (addressed (addressOf w))
+
+-- "If 1 is given, it isn't longer than the unpadded identity and equals its right-most octets."
+unfoldable pub otherIdentity : List ℕ → Values → Bool
+otherIdentity i w = isAssignment w && not (identityMatches i (w .identity))
+
+-- "If 4 .. is given, it is equal."
+unfoldable pub otherType : Values → Bool
+otherType w = isAssignment w && not (kindMatches (w .kind))
+
+-- "If .. 6 is given, it is equal."
+unfoldable pub otherVendor : List ℕ → Values → Bool
+otherVendor i w = isAssignment w && not (vendorMatches i (w .vendor))
+
+-- "its left-most octets are masked and must equal the value of 1"
+unfoldable pub otherScan : List ℕ → Values → Bool
+otherScan i w = isScan w && not (scanMatches i w)
+
+unfoldable pub valueRows : List ℕ → Values → List Row
+valueRows i w =
+    5 when neither w
+    ∷ 6 when badAddress w
+    ∷ 7 when otherIdentity i w ∷ 8 when otherType w ∷ 9 when otherVendor i w ∷ 10 when otherScan i w ∷ []
+
+unfoldable pub payloadRows : List ℕ → List ℕ → List Row
+payloadRows i m = 4 when malformed m ∷ valueRows i (valuesIn m)
+
+-- no row holds: a scan, or else an assignment
+unfoldable pub meaningOf : Values → Xid
+meaningOf w = cond (isScan w) Scan (Assignment (addressOf w))
+
+unfoldable pub orSilence : Answer Xid → Xid
+orSilence (gives x) = x
+orSilence (refuses k) = Silence
+
+unfoldable pub meantTo : List ℕ → Values → Xid
+meantTo i w = orSilence (answered (valueRows i w) (meaningOf w))
+
+unfoldable pub payloadAnswer : List ℕ → List ℕ → Answer Xid
+payloadAnswer i m = answered (payloadRows i m) (meaningOf (valuesIn m))
 
 unfoldable pub readOf : List ℕ → List ℕ → Xid
-readOf i m = judgedParams i (paramsOf m)
+readOf i m = orSilence (payloadAnswer i m)
+
+-- ---- the parts that the walk finds
 
 -- a part found by the walk stands for a value that is given
 unfoldable pub isGiven : Part → Bool

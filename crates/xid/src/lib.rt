@@ -2,12 +2,13 @@
 // the padded identity under the mask is the value, an assignment taken exactly if all that it names fits, and no
 // payload is both (proofs/Exactly.antt). Assumes nothing of its caller: any plate, any octets.
 ghost use mathlib.Core.Path.{_≡_};
+ghost use mathlib.Core.Bool.{true};
 ghost use lib.ListN.{take, getD};
 ghost use Rattle.record.specs.Allowed.{addressed, identityOf};
 ghost use Rattle.params.specs.Field.{octetsIn};
 ghost use Rattle.params.specs.Walk.{valueAt, valuesAt};
-ghost use Rattle.xid.specs.Match.{isGiven, scanShape, assignmentShape, isScan, scanMatches};
-ghost use Rattle.xid.specs.Match.{identityMatches, kindMatches, vendorMatches, assigned, judged, readOf};
+ghost use Rattle.xid.specs.Match.{isGiven, scanShape, assignmentShape, isScan, isAssignment, scanMatches};
+ghost use Rattle.xid.specs.Match.{identityMatches, kindMatches, vendorMatches, meantTo, readOf};
 use params::Found;
 use params::Part;
 use params::Parts;
@@ -161,7 +162,8 @@ fn vendor_matches(octets: [u8; 19], len: usize, payload: &[u8], part: Part) -> b
 }
 
 fn assign(octets: [u8; 19], len: usize, payload: &[u8], parts: Parts) -> Xid
-    ensures { λ r. ⌜ r ≡ assigned (take len octets) (valuesAt (now (payload .entry)) parts) ⌝ }
+    requires { ⌜ isAssignment (valuesAt (now payload) parts) ≡ true ⌝ }
+    ensures { λ r. ⌜ r ≡ meantTo (take len octets) (valuesAt (now (payload .entry)) parts) ⌝ }
 {
     let identity = parts.identity;
     let kind = parts.kind;
@@ -183,7 +185,7 @@ fn assign(octets: [u8; 19], len: usize, payload: &[u8], parts: Parts) -> Xid
 // ---- either, or neither
 
 fn judge(octets: [u8; 19], len: usize, payload: &[u8], parts: Parts) -> Xid
-    ensures { λ r. ⌜ r ≡ judged (take len octets) (valuesAt (now (payload .entry)) parts) ⌝ }
+    ensures { λ r. ⌜ r ≡ meantTo (take len octets) (valuesAt (now (payload .entry)) parts) ⌝ }
 {
     if is_scan(payload, parts) {
         if scan_matches(octets, len, payload, parts) {

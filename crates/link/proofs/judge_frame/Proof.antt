@@ -1,6 +1,6 @@
 -- `link::judge_frame` meets its promise: each way out, by the tests that lead to it. Assumes nothing.
 use Rattle.link.proofs.Judged.{judged-by}
-use Rattle.link.specs.Link.{judgedFrame}
+use Rattle.link.specs.Link.{wrongSize, judgedFrame}
 use Rattle.octets.proofs.Rules.{tests}
 use mathlib.Core.Path.{sym}
 use borrow.Author.Needs.{needs}
@@ -11,14 +11,14 @@ say-requires : tie.Need-say-requires
 say-requires c κs = search needs
 
 returns : tie.Need-returns
-unfolding judgedFrame
+unfolding judgedFrame wrongSize
 returns c = search (tests, sym (c .say .ensures))
 
 say-requires-2 : tie.Need-say-requires-2
 say-requires-2 c κs = search needs
 
 returns-2 : tie.Need-returns-2
-unfolding judgedFrame
+unfolding judgedFrame wrongSize
 returns-2 c = search (tests, sym (c .say2 .ensures))
 
 shared-slice-read-controlled : tie.Need-shared-slice-read-controlled

@@ -39,9 +39,10 @@ returns c =
     let own = kind .before .before in
     let good = own .before .before in
     let read = good .before .before in
-    let a = read .before .before .before .args in
+    let start = read .before .before .before in
+    let a = start .args in
     let value = ap (λ (l : List ℕ). getD l 0 0) (read .before .value .ensures) in
-    assigned-all _ (a .payload .now) (a .parts) (read .first-octet .ensures ∙ value)
+    assigned-all _ (a .payload .now) (a .parts) (start .pre) (read .first-octet .ensures ∙ value)
     (sym (good .before .is-addressed .ensures) ∙ good .if1 .taken)
     (sym (own .before .identity-matches .ensures) ∙ own .if2 .taken)
     (sym (kind .before .kind-matches .ensures) ∙ kind .if3 .taken)
@@ -53,9 +54,10 @@ returns-2 c =
     let own = kind .before .before in
     let good = own .before .before in
     let read = good .before .before in
-    let a = read .before .before .before .args in
+    let start = read .before .before .before in
+    let a = start .args in
     let value = ap (λ (l : List ℕ). getD l 0 0) (read .before .value .ensures) in
-    vendor-not _ (a .payload .now) (a .parts) (read .first-octet .ensures ∙ value)
+    vendor-not _ (a .payload .now) (a .parts) (start .pre) (read .first-octet .ensures ∙ value)
     (sym (good .before .is-addressed .ensures) ∙ good .if1 .taken)
     (sym (own .before .identity-matches .ensures) ∙ own .if2 .taken)
     (sym (kind .before .kind-matches .ensures) ∙ kind .if3 .taken)
@@ -66,9 +68,10 @@ returns-3 c =
     let own = c .before .before in
     let good = own .before .before in
     let read = good .before .before in
-    let a = read .before .before .before .args in
+    let start = read .before .before .before in
+    let a = start .args in
     let value = ap (λ (l : List ℕ). getD l 0 0) (read .before .value .ensures) in
-    kind-not _ (a .payload .now) (a .parts) (read .first-octet .ensures ∙ value)
+    kind-not _ (a .payload .now) (a .parts) (start .pre) (read .first-octet .ensures ∙ value)
     (sym (good .before .is-addressed .ensures) ∙ good .if1 .taken)
     (sym (own .before .identity-matches .ensures) ∙ own .if2 .taken)
     (sym (c .before .kind-matches .ensures) ∙ c .if3 .left)
@@ -77,18 +80,20 @@ returns-4 : tie.Need-returns-4
 returns-4 c =
     let good = c .before .before in
     let read = good .before .before in
-    let a = read .before .before .before .args in
+    let start = read .before .before .before in
+    let a = start .args in
     let value = ap (λ (l : List ℕ). getD l 0 0) (read .before .value .ensures) in
-    identity-not _ (a .payload .now) (a .parts) (read .first-octet .ensures ∙ value)
+    identity-not _ (a .payload .now) (a .parts) (start .pre) (read .first-octet .ensures ∙ value)
     (sym (good .before .is-addressed .ensures) ∙ good .if1 .taken)
     (sym (c .before .identity-matches .ensures) ∙ c .if2 .left)
 
 returns-5 : tie.Need-returns-5
 returns-5 c =
     let read = c .before .before in
-    let a = read .before .before .before .args in
+    let start = read .before .before .before in
+    let a = start .args in
     let value = ap (λ (l : List ℕ). getD l 0 0) (read .before .value .ensures) in
-    address-not _ (a .payload .now) (a .parts) (read .first-octet .ensures ∙ value)
+    address-not _ (a .payload .now) (a .parts) (start .pre) (read .first-octet .ensures ∙ value)
     (sym (c .before .is-addressed .ensures) ∙ c .if1 .left)
 
 pub assign-spec : {M : Type 1} → statement M

@@ -1,5 +1,5 @@
 -- `xid::judge` meets its promise: one test after the other. Assumes nothing.
-use Rattle.xid.proofs.Judging.{judged-scan, judged-other, judged-assignment, judged-neither}
+use Rattle.xid.proofs.Judging.{meant-scan, meant-other, meant-neither}
 use Rattle.xid.proofs.Shapes.{assignment-shaped}
 use mathlib.Core.Path.{sym, _∙_}
 use Rattle.xid.proofs.judge.Statement.{statement}
@@ -21,37 +21,33 @@ returns : tie.Need-returns
 returns c =
     let scan = c .before .before in
     let a = scan .before .before .before .args in
-    judged-scan _ (a .payload .now) (a .parts) (sym (scan .before .is-scan .ensures) ∙ scan .if1 .taken)
+    meant-scan _ (a .payload .now) (a .parts) (sym (scan .before .is-scan .ensures) ∙ scan .if1 .taken)
     (sym (c .before .scan-matches .ensures) ∙ c .if2 .taken)
 
 returns-2 : tie.Need-returns-2
 returns-2 c =
     let scan = c .before .before in
     let a = scan .before .before .before .args in
-    judged-other _ (a .payload .now) (a .parts) (sym (scan .before .is-scan .ensures) ∙ scan .if1 .taken)
+    meant-other _ (a .payload .now) (a .parts) (sym (scan .before .is-scan .ensures) ∙ scan .if1 .taken)
     (sym (c .before .scan-matches .ensures) ∙ c .if2 .left)
 
 assignment-shape-requires : tie.Need-assignment-shape-requires
 assignment-shape-requires c κs = tt
 
 assign-requires : tie.Need-assign-requires
-assign-requires c κs = tt
+assign-requires c κs =
+    let a = c .before .before .before .before .before .args in
+    sym (assignment-shaped (a .payload .now) (a .parts)) ∙ sym (c .before .assignment-shape .ensures) ∙ c .if3 .taken
 
 returns-3 : tie.Need-returns-3
-returns-3 c =
-    let shape = c .before in
-    let scan = shape .before .before in
-    let a = scan .before .before .before .args in
-    let shaped = sym (assignment-shaped (a .payload .now) (a .parts)) in
-    judged-assignment _ (a .payload .now) (a .parts) (sym (scan .before .is-scan .ensures) ∙ scan .if1 .left)
-    (shaped ∙ sym (shape .before .assignment-shape .ensures) ∙ shape .if3 .taken) (c .assign .ensures)
+returns-3 c = c .assign .ensures
 
 returns-4 : tie.Need-returns-4
 returns-4 c =
     let scan = c .before .before in
     let a = scan .before .before .before .args in
     let shaped = sym (assignment-shaped (a .payload .now) (a .parts)) in
-    judged-neither _ (a .payload .now) (a .parts) (sym (scan .before .is-scan .ensures) ∙ scan .if1 .left)
+    meant-neither _ (a .payload .now) (a .parts) (sym (scan .before .is-scan .ensures) ∙ scan .if1 .left)
     (shaped ∙ sym (c .before .assignment-shape .ensures) ∙ c .if3 .left)
 
 pub judge-spec : {M : Type 1} → statement M
