@@ -5,11 +5,11 @@ use crate::answers;
 use crate::rows;
 use antenna::Alarms;
 use antenna::Motion;
+use record::Desk;
 use record::Device;
 use record::Link;
 use record::Payload;
 use record::Pending;
-use record::Desk;
 use terms::Term;
 
 // A word behind a space.

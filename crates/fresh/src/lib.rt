@@ -21,13 +21,13 @@ use record::Desk;
 use record::Device;
 use record::Identity;
 use record::Link;
+use record::PRODUCT;
 use record::Plate;
 use record::Product;
-use record::PRODUCT;
 use record::Span;
 use record::Station;
-use record::Version;
 use record::VERSION;
+use record::Version;
 use refusal::Outcome;
 use refusal::Refusal;
 

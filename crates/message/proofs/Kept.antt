@@ -31,7 +31,7 @@ carriedAt d m = carriedOf (d .plate) (d .antenna) (d .station .desk .told) (d .s
 connected-address : (t : Station) (s : Session) → stationAllowed t ≡ true → t .link ≡ Connected s
     → addressed (t .desk .address) ≡ true
 unfolding stationAllowed linkAllowed
-connected-address t s e l = 
+connected-address t s e l =
     and-parts (addressed (t .desk .address)) (sessionAllowed (t .desk) s) (sym (ap (linkAllowed (t .desk)) l) ∙ e) .0
 
 -- t is the station after the message, in the session s

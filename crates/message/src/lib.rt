@@ -179,7 +179,12 @@ fn operate(antenna: Antenna, told: Alarms, subscribed: bool, code: u8, t: Angle)
     ensures { λ r. ⌜ r ≡ operatedOf antenna told subscribed code t ⌝ }
 {
     if code == 0x06 {
-        return replied(payload::done(0x06), quiet(antenna), antenna::CALM, subscribed);
+        return replied(
+            payload::done(0x06),
+            quiet(antenna),
+            antenna::CALM,
+            subscribed,
+        );
     }
     if code == 0x12 {
         return replied(payload::done(0x12), antenna, told, true);

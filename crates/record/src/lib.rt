@@ -15,6 +15,7 @@ use refusal::Outcome;
 
 // The most octets of the product text, and of the hardware and the software text.
 pub const PRODUCT: usize = 20;
+
 pub const VERSION: usize = 14;
 
 // Vendor and serial number: the first `len` octets.

@@ -8,11 +8,11 @@ ghost use Prim.Native.Nat.{_≤_};
 ghost use lib.ListN.{take};
 ghost use Rattle.speech.specs.Speech.{octetsOf, pendingOctets, linkOctets, isSilent, controlBy, payloadBy};
 ghost use Rattle.speech.specs.Speech.{frameBy, spokenOf};
+use record::Desk;
 use record::Device;
 use record::Link;
 use record::Payload;
 use record::Pending;
-use record::Desk;
 use station::Say;
 
 // A frame of `len` octets; none where `len` is 0.
