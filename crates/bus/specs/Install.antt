@@ -30,6 +30,7 @@ use Rattle.xid.specs.Meaning.{EndOf}
 use Rattle.states.specs.States.{begun}
 use Rattle.scan.specs.declared.State.the-variants.{Complete}
 use Rattle.scan.specs.Record.{listOf}
+use Rattle.whole_scan.specs.Demand.{probesEach}
 use Rattle.bus.specs.Cable.{identityIn, paddedIn, lineFor, hears, allAfterLines}
 use Rattle.bus.specs.Scanning.{scanned}
 
@@ -98,7 +99,7 @@ pub record Job (limit : ℕ) (ds : List Device) : Type 0 where
   pub ascending : Ascending lower (listOf (scanned limit ds .scan))
   pub members : (x : List ℕ) → List·Memᴰ x (listOf (scanned limit ds .scan)) ↔ List·Memᴰ x (map paddedIn ds)
   pub once : Different (listOf (scanned limit ds .scan))
-  pub bound : scanned limit ds .scan .count ≤ 1 + 304 * length ds
+  pub bound : scanned limit ds .scan .count ≤ 1 + probesEach * length ds
   -- the scan leaves the devices as they were, and the assignments give each its address
   pub unchanged : scanned limit ds .devices ≡ ds
   pub installed : Installed (listOf (scanned limit ds .scan)) ds

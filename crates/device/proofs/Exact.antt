@@ -15,12 +15,12 @@ use Rattle.refusal.specs.Numbers.{numberOf}
 use Rattle.refusal.specs.declared.Refusal.{Refusal}
 use Rattle.refusal.proofs.Exactly.{TestsFor, exactly-tests, exactly-given, answered-all}
 use Rattle.refusal.proofs.Answers.{gives-not-refuses, refuses-same, gives-same}
-use Rattle.frame.specs.Line.{broken, plain}
+use Rattle.frame.specs.Line.{frameLimit, frameMost, broken, plain}
 use Rattle.frame.specs.Decode.{body, rightCheck}
 use Rattle.frame.proofs.Exact.{Sized, decode-4, decode-1, decode-2, decode-3}
 use Rattle.record.specs.declared.Device.{Device}
 use Rattle.record.specs.Allowed.{allowedDevice}
-use Rattle.link.specs.Link.{frameMost, judgedFrame}
+use Rattle.link.specs.Link.{judgedFrame}
 use Rattle.device.specs.declared.Said.the-variants.{Silence, Frame, Refused}
 use Rattle.device.specs.declared.Judged.{Judged}
 use Rattle.device.specs.Judge.{Reaction, reactionOf, judgeRows, judged, heard, saidOf, sizeOf, toldOf}
@@ -74,20 +74,20 @@ module _ (d : Device) (line : List ℕ) (room : ℕ) where
   -- 4, 1, 2, 3: as the decoder gives them
   pub hear-4 : heard d line room ≡ refuses 4 ↔ broken line ≡ true
   unfolding holds
-  hear-4 = Iff·trans (by-decoder d line room 4 refl) (decode-4 78 line frameMost)
+  hear-4 = Iff·trans (by-decoder d line room 4 refl) (decode-4 frameLimit line (frameMost frameLimit))
 
   pub hear-1 : heard d line room ≡ refuses 1 ↔ (broken line ≡ false) × (length (plain line) < 4)
   unfolding holds
-  hear-1 = Iff·trans (by-decoder d line room 1 refl) (decode-1 78 line frameMost)
+  hear-1 = Iff·trans (by-decoder d line room 1 refl) (decode-1 frameLimit line (frameMost frameLimit))
 
   pub hear-2 : heard d line room ≡ refuses 2
-      ↔ (broken line ≡ false) × (4 ≤ length (plain line)) × (78 < length (plain line))
+      ↔ (broken line ≡ false) × (4 ≤ length (plain line)) × (frameLimit < length (plain line))
   unfolding holds
-  hear-2 = Iff·trans (by-decoder d line room 2 refl) (decode-2 78 line frameMost)
+  hear-2 = Iff·trans (by-decoder d line room 2 refl) (decode-2 frameLimit line (frameMost frameLimit))
 
-  pub hear-3 : heard d line room ≡ refuses 3 ↔ Sized 78 line frameMost × (rightCheck (plain line) ≡ false)
+  pub hear-3 : heard d line room ≡ refuses 3 ↔ Sized frameLimit line (frameMost frameLimit) × (rightCheck (plain line) ≡ false)
   unfolding holds
-  hear-3 = Iff·trans (by-decoder d line room 3 refl) (decode-3 78 line frameMost)
+  hear-3 = Iff·trans (by-decoder d line room 3 refl) (decode-3 frameLimit line (frameMost frameLimit))
 
   -- then 6
   pub hear-6 : heard d line room ≡ refuses 6 ↔ Readable line × (allowedDevice d ≡ false)

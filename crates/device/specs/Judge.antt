@@ -19,12 +19,13 @@ use Rattle.refusal.specs.declared.Refusal.the-variants.{NoRoom}
 use Rattle.refusal.specs.declared.Handed.{Handed}
 use Rattle.refusal.specs.Numbers.{numberOf}
 use Rattle.refusal.specs.Answer.{Answer, gives, refuses, Row, _when_, answered}
+use Rattle.frame.specs.Line.{frameLimit, frameMost}
 use Rattle.frame.specs.Decode.{decoded}
 use Rattle.record.specs.declared.Device.{Device}
 use Rattle.record.specs.Allowed.{allowedDevice}
 use Rattle.station.specs.declared.Say.{Say}
 use Rattle.station.specs.declared.Turn.{Turn}
-use Rattle.link.specs.Link.{frameMost, judgedFrame}
+use Rattle.link.specs.Link.{judgedFrame}
 use Rattle.speech.specs.Speech.{frameBy}
 use Rattle.device.specs.declared.Said.{Said}
 use Rattle.device.specs.declared.Said.the-variants.{Silence, Frame, Refused}
@@ -42,7 +43,7 @@ reactionOf t = reacts (t .device) (t .say)
 
 -- "the device 6, then 5 for a frame": "an answer buffer shorter than 76 gives refusal 5 first"
 unfoldable pub judgeRows : Device → ℕ → List Row
-judgeRows d room = 6 when not (allowedDevice d) ∷ 5 when ltb room frameMost ∷ []
+judgeRows d room = 6 when not (allowedDevice d) ∷ 5 when ltb room (frameMost frameLimit) ∷ []
 
 unfoldable pub judged : Device → List ℕ → ℕ → Answer Reaction
 judged d f room = answered (judgeRows d room) (reactionOf (judgedFrame d f))
@@ -52,9 +53,9 @@ unfoldable pub heardBy : Device → ℕ → Answer (List ℕ) → Answer Reactio
 heardBy d room (refuses k) = refuses k
 heardBy d room (gives f) = judged d f room
 
--- decoded into a buffer of its own, for 76 octets
+-- decoded into a buffer of its own, with room for every frame
 unfoldable pub heard : Device → List ℕ → ℕ → Answer Reaction
-heard d line room = heardBy d room (decoded 78 line frameMost)
+heard d line room = heardBy d room (decoded frameLimit line (frameMost frameLimit))
 
 -- ---- the code's answers
 

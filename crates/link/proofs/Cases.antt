@@ -9,6 +9,7 @@ use borrow.Author.Tests.{ltb-true, ltb-false, lt-ltb, eqb-true, eqb-false, ne-eq
 use lib.Dec.{ltb, eqb}
 use lib.ListN.{length, getD, drop}
 use Rattle.octets.proofs.Words.{true-not-false}
+use Rattle.frame.specs.Line.{frameLimit, frameMost}
 use Rattle.control.specs.Control.{polled, askedBy}
 use Rattle.control.specs.declared.Order.{Order}
 use Rattle.control.specs.declared.Order.the-variants.{Xid, Snrm, Disc, Info, Rr, Rnr, Unknown}
@@ -26,7 +27,7 @@ use Rattle.station.specs.declared.Turn.{Turn}
 use Rattle.station.specs.Turns.{saying, mute}
 use Rattle.states.specs.States.{begun, released, ua, dm, rejected, informedBy, polledBy, pausedBy}
 use Rattle.states.specs.States.{infoBy, rrBy, rnrBy, connectedBy, isSnrm, assignedBy, linkedBy}
-use Rattle.link.specs.Link.{quiet, ownBy, xidBy, everyoneBy, isOwn, addressedBy, controlledBy, frameMost}
+use Rattle.link.specs.Link.{quiet, ownBy, xidBy, everyoneBy, isOwn, addressedBy, controlledBy}
 use Rattle.link.specs.Link.{judgedFrame}
 use Rattle.link.specs.Frames.{controlOf, Own, numberIn, Numbered, Everyone, Unread}
 use Rattle.link.specs.Frames.{short, long, unpolled, unfit, unmeant, elsewhere, unheeded, unassigned}
@@ -52,7 +53,7 @@ either false e h = h
 module _ (d : Device) (f : List ℕ) where
   controlled-silent : controlledBy d (getD f 0 0) (controlOf f) (drop 2 f) ≡ mute d → judgedFrame d f ≡ mute d
   unfolding judgedFrame
-  controlled-silent e = either (ltb (length f) 2 || ltb frameMost (length f)) refl e
+  controlled-silent e = either (ltb (length f) 2 || ltb (frameMost frameLimit) (length f)) refl e
 
   addressed-silent : addressedBy d (getD f 0 0) (controlOf f) (drop 2 f) ≡ mute d → judgedFrame d f ≡ mute d
   unfolding controlledBy
@@ -62,7 +63,7 @@ module _ (d : Device) (f : List ℕ) where
   pub unread-silent : Unread d f → judgedFrame d f ≡ mute d
   unfolding judgedFrame controlledBy addressedBy everyoneBy ownBy xidBy linkedBy
   unread-silent (short h) = rw (lt-ltb (length f) 2 h)
-  unread-silent (long h) = rw (lt-ltb frameMost (length f) h, or-true (ltb (length f) 2))
+  unread-silent (long h) = rw (lt-ltb (frameMost frameLimit) (length f) h, or-true (ltb (length f) 2))
   unread-silent (unpolled e) = controlled-silent (rw e)
   unread-silent (unfit a c) = addressed-silent (rw (a, ne-eqb (controlOf f) 0xBF c))
   unread-silent (unmeant w e) = everyone-is d f w ∙ ap (xidBy d) e
@@ -149,7 +150,7 @@ module _ (d : Device) (f : List ℕ) (P : Turn → Type 0)
   xid-cases w xids.Xid.Scan e = scanned w e
   xid-cases w (xids.Xid.Assignment a) e = assigned a w e
 
-  module _ (least : 2 ≤ length f) (most : length f ≤ frameMost) where
+  module _ (least : 2 ≤ length f) (most : length f ≤ frameMost frameLimit) where
     everyone-cases : getD f 0 0 ≡ 0xFF → (b : Bool) → eqb (controlOf f) 0xBF ≡ b
         → P (cond b (xidBy d (readOf (identityOf (d .plate)) (drop 2 f))) (mute d))
     everyone-cases a true e =
@@ -182,11 +183,11 @@ module _ (d : Device) (f : List ℕ) (P : Turn → Type 0)
   -- each frame does one of these things
   pub judged-cases : P (judgedFrame d f)
   unfolding judgedFrame controlledBy
-  judged-cases = go (ltb (length f) 2) refl (ltb frameMost (length f)) refl
+  judged-cases = go (ltb (length f) 2) refl (ltb (frameMost frameLimit) (length f)) refl
     where
-      go : (a : Bool) → ltb (length f) 2 ≡ a → (b : Bool) → ltb frameMost (length f) ≡ b
+      go : (a : Bool) → ltb (length f) 2 ≡ a → (b : Bool) → ltb (frameMost frameLimit) (length f) ≡ b
           → P (cond (a || b) (mute d) (controlledBy d (getD f 0 0) (getD f 1 0) (drop 2 f)))
       go true a b e = silent (short (ltb-true (length f) 2 a))
-      go false a true e = silent (long (ltb-true frameMost (length f) e))
+      go false a true e = silent (long (ltb-true (frameMost frameLimit) (length f) e))
       go false a false e =
-          controlled-cases (ltb-false (length f) 2 a) (ltb-false frameMost (length f) e) (polled (controlOf f)) refl
+          controlled-cases (ltb-false (length f) 2 a) (ltb-false (frameMost frameLimit) (length f) e) (polled (controlOf f)) refl

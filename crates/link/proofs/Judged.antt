@@ -5,14 +5,15 @@ use Prim.Native.Nat.{ℕ, _-_, _≤_}
 use borrow.Author.Tests.{le-ltb}
 use lib.ListN.{length, getD, take, drop}
 use Rattle.octets.proofs.Takes.{take-rest}
+use Rattle.frame.specs.Line.{frameLimit, frameMost}
 use Rattle.record.specs.declared.Device.{Device}
 use Rattle.station.specs.declared.Turn.{Turn}
-use Rattle.link.specs.Link.{controlledBy, judgedFrame, frameMost}
+use Rattle.link.specs.Link.{controlledBy, judgedFrame}
 
-module _ (d : Device) (f : List ℕ) (two : 2 ≤ length f) (most : length f ≤ frameMost) where
+module _ (d : Device) (f : List ℕ) (two : 2 ≤ length f) (most : length f ≤ frameMost frameLimit) where
   pub judged-is : judgedFrame d f ≡ controlledBy d (getD f 0 0) (getD f 1 0) (drop 2 f)
   unfolding judgedFrame
-  judged-is = rw (le-ltb (length f) 2 two, le-ltb frameMost (length f) most)
+  judged-is = rw (le-ltb (length f) 2 two, le-ltb (frameMost frameLimit) (length f) most)
 
   pub judged-by : (t : Turn) → t ≡ controlledBy d (getD f 0 0) (getD f 1 0) (take (length f - 2) (drop 2 f))
       → t ≡ judgedFrame d f

@@ -15,6 +15,7 @@ use mathlib.Core.Option.{Option, none, some}
 use Prim.Native.Nat.{ℕ, _<_, _≤_}
 use lib.Dec.{eqb}
 use lib.ListN.{length, getD, drop}
+use Rattle.frame.specs.Line.{frameLimit, frameMost}
 use Rattle.control.specs.Control.{polled, askedBy}
 use Rattle.control.specs.declared.Order.{Order}
 use Rattle.control.specs.declared.Order.the-variants.{Xid, Snrm, Disc, Info, Rr, Rnr, Unknown}
@@ -26,7 +27,7 @@ use Rattle.record.specs.Allowed.{identityOf}
 use Rattle.xid.specs.Match.{readOf}
 use Rattle.xid.specs.declared.Xid as xids
 use Rattle.session.specs.Session.{goodNumber}
-use Rattle.link.specs.Link.{quiet, isOwn, frameMost}
+use Rattle.link.specs.Link.{quiet, isOwn}
 
 abbrev pub controlOf : List ℕ → ℕ
 controlOf f = getD f 1 0
@@ -38,7 +39,7 @@ hasAddress (Connected s) = true
 
 pub record Own (d : Device) (f : List ℕ) (o : Order) : Type 0 where
   pub least : 2 ≤ length f
-  pub most : length f ≤ frameMost
+  pub most : length f ≤ frameMost frameLimit
   pub poll : polled (controlOf f) ≡ true
   pub all : eqb (getD f 0 0) 0xFF ≡ false
   pub own : isOwn d (getD f 0 0) ≡ true
@@ -52,7 +53,7 @@ pub record Numbered (d : Device) (f : List ℕ) (o : Order) (r : ℕ) (s : Sessi
 
 pub record Everyone (f : List ℕ) : Type 0 where
   pub least : 2 ≤ length f
-  pub most : length f ≤ frameMost
+  pub most : length f ≤ frameMost frameLimit
   pub address : getD f 0 0 ≡ 0xFF
   pub control : controlOf f ≡ 0xBF
 
@@ -76,7 +77,7 @@ pub data Supervised (o : Order) : Type 0 where
 pub data Unread (d : Device) (f : List ℕ) : Type 0 where
   -- "fewer than 2 or more than 76 octets, silence"
   short : length f < 2 → Unread d f
-  long : frameMost < length f → Unread d f
+  long : frameMost frameLimit < length f → Unread d f
   -- "Control octets below have the poll bit set; with it clear, silence."
   unpolled : polled (controlOf f) ≡ false → Unread d f
   -- "Address 0xFF: only XID (0xBF) is read."

@@ -9,6 +9,7 @@ use mathlib.Core.List.{List}
 use Prim.Native.Nat.{ℕ}
 use lib.Dec.{ltb, eqb}
 use lib.ListN.{length, getD, drop}
+use Rattle.frame.specs.Line.{frameLimit, frameMost}
 use Rattle.control.specs.Control.{polled, askedBy}
 use Rattle.control.specs.declared.Order.{Order}
 use Rattle.control.specs.declared.Order.the-variants.{Xid, Snrm, Disc, Info, Rr, Rnr, Unknown}
@@ -58,9 +59,7 @@ unfoldable pub controlledBy : Device → ℕ → ℕ → List ℕ → Turn
 controlledBy d a c p = cond (polled c) (addressedBy d a c p) (mute d)
 
 -- "fewer than 2 or more than 76 octets, silence"
-abbrev pub frameMost : ℕ
-frameMost = 76
-
 unfoldable pub judgedFrame : Device → List ℕ → Turn
 judgedFrame d f =
-    cond (ltb (length f) 2 || ltb frameMost (length f)) (mute d) (controlledBy d (getD f 0 0) (getD f 1 0) (drop 2 f))
+    cond (ltb (length f) 2 || ltb (frameMost frameLimit) (length f)) (mute d)
+    (controlledBy d (getD f 0 0) (getD f 1 0) (drop 2 f))
