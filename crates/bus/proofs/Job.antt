@@ -7,7 +7,7 @@ use Prim.Native.Nat.{ℕ, _+_, _*_, _≤_}
 use native.Mathlib.Omega.{arith}
 use lib.ListN.{length, take, length-take, length-map}
 use Rattle.identity.specs.Bits.{Bits}
-use Rattle.identity.specs.Identity.{depth, octetsOf}
+use Rattle.identity.specs.Identity.{unpadded, depth, octetsOf}
 use Rattle.identity.specs.Order.{lower, Ascending, Different}
 use Rattle.identity.proofs.Lists.{map-in}
 use Rattle.record.specs.declared.Device.{Device}
@@ -16,12 +16,12 @@ use Rattle.scan.specs.declared.Scan.{Scan}
 use Rattle.scan.specs.declared.State.the-variants.{Complete}
 use Rattle.scan.specs.Record.{listMost, listOf}
 use Rattle.whole_scan.specs.Demand.{probesEach}
+use Rattle.identity.proofs.Identities.{unpadded-padded}
 use Rattle.bus.specs.Cable.{identityIn, paddedIn, Cabled, heardOn}
 use Rattle.bus.specs.Scanning.{scanned}
-use Rattle.bus.specs.Install.{unpadded, assignedAll, NoRightEnd, NoLaterEnd, Installed, Job}
+use Rattle.bus.specs.Install.{assignedAll, NoRightEnd, NoLaterEnd, Installed, Job}
 use Rattle.bus.proofs.Heard.{identity-allowed}
 use Rattle.bus.proofs.Scans.{scan-row, scan-any, scan-unchanged, scan-complete}
-use Rattle.bus.proofs.Unpads.{unpadded-padded}
 use Rattle.bus.proofs.Needs.{installed-exactly}
 
 module _ (limit : ℕ) (ds : List Device) (c : Cabled ds) where

@@ -2,6 +2,8 @@
 // The definitions and laws of the whole scanner are here, its other calls in `scanner`. Assumes nothing of its caller.
 ghost use mathlib.Core.Path.{_≡_};
 ghost use lib.ListN.{length, take};
+ghost use Rattle.identity.specs.Bits.{ones};
+ghost use Rattle.identity.specs.Identity.{octetsOf};
 ghost use Rattle.refusal.specs.Answer.{Hands};
 ghost use Rattle.scan.specs.Scan.{over, probeOf, probed};
 use identity::BITS;
@@ -63,6 +65,13 @@ pub fn is_over(scan: Scan) -> bool
     BITS < scan.bits
 }
 
+// Ones over a beginning of so many bits, zeros behind it.
+fn mask_of(bits: usize) -> [u8; OCTETS]
+    ensures { λ r. ⌜ r ≡ octetsOf (ones bits) ⌝ }
+{
+    identity::octets_of([true; BITS], bits)
+}
+
 // The octets of the probe of a beginning.
 fn probe_of(beginning: [bool; BITS], bits: usize) -> [u8; PROBE]
     ensures { λ r. ⌜ r ≡ probeOf (take bits beginning) ⌝ }
@@ -71,7 +80,7 @@ fn probe_of(beginning: [bool; BITS], bits: usize) -> [u8; PROBE]
     octets::put_all(&mut probe, 0, &[0xFF, 0xBF, 0x81, 0xF0, 0x2A, 1, WIDTH]);
     octets::put_all(&mut probe, VALUE, &identity::octets_of(beginning, bits));
     octets::put_all(&mut probe, HEAD, &[3, WIDTH]);
-    octets::put_all(&mut probe, MASK, &identity::mask_of(bits));
+    octets::put_all(&mut probe, MASK, &mask_of(bits));
     probe
 }
 
