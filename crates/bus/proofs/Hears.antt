@@ -9,7 +9,7 @@ use Prim.Native.Nat.{ℕ, _≤_}
 use native.Mathlib.Omega.{arith}
 use lib.ListN.{length}
 use Rattle.octets.specs.Octets.{Octets}
-use Rattle.octets.proofs.Words.{true-not-false}
+use Rattle.octets.proofs.Words.{or-parts, true-not-false}
 use Rattle.refusal.specs.Answer.{gives, answered}
 use Rattle.refusal.proofs.Answers.{in-room}
 use Rattle.frame.specs.Line.{frameLimit, frameMost, payloadMost, lineMost, inside}
@@ -21,7 +21,6 @@ use Rattle.record.specs.declared.Device.{Device}
 use Rattle.record.specs.Allowed.{allowedDevice}
 use Rattle.link.specs.Link.{judgedFrame}
 use Rattle.device.specs.Judge.{reactionOf, judgeRows, judged, heardBy, heard}
-use Rattle.walk.proofs.Doubts.{or-parts}
 use Rattle.bus.specs.Cable.{octetsGiven, lineFor, hears, replies, afterLine, anyReplies, allAfter, afterLines}
 use Rattle.bus.specs.Cable.{allAfterLines}
 

@@ -11,17 +11,13 @@ use Prim.Native.Nat.{ℕ, _≤_}
 use native.Mathlib.Omega.{arith}
 use borrow.Author.Tests.{ltb-true, ne-eqb}
 use lib.Dec.{ltb}
-use Rattle.octets.proofs.Words.{true-not-false}
 use Rattle.refusal.specs.Answer.{gives}
 use Rattle.identity.specs.Order.{Different}
 use Rattle.identity.proofs.Identities.{and-parts}
 use Rattle.identity.proofs.Lists.{map-out}
 use Rattle.control.specs.Control.{polled}
 use Rattle.record.specs.declared.Device.{Device}
-use Rattle.record.specs.declared.Link.{Link}
-use Rattle.record.specs.declared.Link.the-variants.{NoAddress, AddressAssigned, Connected}
-use Rattle.record.specs.declared.Station.{Station}
-use Rattle.record.specs.Allowed.{addressed, sessionAllowed, linkAllowed, stationAllowed, allowedDevice}
+use Rattle.record.specs.Allowed.{addressed, stationAllowed, allowedDevice}
 use Rattle.record.specs.Changes.{unsaidAt, endedAs}
 use Rattle.record.proofs.Stays.{sound}
 use Rattle.station.specs.declared.Turn.{Turn}
@@ -33,19 +29,13 @@ use Rattle.link.proofs.Judged.{judged-is}
 use Rattle.speech.specs.Speech.{isSilent, controlBy, payloadBy, frameBy}
 use Rattle.device.specs.Judge.{reacts, reactionOf, deviceAfter}
 use Rattle.conduct.proofs.Answers.{snrm-answered}
-use Rattle.conduct.proofs.Stays.{stays-allowed}
+use Rattle.conduct.proofs.Stays.{has-addressed, stays-allowed}
 use Rattle.bus.specs.Cable.{hears, afterLine, afterLines, allAfterLines}
 use Rattle.bus.specs.Install.{snrmFor}
 use Rattle.bus.proofs.Hears.{hears-written, row-lines}
 use Rattle.bus.proofs.Places.{map-same}
 
 -- ---- one device
-
-has-addressed : (t : Station) (l : Link) → linkAllowed t l ≡ true → hasAddress l ≡ true → addressed (t .address) ≡ true
-unfolding linkAllowed
-has-addressed t NoAddress e h = absurd (true-not-false (sym h))
-has-addressed t AddressAssigned e h = e
-has-addressed t (Connected s) e h = and-parts (addressed (t .address)) (sessionAllowed t s) e .0
 
 -- allowed, with an address
 pub record Ready (d : Device) : Type 0 where

@@ -54,11 +54,6 @@ length-masked [] (y ∷ m) = omega arith
 length-masked (x ∷ s) [] = omega arith
 length-masked (x ∷ s) (y ∷ m) = omega (arith, length-masked s m)
 
-pub masked-nil : (s : List ℕ) → masked s [] ≡ []
-unfolding masked
-masked-nil [] = refl
-masked-nil (x ∷ s) = refl
-
 module _ (s m b : List ℕ) (i : ℕ) {w : Bool} (v : same (masked (drop i s) (drop i m)) (drop i b) ≡ w) where
   pub masked-not : i < length s → i < length m → i < length b
       → (bitAnd (getD s i 0) (getD m i 0) ≡ getD b i 0 → ⊥) → false ≡ w

@@ -51,7 +51,7 @@ abbrev Good : Turn → Type 0
 Good t = allowedDevice (t .device) ≡ true
 
 -- a device that has an address has one of 1 to 254
-has-addressed : (t : Station) (l : Link) → linkAllowed t l ≡ true → hasAddress l ≡ true → addressed (t .address) ≡ true
+pub has-addressed : (t : Station) (l : Link) → linkAllowed t l ≡ true → hasAddress l ≡ true → addressed (t .address) ≡ true
 unfolding linkAllowed
 has-addressed t NoAddress e h = absurd (false≢true h)
 has-addressed t AddressAssigned e h = e

@@ -1,6 +1,6 @@
 -- Which records take no probe and no answer. Assumes nothing.
 use mathlib.Core.Path.{_≡_, refl, sym, _∙_}
-use mathlib.Core.Bool.{Bool, true, false, not, _||_, or-true, true≢false}
+use mathlib.Core.Bool.{true, false, not, or-true}
 use mathlib.Core.List.{[], _∷_}
 use mathlib.Core.Logic.{⊎-elim}
 use Prim.Native.Nat.{_≤_, _<_}
@@ -10,6 +10,7 @@ use denote.Enum.Declared.{tagOf}
 use lib.Dec.{ltb}
 use types.Run.{OneOf}
 use Rattle.identity.specs.Identity.{depth}
+use Rattle.octets.proofs.Words.{or-none}
 use Rattle.scan.specs.Record.{listMost}
 use Rattle.scan.specs.Scan.{ended, over}
 use Rattle.scan.specs.declared.Scan.{Scan}
@@ -52,10 +53,6 @@ module _ (s : Scan) where
   pub over-bits : ended (s .state) ≡ false → s .count < s .limit → s .listed ≤ listMost → ltb depth (s .bits) ≡ over s
   unfolding over
   over-bits e h k = rw (e, lt-ltb (s .count) (s .limit) h, le-ltb listMost (s .listed) k)
-
-or-none : (a b : Bool) → (a || b) ≡ false → (a ≡ false) × (b ≡ false)
-or-none true b e = absurd (true≢false e)
-or-none false b e = (refl, e)
 
 -- a record that takes a probe and an answer
 pub record Open (s : Scan) : Type 0 where

@@ -12,7 +12,7 @@ use Rattle.octets.specs.Octets.{holds}
 use Rattle.refusal.specs.Answer.{refuses, Row, _when_, shorter, numbersOf}
 use Rattle.refusal.proofs.Exactly.{TestsFor, exactly-tests}
 use Rattle.walk.specs.Machine.{step}
-use Rattle.walk.proofs.Doubts.{or-parts}
+use Rattle.octets.proofs.Words.{or-parts}
 use Rattle.scan.specs.Record.{listMost, beginningOf, walkOf, recordOf}
 use Rattle.scan.specs.Scan.{probeLength, ended, over, probeOf, probed, reported}
 use Rattle.scan.specs.declared.Scan.{Scan}
