@@ -27,9 +27,12 @@ use Rattle.bus.specs.Cable.{allAfterLines}
 -- the writer never refuses a frame with a payload that may be written, and the longest line has room for it
 pub line-written : (a c : ℕ) (p : List ℕ) → length p ≤ payloadMost frameLimit → lineFor (a ∷ c ∷ p) ≡ lineOf (a ∷ c ∷ p)
 unfolding lineFor octetsGiven
-line-written a c p h = ap octetsGiven (write-fits frameLimit a c p (lineMost frameLimit) (omega arith) (line-most frameLimit a c p (omega arith) h))
+line-written a c p h =
+    let fits = line-most frameLimit a c p (omega arith) h in
+    ap octetsGiven (write-fits frameLimit a c p (lineMost frameLimit) (omega arith) fits)
 
-pub hears-written : (d : Device) (a c : ℕ) (p : List ℕ) → allowedDevice d ≡ true → Octets (a ∷ c ∷ p) → length p ≤ payloadMost frameLimit
+pub hears-written : (d : Device) (a c : ℕ) (p : List ℕ) → allowedDevice d ≡ true → Octets (a ∷ c ∷ p)
+    → length p ≤ payloadMost frameLimit
     → hears d (lineFor (a ∷ c ∷ p)) ≡ gives (reactionOf (judgedFrame d (a ∷ c ∷ p)))
 unfolding hears heard heardBy judged judgeRows answered
 hears-written d a c p allowed os h =

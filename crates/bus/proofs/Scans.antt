@@ -124,7 +124,8 @@ module _ (ds : List Device) (c : Cabled ds) where
         (subst (λ (s : Scan). AnyScan limit (heardOn ds) s told ms) scan-is (any-scans limit (heardOn ds)))
 
     -- "up to 32" devices, and a limit of demand 3's bound
-    pub scan-complete : length ds ≤ listMost → 1 + probesEach * length ds ≤ limit → scanned limit ds .scan .state ≡ Complete
+    pub scan-complete : length ds ≤ listMost → 1 + probesEach * length ds ≤ limit
+        → scanned limit ds .scan .state ≡ Complete
     scan-complete few long =
         let (all, shorter, w) = scan-row in
         let ids : List Bits = map bitsOf (map paddedIn ds) in

@@ -106,7 +106,8 @@ buffer = replicate (frameMost frameLimit) 0
 -- the device d says x of the frame f, into that buffer
 abbrev pub Answers : Device → List ℕ → Option (List ℕ) → Type 0
 Answers d f x =
-    let r = judged d f (frameMost frameLimit) in (toldOf r ≡ gives (sizeOf x)) × (bufferAfter r buffer ≡ frameAt x buffer)
+    let r = judged d f (frameMost frameLimit) in
+    (toldOf r ≡ gives (sizeOf x)) × (bufferAfter r buffer ≡ frameAt x buffer)
 
 unfoldable pub Holds : Row → Type 0
 Holds (ends ids limit state count) =

@@ -42,7 +42,7 @@ module _ (d : Device) (f : List ℕ) (room : ℕ) where
   judge-6 = (λ e. not-true _ (by-rows 6 .0 e), λ w. by-rows 6 .1 (ap not w))
 
   -- 5: "an answer buffer shorter than 76", and not 6
-  pub judge-5 : judged d f room ≡ refuses 5 ↔ (allowedDevice d ≡ true) × (room < frameMost)
+  pub judge-5 : judged d f room ≡ refuses 5 ↔ (allowedDevice d ≡ true) × (room < frameMost frameLimit)
   unfolding TestsFor numbersOf holds judgeRows
   judge-5 = (
     λ e. let g = by-rows 5 .0 e in (not-false _ (g .0), ltb-true _ _ (g .1)),
@@ -51,7 +51,7 @@ module _ (d : Device) (f : List ℕ) (room : ℕ) where
 
   -- an answer: neither; and it is what comes of the frame
   pub judge-answer : (x : Reaction) → judged d f room ≡ gives x
-      ↔ (allowedDevice d ≡ true) × (frameMost ≤ room) × (reactionOf (judgedFrame d f) ≡ x)
+      ↔ (allowedDevice d ≡ true) × (frameMost frameLimit ≤ room) × (reactionOf (judgedFrame d f) ≡ x)
   unfolding judged Clear judgeRows
   judge-answer x = (
     λ e.
@@ -85,7 +85,8 @@ module _ (d : Device) (line : List ℕ) (room : ℕ) where
   unfolding holds
   hear-2 = Iff·trans (by-decoder d line room 2 refl) (decode-2 frameLimit line (frameMost frameLimit))
 
-  pub hear-3 : heard d line room ≡ refuses 3 ↔ Sized frameLimit line (frameMost frameLimit) × (rightCheck (plain line) ≡ false)
+  pub hear-3 : heard d line room ≡ refuses 3
+      ↔ Sized frameLimit line (frameMost frameLimit) × (rightCheck (plain line) ≡ false)
   unfolding holds
   hear-3 = Iff·trans (by-decoder d line room 3 refl) (decode-3 frameLimit line (frameMost frameLimit))
 
@@ -97,7 +98,7 @@ module _ (d : Device) (line : List ℕ) (room : ℕ) where
   )
 
   -- then 5
-  pub hear-5 : heard d line room ≡ refuses 5 ↔ Readable line × (allowedDevice d ≡ true) × (room < frameMost)
+  pub hear-5 : heard d line room ≡ refuses 5 ↔ Readable line × (allowedDevice d ≡ true) × (room < frameMost frameLimit)
   hear-5 = (
     λ e.
         let w = by-judge d line room 5 (hear-own-room line) .0 e in
@@ -107,7 +108,7 @@ module _ (d : Device) (line : List ℕ) (room : ℕ) where
 
   -- an answer: none of the numbers; and it is what comes of the decoded frame
   pub hear-answer : (x : Reaction) → heard d line room ≡ gives x
-      ↔ Readable line × (allowedDevice d ≡ true) × (frameMost ≤ room)
+      ↔ Readable line × (allowedDevice d ≡ true) × (frameMost frameLimit ≤ room)
       × (reactionOf (judgedFrame d (body (plain line))) ≡ x)
   hear-answer x = (
     λ e.

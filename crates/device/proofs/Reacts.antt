@@ -13,7 +13,6 @@ use Rattle.refusal.specs.declared.Handed.{Handed}
 use Rattle.refusal.specs.Numbers.{numberOf}
 use Rattle.refusal.specs.Answer.{Answer, gives, refuses, answered, Hands}
 use Rattle.refusal.proofs.Answers.{octets-told, refusal-told}
-use Rattle.frame.specs.Decode.{decoded}
 use Rattle.record.specs.declared.Device.{Device}
 use Rattle.record.specs.Allowed.{allowedDevice}
 use Rattle.station.specs.declared.Say.{Say}
@@ -24,8 +23,8 @@ use Rattle.speech.specs.Speech.{isSilent, controlBy, payloadBy, frameBy, spoken
 use Rattle.frame.specs.Line.{frameLimit, frameMost}
 use Rattle.device.specs.declared.Said.the-variants.{Silence, Frame, Refused}
 use Rattle.device.specs.declared.Judged.{Judged}
-use Rattle.device.specs.Judge.{Reaction, reacts, reactionOf, judgeRows, judged, heardBy, heard, refusalIn, saidOf}
-use Rattle.device.specs.Judge.{sizeOf, toldOf, deviceAfter, frameAt, bufferAfter, Judges}
+use Rattle.device.specs.Judge.{Reaction, reacts, reactionOf, judgeRows, judged, heardBy, decodedHere, heard, refusalIn}
+use Rattle.device.specs.Judge.{saidOf, sizeOf, toldOf, deviceAfter, frameAt, bufferAfter, Judges}
 
 pub judges-is : {x y : Answer Reaction} {d : Device} {o o' : List ℕ} {r : Judged} → x ≡ y → Judges x d o r o'
     → Judges y d o r o'
@@ -93,7 +92,8 @@ module _ (d : Device) (f o : List ℕ) where
   judged-turn e h = rw (e, le-ltb (length o) (frameMost frameLimit) h)
 
   -- the turn's device and what it says
-  pub turned : allowedDevice d ≡ true → frameMost frameLimit ≤ length o → {t : Turn} {r : Judged} {o' : List ℕ} → t ≡ judgedFrame d f
+  pub turned : allowedDevice d ≡ true → frameMost frameLimit ≤ length o → {t : Turn} {r : Judged} {o' : List ℕ}
+      → t ≡ judgedFrame d f
       → Judges (gives (reacts (t .device) (t .say))) (t .device) o r o' → Judges (judged d f (length o)) d o r o'
   unfolding deviceAfter
   turned e h {t} {r} {o'} q w =
@@ -104,18 +104,18 @@ module _ (d : Device) (f o : List ℕ) where
 -- ---- a line heard
 
 module _ (d : Device) (line o store store' : List ℕ) where
-  pub heard-refused : {h : Handed} (k q : Refusal) → Hands (decoded frameLimit line (frameMost frameLimit)) store h store'
+  pub heard-refused : {h : Handed} (k q : Refusal) → Hands (decodedHere line) store h store'
       → h ≡ Handed.Refused k → q ≡ refusalIn h
       → Judges (heard d line (length o)) d o (record { said = Refused q; device = d }) o
   unfolding heard heardBy
   heard-refused k q w e u =
-      let t = refusal-told (decoded frameLimit line (frameMost frameLimit)) {k = k} (rw e at w) in
+      let t = refusal-told (decodedHere line) {k = k} (rw e at w) in
       refused (heard d line (length o)) d o q (rw (t .0, u, e))
 
-  pub heard-judged : (n : ℕ) → {h : Handed} → Hands (decoded frameLimit line (frameMost frameLimit)) store h store' → h ≡ Handed.Octets n
+  pub heard-judged : (n : ℕ) → {h : Handed} → Hands (decodedHere line) store h store' → h ≡ Handed.Octets n
       → judged d (take n store') (length o) ≡ heard d line (length o)
   unfolding heard heardBy
-  heard-judged n w e = let t = octets-told (decoded frameLimit line (frameMost frameLimit)) {n = n} (rw e at w) in rw (t .0)
+  heard-judged n w e = let t = octets-told (decodedHere line) {n = n} (rw e at w) in rw (t .0)
 
 -- the frame that was decoded stands in the decoder's buffer
 pub heard-count : (x : Answer (List ℕ)) (n : ℕ) {store store' : List ℕ} {h : Handed} → Hands x store h store'

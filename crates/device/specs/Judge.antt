@@ -2,6 +2,7 @@
 --   Reaction          == the device after a frame, and the frame that it says, if any
 --   reacts d x        == the device d, saying x; reactionOf t == what comes of the turn t
 --   judged d f room   == the decoded frame f, judged by the device d, with an answer buffer of so many octets
+--   decodedHere line  == the octets between two flags, decoded by the device
 --   heard d line room == the octets between two flags, decoded and then judged
 --   saidOf x          == the number, silence, or how many octets, for each case of the code's answer
 --   Judges x d o r o' == the code's result r, and the buffer o' that was o, are the answer x of the device d
@@ -54,8 +55,11 @@ heardBy d room (refuses k) = refuses k
 heardBy d room (gives f) = judged d f room
 
 -- decoded into a buffer of its own, with room for every frame
+abbrev pub decodedHere : List ℕ → Answer (List ℕ)
+decodedHere line = decoded frameLimit line (frameMost frameLimit)
+
 unfoldable pub heard : Device → List ℕ → ℕ → Answer Reaction
-heard d line room = heardBy d room (decoded frameLimit line (frameMost frameLimit))
+heard d line room = heardBy d room (decodedHere line)
 
 -- ---- the code's answers
 

@@ -48,7 +48,8 @@ module _ {o o' : List ℕ} where
 
 -- a probe is written from its first octet, its second and the rest
 pub probe-line : (f : List ℕ) (m : ℕ) {o o' : List ℕ} {r : Handed} {n : ℕ} → length f ≤ m
-    → Hands (written frameLimit (getD f 0 0) (getD f 1 0) (take (m - 2) (drop 2 f)) (lineMost frameLimit)) o r o' → n ≡ sizeIn r
+    → Hands (written frameLimit (getD f 0 0) (getD f 1 0) (take (m - 2) (drop 2 f)) (lineMost frameLimit)) o r o'
+    → n ≡ sizeIn r
     → take n o' ≡ lineFor f
 unfolding lineFor
 probe-line f m {o' = o'} {r = r} long h e =
@@ -70,8 +71,8 @@ given-all s f g = go (over s) refl
         ap length (gives-same (sym g ∙ gave)) ∙ length-probe (beginningOf s)
 
 -- and so it fills what was lent
-given-fills : (s : Scan) (f : List ℕ) {o o' : List ℕ} {r : Handed} → length o ≡ probeLength → Hands (probed s probeLength) o r o'
-    → probed s probeLength ≡ gives f → o' ≡ f
+given-fills : (s : Scan) (f : List ℕ) {o o' : List ℕ} {r : Handed} → length o ≡ probeLength
+    → Hands (probed s probeLength) o r o' → probed s probeLength ≡ gives f → o' ≡ f
 unfolding outAfter _atStartOf_
 given-fills s f {o} n h e =
     let size : length f ≡ probeLength = given-all s f e in
@@ -129,6 +130,8 @@ unfolding hears
 listens-is d l {x} {j = j} {before = before} h e f =
     let same : heard d x (frameMost frameLimit) ≡ hears d l = ap (λ (s : List ℕ). heard d s (frameMost frameLimit)) e in
     record {
-      heard = f ∙ ap (λ (t : Bool). t || before) (said-frame (heard d x (frameMost frameLimit)) (j .said) (h .said) ∙ ap withFrame same);
+      heard =
+        f ∙ ap (λ (t : Bool). t || before)
+        (said-frame (heard d x (frameMost frameLimit)) (j .said) (h .said) ∙ ap withFrame same);
       device = h .device ∙ ap (λ (a : Answer Reaction). deviceAfter a d) same;
     }

@@ -48,8 +48,8 @@ few-same n ds = go (leb n (length ds)) refl
           drop-of-length-le ds {i = min n (length ds)} (omega arith) ∙ sym (drop-of-length-le ds {i = n} (omega arith)),
         )
 
-pub sending-all : (l : List ℕ) (ds : List Device) (n : ℕ) {k : ℕ} {b : Bool} → length ds ≡ rowMost → k ≡ min n rowMost → b ≡ false
-    → Sending l ds k b ds n
+pub sending-all : (l : List ℕ) (ds : List Device) (n : ℕ) {k : ℕ} {b : Bool} → length ds ≡ rowMost
+    → k ≡ min n rowMost → b ≡ false → Sending l ds k b ds n
 sending-all l ds n {k} {b} size e f =
     let m : k ≡ min n (length ds) = omega arith in
     let (t, u) = few-same n ds in

@@ -47,7 +47,8 @@ module _ (d : Device) (x : Say) (r : Payload) where
   assignment-said e h = holds-said r (assignmentAnswer (identityOf (d .plate))) h ∙ sym (ap (payloadBy d) e)
 
 -- address and control are stored in front of a row
-module _ (a c : ℕ) (row : List ℕ) (len : ℕ) (size : length row ≡ replyMost) {o : List ℕ} {n : ℕ} (count : n ≡ min len replyMost)
+module _ (a c : ℕ) (row : List ℕ) (len : ℕ) (size : length row ≡ replyMost) {o : List ℕ} {n : ℕ}
+    (count : n ≡ min len replyMost)
     (stored : o ≡ sets (set (set (replicate (frameMost frameLimit) 0) 0 a) 1 c) 2 (take n row)) where
   within : take n row ≡ take len row
   within = rw count (take-within len replyMost row (omega (arith, size)))
@@ -59,7 +60,8 @@ module _ (a c : ℕ) (row : List ℕ) (len : ℕ) (size : length row ≡ replyMo
       let m : length (take n row) ≡ n = simp length-take (omega (arith, size, count)) in
       let b = a ∷ c ∷ take n row in
       let zeros : List ℕ = replicate (frameMost frameLimit) 0 in
-      let room : length b ≤ length zeros = rw (length-replicate {A = ℕ} (frameMost frameLimit) 0) (omega (arith, m, count)) in
+      let room : length b ≤ length zeros =
+      rw (length-replicate {A = ℕ} (frameMost frameLimit) 0) (omega (arith, m, count)) in
       let k : n + 2 ≡ suc (suc n) = omega arith in
       let at : o ≡ b atStartOf zeros = stored ∙ sets-start b zeros room in
       (rw (← within, m) (ap₂ (λ (x : List ℕ) (j : ℕ). record { octets = x; len = j }) at k), omega (arith, count))
@@ -67,7 +69,8 @@ module _ (a c : ℕ) (row : List ℕ) (len : ℕ) (size : length row ≡ replyMo
 -- silence, and what is not
 module _ (d : Device) (x : Say) where
   pub silent-spoken : isSilent x ≡ true
-      → (_≡_ {A = Spoken} (record { octets = replicate (frameMost frameLimit) 0; len = 0 }) (spokenOf (frameBy d x))) × (0 ≤ frameMost frameLimit)
+      → (_≡_ {A = Spoken} (record { octets = replicate (frameMost frameLimit) 0; len = 0 }) (spokenOf (frameBy d x)))
+      × (0 ≤ frameMost frameLimit)
   unfolding frameBy spokenOf
   silent-spoken e = (rw e, omega arith)
 
