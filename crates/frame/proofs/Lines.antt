@@ -12,7 +12,8 @@ use lib.Dec.{eqb, ltb}
 use lib.ListN.{length, getD, drop, drop-of-length-le}
 use Rattle.octets.specs.Octets.{holds, OneOf, lastOf}
 use Rattle.octets.proofs.Rest.{rest}
-use Rattle.octets.proofs.Words.{or-parts, or-none, true-not-false, holds-here, holds-more, holds-done, holds-exactly, last-at, last-empty}
+use Rattle.octets.proofs.Words.{true-not-false, or-parts, or-none, holds-here, holds-more, holds-done, holds-exactly}
+use Rattle.octets.proofs.Words.{last-at, last-empty}
 use Rattle.frame.specs.Line.{lineMost, flag, escape, toggle, broken, plainAfter, plain}
 
 module _ (s : List ℕ) (i : ℕ) where

@@ -1,7 +1,7 @@
 -- Octets on the line: 01, "Octets on the line". N, where a definition takes it, is the frame limit.
 --   frameLimit   == the frame limit of 01: 78 octets of address, control, payload and check
---   frameMost N, payloadMost N, lineMost N == what follows from it: the most octets without the check (76), of a payload
---                   to be written (74), and of a line with its flags (158)
+--   frameMost N, payloadMost N, lineMost N == what follows from it: the most octets without the check (76), of a
+--                   payload to be written (74), and of a line with its flags (158)
 --   flag, escape, toggle == 0x7E, 0x7D, and the 0x20 that an escaped octet is changed by
 --   broken s     == refusal 4 looks before anything is decoded: 0x7E inside, or 0x7D as the last octet
 --   plain s      == the decoded octets: escapes taken out

@@ -29,7 +29,8 @@ module _ (s : List ℕ) (i : ℕ) {w : Bool} (v : allPrintable (drop i s) ≡ w)
   unfolding allPrintable printable
   printable-high h k = rw (rest s i h, lt-leb (getD s i 0) lastPrintable k, and-false (leb blank (getD s i 0))) at v
 
-  pub printable-more : i < length s → blank ≤ getD s i 0 → getD s i 0 ≤ lastPrintable → allPrintable (drop (i + 1) s) ≡ w
+  pub printable-more : i < length s → blank ≤ getD s i 0 → getD s i 0 ≤ lastPrintable
+      → allPrintable (drop (i + 1) s) ≡ w
   unfolding allPrintable printable
   printable-more h k j = rw (rest s i h, le-leb blank (getD s i 0) k, le-leb (getD s i 0) lastPrintable j) at v
 

@@ -14,7 +14,7 @@ pub const BITS: usize = 8 * OCTETS;
 // The blank that an identity is padded with, and the last octet that it may have.
 pub const BLANK: u8 = 0x20;
 
-pub const LAST_PRINTABLE: u8 = 0x7E;
+const LAST_PRINTABLE: u8 = 0x7E;
 
 // Whether every octet is 0x20 to 0x7E.
 fn all_printable(s: &[u8]) -> bool

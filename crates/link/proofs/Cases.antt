@@ -190,4 +190,5 @@ module _ (d : Device) (f : List ℕ) (P : Turn → Type 0)
       go true a b e = silent (short (ltb-true (length f) 2 a))
       go false a true e = silent (long (ltb-true (frameMost frameLimit) (length f) e))
       go false a false e =
-          controlled-cases (ltb-false (length f) 2 a) (ltb-false (frameMost frameLimit) (length f) e) (polled (controlOf f)) refl
+          controlled-cases (ltb-false (length f) 2 a) (ltb-false (frameMost frameLimit) (length f) e)
+          (polled (controlOf f)) refl

@@ -131,7 +131,7 @@ listens-is d l {x} {j = j} {before = before} h e f =
     let same : heard d x (frameMost frameLimit) ≡ hears d l = ap (λ (s : List ℕ). heard d s (frameMost frameLimit)) e in
     record {
       heard =
-        f ∙ ap (λ (t : Bool). t || before)
-        (said-frame (heard d x (frameMost frameLimit)) (j .said) (h .said) ∙ ap withFrame same);
+          f ∙ ap (λ (t : Bool). t || before)
+          (said-frame (heard d x (frameMost frameLimit)) (j .said) (h .said) ∙ ap withFrame same);
       device = h .device ∙ ap (λ (a : Answer Reaction). deviceAfter a d) same;
     }

@@ -60,7 +60,8 @@ probe-is row n e =
     let size : probeLength ≡ length (head ++ (v ++ (t ++ m))) =
     omega (arith, length-packed width (take n row), length-packed width (ones n), length-append v (t ++ m)) in
     let long : length (take n row) ≡ min n depth = length-take n row ∙ ap (min n) e in
-    four-runs (replicate probeLength 0) head v t m 7 26 28 refl (omega (arith, length-packed width (take n row))) refl size
+    four-runs (replicate probeLength 0) head v t m 7 26 28 refl (omega (arith, length-packed width (take n row))) refl
+    size
     ∙ ap (λ (x : List ℕ). head ++ (v ++ (t ++ x)))
     (sym (ap (λ (k : ℕ). octetsOf (ones k)) long ∙ ones-within width n))
 

@@ -38,7 +38,8 @@ over-exactly s = (there, back)
         (λ h.
         ⊎-elim (λ k. inr (inl (ltb-false (s .count) (s .limit) (not-true (ltb (s .count) (s .limit)) k))))
         (λ k.
-        ⊎-elim (λ m. inr (inr (inl (ltb-true listMost (s .listed) m)))) (λ m. inr (inr (inr (ltb-true depth (s .bits) m))))
+        ⊎-elim (λ m. inr (inr (inl (ltb-true listMost (s .listed) m))))
+        (λ m. inr (inr (inr (ltb-true depth (s .bits) m))))
         (or-parts (ltb listMost (s .listed)) (ltb depth (s .bits)) k))
         (or-parts (not (ltb (s .count) (s .limit))) _ h))
         (or-parts (ended (s .state)) _ e)

@@ -44,7 +44,8 @@ put-between-requires c κs =
 
 array-share-prefix-line : tie.Need-array-share-prefix-line
 array-share-prefix-line c =
-    let few = assembled-short frameLimit _ _ _ (c .before .before .before .before .before .assemble .ensures) (omega arith)
+    let few = assembled-short frameLimit _ _ _ (c .before .before .before .before .before .assemble .ensures)
+    (omega arith)
     (c .before .before .before .before .before .before .before .if1 .left) in
     let h = between-short frameLimit _ (c .before .put-between .ensures) (simp length-take (omega arith)) in
     omega arith
