@@ -9,7 +9,7 @@ fn say_list(list: [u8; scan::LIST], listed: usize) {
     if listed == 0 {
         return answers::say_hex(b' ', rows::part(&list, 0, 0));
     }
-    let end = octets::fewer(listed, scan::ROOM);
+    let end = octets::fewer(listed, scan::LIST_MOST);
     let mut mark = b' ';
     let mut i = 0;
     while i < end {

@@ -8,7 +8,7 @@ use native.Mathlib.Nat.{not-suc-le-zero, le-of-suc-le-suc}
 use native.Mathlib.Omega.{arith}
 use borrow.Author.Tests.{lt-ltb}
 use lib.ListN.{length, getD}
-use Rattle.identity.specs.Identity.{allowedIdentity, padded}
+use Rattle.identity.specs.Identity.{unpadded, allowedIdentity, padded}
 use Rattle.compare.specs.Rows.{endsWith}
 use Rattle.record.specs.declared.Device.{Device}
 use Rattle.record.specs.declared.Link.the-variants.{AddressAssigned}
@@ -17,10 +17,10 @@ use Rattle.record.specs.Allowed.{identityOf, addressed, linkAllowed, allowedDev
 use Rattle.record.specs.Changes.{unsaidAt, endedAs}
 use Rattle.record.proofs.Stays.{end-stays}
 use Rattle.xid.specs.Meaning.{EndOf}
+use Rattle.identity.proofs.Identities.{unpadded-padded}
 use Rattle.bus.specs.Cable.{identityIn, paddedIn, afterLine, afterLines}
-use Rattle.bus.specs.Install.{unpadded, assigning, assignments, NoRightEnd}
+use Rattle.bus.specs.Install.{assigning, assignments, NoRightEnd}
 use Rattle.bus.proofs.Heard.{identity-allowed}
-use Rattle.bus.proofs.Unpads.{unpadded-padded}
 use Rattle.bus.proofs.Assigns.{ends-exactly, assignment-heard}
 
 -- the device d after the lines for all of xs, the addresses counted from a on

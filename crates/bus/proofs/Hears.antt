@@ -9,37 +9,39 @@ use Prim.Native.Nat.{ℕ, _≤_}
 use native.Mathlib.Omega.{arith}
 use lib.ListN.{length}
 use Rattle.octets.specs.Octets.{Octets}
-use Rattle.octets.proofs.Words.{true-not-false}
+use Rattle.octets.proofs.Words.{or-parts, true-not-false}
 use Rattle.refusal.specs.Answer.{gives, answered}
 use Rattle.refusal.proofs.Answers.{in-room}
-use Rattle.frame.specs.Line.{inside}
+use Rattle.frame.specs.Line.{frameLimit, frameMost, payloadMost, lineMost, inside}
 use Rattle.frame.specs.Decode.{decoded}
 use Rattle.frame.specs.Write.{lineOf}
 use Rattle.frame.proofs.Lengths.{line-most, write-fits}
 use Rattle.frame.proofs.Trip.{trip}
 use Rattle.record.specs.declared.Device.{Device}
 use Rattle.record.specs.Allowed.{allowedDevice}
-use Rattle.link.specs.Link.{frameMost, judgedFrame}
+use Rattle.link.specs.Link.{judgedFrame}
 use Rattle.device.specs.Judge.{reactionOf, judgeRows, judged, heardBy, heard}
-use Rattle.walk.proofs.Doubts.{or-parts}
 use Rattle.bus.specs.Cable.{octetsGiven, lineFor, hears, replies, afterLine, anyReplies, allAfter, afterLines}
 use Rattle.bus.specs.Cable.{allAfterLines}
 
--- the writer never refuses a frame of at most 76 octets, and 158 octets are enough
-pub line-written : (a c : ℕ) (p : List ℕ) → length p ≤ 74 → lineFor (a ∷ c ∷ p) ≡ lineOf (a ∷ c ∷ p)
+-- the writer never refuses a frame with a payload that may be written, and the longest line has room for it
+pub line-written : (a c : ℕ) (p : List ℕ) → length p ≤ payloadMost frameLimit → lineFor (a ∷ c ∷ p) ≡ lineOf (a ∷ c ∷ p)
 unfolding lineFor octetsGiven
-line-written a c p h = ap octetsGiven (write-fits 78 a c p 158 (omega arith) (line-most 78 a c p (omega arith) h))
+line-written a c p h =
+    let fits = line-most frameLimit a c p (omega arith) h in
+    ap octetsGiven (write-fits frameLimit a c p (lineMost frameLimit) (omega arith) fits)
 
-pub hears-written : (d : Device) (a c : ℕ) (p : List ℕ) → allowedDevice d ≡ true → Octets (a ∷ c ∷ p) → length p ≤ 74
+pub hears-written : (d : Device) (a c : ℕ) (p : List ℕ) → allowedDevice d ≡ true → Octets (a ∷ c ∷ p)
+    → length p ≤ payloadMost frameLimit
     → hears d (lineFor (a ∷ c ∷ p)) ≡ gives (reactionOf (judgedFrame d (a ∷ c ∷ p)))
 unfolding hears heard heardBy judged judgeRows answered
 hears-written d a c p allowed os h =
     let b : List ℕ = a ∷ c ∷ p in
-    let decodes : decoded 78 (inside (lineFor b)) frameMost ≡ gives b =
-    ap (λ (l : List ℕ). decoded 78 (inside l) frameMost) (line-written a c p h)
-    ∙ trip b os 78 frameMost (omega arith) (omega arith)
-    ∙ in-room b frameMost (omega arith) in
-    ap (heardBy d frameMost) decodes ∙ rw allowed
+    let decodes : decoded frameLimit (inside (lineFor b)) (frameMost frameLimit) ≡ gives b =
+    ap (λ (l : List ℕ). decoded frameLimit (inside l) (frameMost frameLimit)) (line-written a c p h)
+    ∙ trip b os frameLimit (frameMost frameLimit) (omega arith) (omega arith)
+    ∙ in-room b (frameMost frameLimit) (omega arith) in
+    ap (heardBy d (frameMost frameLimit)) decodes ∙ rw allowed
 
 -- ---- a row
 

@@ -7,7 +7,7 @@ use mathlib.Core.List.{List, [], map, List·Memᴰ}
 use Prim.Native.Nat.{ℕ, suc, _≤_, _<_}
 use native.Mathlib.Omega.{arith}
 use lib.ListN.{length, getD}
-use Rattle.identity.specs.Identity.{allowedIdentity, padded}
+use Rattle.identity.specs.Identity.{unpadded, allowedIdentity, padded}
 use Rattle.identity.specs.Order.{Different}
 use Rattle.identity.proofs.Lists.{map-in, map-out}
 use Rattle.record.specs.declared.Device.{Device}
@@ -15,11 +15,11 @@ use Rattle.record.specs.declared.Plate.{Plate}
 use Rattle.record.specs.declared.Link.the-variants.{AddressAssigned}
 use Rattle.record.specs.Allowed.{identityOf}
 use Rattle.link.specs.Frames.{hasAddress}
+use Rattle.identity.proofs.Identities.{unpadded-padded}
 use Rattle.bus.specs.Cable.{identityIn, paddedIn, Cabled}
-use Rattle.bus.specs.Install.{unpadded, assignments, assignedAll, NoRightEnd, Installed}
+use Rattle.bus.specs.Install.{assignments, assignedAll, NoRightEnd, Installed}
 use Rattle.bus.proofs.Hears.{row-lines}
 use Rattle.bus.proofs.Heard.{identity-allowed}
-use Rattle.bus.proofs.Unpads.{unpadded-padded}
 use Rattle.bus.proofs.Starts.{Ready, snrm-heard, snrm-alone, all-begin}
 use Rattle.bus.proofs.Each.{each, Listed, Kept, each-kept, each-holds}
 use Rattle.bus.proofs.Places.{place-of, different-by, map-twice, map-same}

@@ -7,20 +7,21 @@ use Prim.Native.Nat.{ℕ, _+_, _*_, _≤_}
 use native.Mathlib.Omega.{arith}
 use lib.ListN.{length, take, length-take, length-map}
 use Rattle.identity.specs.Bits.{Bits}
-use Rattle.identity.specs.Identity.{depth, octetsOf}
+use Rattle.identity.specs.Identity.{unpadded, depth, octetsOf}
 use Rattle.identity.specs.Order.{lower, Ascending, Different}
 use Rattle.identity.proofs.Lists.{map-in}
 use Rattle.record.specs.declared.Device.{Device}
 use Rattle.walk.specs.Probes.{order, hits}
 use Rattle.scan.specs.declared.Scan.{Scan}
 use Rattle.scan.specs.declared.State.the-variants.{Complete}
-use Rattle.scan.specs.Record.{room, listOf}
+use Rattle.scan.specs.Record.{listMost, listOf}
+use Rattle.whole_scan.specs.Demand.{probesEach}
+use Rattle.identity.proofs.Identities.{unpadded-padded}
 use Rattle.bus.specs.Cable.{identityIn, paddedIn, Cabled, heardOn}
 use Rattle.bus.specs.Scanning.{scanned}
-use Rattle.bus.specs.Install.{unpadded, assignedAll, NoRightEnd, NoLaterEnd, Installed, Job}
+use Rattle.bus.specs.Install.{assignedAll, NoRightEnd, NoLaterEnd, Installed, Job}
 use Rattle.bus.proofs.Heard.{identity-allowed}
 use Rattle.bus.proofs.Scans.{scan-row, scan-any, scan-unchanged, scan-complete}
-use Rattle.bus.proofs.Unpads.{unpadded-padded}
 use Rattle.bus.proofs.Needs.{installed-exactly}
 
 module _ (limit : ℕ) (ds : List Device) (c : Cabled ds) where
@@ -31,13 +32,13 @@ module _ (limit : ℕ) (ds : List Device) (c : Cabled ds) where
   list = listOf scan
 
   -- the list holds 32
-  pub list-short : length list ≤ room
+  pub list-short : length list ≤ listMost
   list-short =
       let w = scan-any ds c limit in
       let found : List Bits = hits (take (scan .count) (order (heardOn ds) depth [])) in
-      let long : length list ≡ length (take room found) =
-      ap length (w .list) ∙ length-map (take room found) octetsOf in
-      omega (arith, long, length-take room found)
+      let long : length list ≡ length (take listMost found) =
+      ap length (w .list) ∙ length-map (take listMost found) octetsOf in
+      omega (arith, long, length-take listMost found)
 
   module _ (done : scan .state ≡ Complete) where
     pub list-members : (x : List ℕ) → List·Memᴰ x list ↔ List·Memᴰ x (map paddedIn ds)
@@ -82,7 +83,7 @@ module _ (limit : ℕ) (ds : List Device) (c : Cabled ds) where
         )
 
   -- "up to 32" devices and demand 3's bound as the limit
-  pub job-done : length ds ≤ room → 1 + 304 * length ds ≤ limit → NoLaterEnd ds → Job limit ds
+  pub job-done : length ds ≤ listMost → 1 + probesEach * length ds ≤ limit → NoLaterEnd ds → Job limit ds
   job-done few long never =
       let done = scan-complete ds c limit few long in
       let (all, shorter, w) = scan-row ds c limit in

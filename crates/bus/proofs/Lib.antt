@@ -3,7 +3,6 @@ pub mod Hears
 pub mod Heard
 pub mod Scans
 pub mod Lines
-pub mod Unpads
 pub mod Assigns
 pub mod Starts
 pub mod Each

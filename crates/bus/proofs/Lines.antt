@@ -12,8 +12,8 @@ use Rattle.identity.specs.Identity.{depth}
 use Rattle.walk.specs.Probes.{Mark, asked, order, beginningsOf}
 use Rattle.walk.proofs.Places.{place-bound}
 use Rattle.record.specs.declared.Device.{Device}
-use Rattle.scan.specs.Record.{room}
-use Rattle.scan.specs.Scan.{probeOf, probed}
+use Rattle.scan.specs.Record.{listMost}
+use Rattle.scan.specs.Scan.{probeLength, probeOf, probed}
 use Rattle.scan.proofs.Probes.{length-probe}
 use Rattle.bus.specs.Cable.{Cabled, lineFor, heardOn}
 use Rattle.bus.specs.Scanning.{Bus, oneProbe, probesAsked, linesBy, linesSent, started, scanned}
@@ -24,8 +24,8 @@ probeLine p = lineFor (probeOf p)
 
 -- where the first c turns give the probes of ps, and no other gives one
 lines-are : (n c : ℕ) (ps : List Bits) (b : Bus) → c ≤ n → c ≤ length ps
-    → ((i : ℕ) → i < c → probed (probesAsked i b .scan) 47 ≡ gives (probeOf (getD ps i [])))
-    → ((i : ℕ) → c ≤ i → probed (probesAsked i b .scan) 47 ≡ refuses 7)
+    → ((i : ℕ) → i < c → probed (probesAsked i b .scan) probeLength ≡ gives (probeOf (getD ps i [])))
+    → ((i : ℕ) → c ≤ i → probed (probesAsked i b .scan) probeLength ≡ refuses 7)
     → linesSent n b ≡ map probeLine (take c ps)
 unfolding linesSent linesBy probesAsked
 lines-are zero zero ps b h k gave none = refl
@@ -50,18 +50,18 @@ module _ (ds : List Device) (c : Cabled ds) (limit : ℕ) where
 
   -- a turn gives a probe exactly if fewer than `count` went before it, and then the one of the next beginning
   pub turn-gives : (i : ℕ) → i < count
-      → probed (probesAsked i (started limit ds) .scan) 47 ≡ gives (probeOf (getD asks i []))
+      → probed (probesAsked i (started limit ds) .scan) probeLength ≡ gives (probeOf (getD asks i []))
   turn-gives i h =
-      scan-any ds c limit .sent i h 47
-      ∙ in-room (probeOf (getD asks i [])) 47 (omega (arith, length-probe (getD asks i [])))
+      scan-any ds c limit .sent i h probeLength
+      ∙ in-room (probeOf (getD asks i [])) probeLength (omega (arith, length-probe (getD asks i [])))
 
-  pub turn-refused : (i : ℕ) → count ≤ i → probed (probesAsked i (started limit ds) .scan) 47 ≡ refuses 7
-  turn-refused i h = scan-any ds c limit .exactly .refused i h 47
+  pub turn-refused : (i : ℕ) → count ≤ i → probed (probesAsked i (started limit ds) .scan) probeLength ≡ refuses 7
+  turn-refused i h = scan-any ds c limit .exactly .refused i h probeLength
 
   count-asks : count ≤ length asks
   count-asks =
       let ms : List Mark = order (heardOn ds) depth [] in
-      omega (arith, scan-any ds c limit .count, place-bound room ms, length-map ms asked)
+      omega (arith, scan-any ds c limit .count, place-bound listMost ms, length-map ms asked)
 
   -- the lines sent are those of the first `count` beginnings of the order
   pub scan-lines : (n : ℕ) → limit ≤ n → linesSent n (started limit ds) ≡ map probeLine (take count asks)

@@ -17,11 +17,12 @@ use Rattle.record.specs.declared.Plate.{Plate}
 use Rattle.record.specs.Allowed.{identityOf, allowedDevice}
 use Rattle.record.specs.Changes.{unsaidAt, endedAs}
 use Rattle.xid.specs.Meaning.{EndOf}
+use Rattle.identity.specs.Identity.{unpadded}
+use Rattle.identity.proofs.Identities.{unpadded-padded}
 use Rattle.bus.specs.Cable.{identityIn, paddedIn, Cabled, afterLine, afterLines}
-use Rattle.bus.specs.Install.{unpadded, assigning, assignments, assignedAll, NoRightEnd, Installed}
+use Rattle.bus.specs.Install.{assigning, assignments, assignedAll, NoRightEnd, Installed}
 use Rattle.bus.proofs.Hears.{row-lines}
 use Rattle.bus.proofs.Heard.{identity-allowed}
-use Rattle.bus.proofs.Unpads.{unpadded-padded}
 use Rattle.bus.proofs.Each.{each, Listed, listed-more, line-is, line-kept, taken}
 use Rattle.bus.proofs.Places.{place-of, place-in}
 use Rattle.bus.proofs.Installs.{row-listed, last-padded, row-installed}

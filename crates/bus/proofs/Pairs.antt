@@ -15,12 +15,13 @@ use Rattle.record.specs.Changes.{unsaidAt, endedAs}
 use Rattle.scan.specs.declared.State.the-variants.{Complete}
 use Rattle.scan.specs.Record.{listOf}
 use Rattle.xid.specs.Meaning.{EndOf}
+use Rattle.identity.specs.Identity.{unpadded}
+use Rattle.identity.proofs.Identities.{unpadded-padded}
 use Rattle.bus.specs.Cable.{identityIn, paddedIn, Cabled, afterLine, afterLines}
 use Rattle.bus.specs.Scanning.{scanned}
-use Rattle.bus.specs.Install.{unpadded, assigning, assignments, assignedAll, NoRightEnd}
+use Rattle.bus.specs.Install.{assigning, assignments, assignedAll, NoRightEnd}
 use Rattle.bus.proofs.Hears.{row-lines}
 use Rattle.bus.proofs.Heard.{identity-allowed}
-use Rattle.bus.proofs.Unpads.{unpadded-padded}
 use Rattle.bus.proofs.Scans.{scan-complete, scan-unchanged}
 use Rattle.bus.proofs.Each.{each, Listed, listed-more, line-kept, taken, whole-end, each-holds}
 use Rattle.bus.proofs.Installs.{row-listed}

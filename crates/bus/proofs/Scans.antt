@@ -21,9 +21,9 @@ use Rattle.walk.proofs.Begins.{begins-shorter, shorter-number}
 use Rattle.walk.proofs.Visit.{begins, begins-bound}
 use Rattle.scan.specs.declared.Scan.{Scan}
 use Rattle.scan.specs.declared.State.the-variants.{Complete}
-use Rattle.scan.specs.Record.{room, beginningOf}
-use Rattle.scan.specs.Scan.{fresh, probeOf, over, probed, reported, driven}
-use Rattle.whole_scan.specs.Demand.{OctetBus, AnyScan, BusScan}
+use Rattle.scan.specs.Record.{listMost, beginningOf}
+use Rattle.scan.specs.Scan.{probeLength, fresh, probeOf, over, probed, reported, driven}
+use Rattle.whole_scan.specs.Demand.{probesEach, OctetBus, AnyScan, BusScan}
 use Rattle.scan.proofs.Probes.{length-probe, probed-over, probed-open}
 use Rattle.scan.proofs.Reports.{report-stays}
 use Rattle.whole_scan.proofs.AnyScans.{any-scans}
@@ -71,12 +71,12 @@ module _ (ds : List Device) (c : Cabled ds) where
     where
       go : (b : Bool) → over s ≡ b → oneProbe (on s) ≡ on (stateAfter (reported s (heardOn ds (beginningOf s))) s)
       go true e =
-          ap (oneProbeBy (on s)) (probed-over s 47 (sym e))
+          ap (oneProbeBy (on s)) (probed-over s probeLength (sym e))
           ∙ ap on (sym (report-stays s (heardOn ds (beginningOf s)) (sym e)))
       go false e =
           let p : Bits = beginningOf s in
-          let gave : probed s 47 ≡ gives (probeOf p) =
-          sym (probed-open s 47 e refl) ∙ in-room (probeOf p) 47 (omega (arith, length-probe p)) in
+          let gave : probed s probeLength ≡ gives (probeOf p) =
+          sym (probed-open s probeLength e refl) ∙ in-room (probeOf p) probeLength (omega (arith, length-probe p)) in
           ap (oneProbeBy (on s)) gave
           ∙ ap
           (λ (bs : List Device).
@@ -124,7 +124,8 @@ module _ (ds : List Device) (c : Cabled ds) where
         (subst (λ (s : Scan). AnyScan limit (heardOn ds) s told ms) scan-is (any-scans limit (heardOn ds)))
 
     -- "up to 32" devices, and a limit of demand 3's bound
-    pub scan-complete : length ds ≤ room → 1 + 304 * length ds ≤ limit → scanned limit ds .scan .state ≡ Complete
+    pub scan-complete : length ds ≤ listMost → 1 + probesEach * length ds ≤ limit
+        → scanned limit ds .scan .state ≡ Complete
     scan-complete few long =
         let (all, shorter, w) = scan-row in
         let ids : List Bits = map bitsOf (map paddedIn ds) in

@@ -1,6 +1,7 @@
 -- A row of devices on one cable. "The master writes the probe as a line, each device hears what lies between its flags,
 -- and 'heard' is that at least one device answered with a frame." All of it is said in what the crates below promise:
 -- `written` of the writer, `heard` of a device, `probeOf` of the scanner.
+--   rowMost         == the most devices of a row in memory
 --   identityIn d    == the identity of the device d, unpadded; paddedIn d == padded with 0x20 to 19
 --   Cabled ds       == the records ds may hang on one cable: allowed, with different padded identities
 --   lineFor f       == the line that the master writes for the frame f of address, control and payload
@@ -18,16 +19,19 @@ use mathlib.Core.Option.{Option, none, some}
 use Prim.Native.Nat.{ℕ}
 use lib.ListN.{getD, drop}
 use Rattle.refusal.specs.Answer.{Answer, gives, refuses}
-use Rattle.frame.specs.Line.{inside}
+use Rattle.frame.specs.Line.{frameLimit, frameMost, lineMost, inside}
 use Rattle.frame.specs.Write.{written}
 use Rattle.identity.specs.Bits.{Bits}
 use Rattle.identity.specs.Identity.{padded}
 use Rattle.identity.specs.Order.{Different}
 use Rattle.record.specs.declared.Device.{Device}
 use Rattle.record.specs.Allowed.{identityOf, allowedDevice}
-use Rattle.link.specs.Link.{frameMost}
 use Rattle.device.specs.Judge.{Reaction, heard, deviceAfter}
 use Rattle.scan.specs.Scan.{probeOf}
+
+-- "up to 32" devices: the places of a row in memory
+abbrev pub rowMost : ℕ
+rowMost = 32
 
 abbrev pub identityIn : Device → List ℕ
 identityIn d = identityOf (d .plate)
@@ -47,11 +51,11 @@ octetsGiven (refuses k) = []
 
 -- 01: "The writer gives flag, frame, flag"; "at most 158", and so many are lent
 unfoldable pub lineFor : List ℕ → List ℕ
-lineFor f = octetsGiven (written 78 (getD f 0 0) (getD f 1 0) (drop 2 f) 158)
+lineFor f = octetsGiven (written frameLimit (getD f 0 0) (getD f 1 0) (drop 2 f) (lineMost frameLimit))
 
--- "each device hears what lies between its flags", with an answer buffer of 76
+-- "each device hears what lies between its flags", with an answer buffer for every frame
 unfoldable pub hears : Device → List ℕ → Answer Reaction
-hears d l = heard d (inside l) frameMost
+hears d l = heard d (inside l) (frameMost frameLimit)
 
 -- an answer with a frame; silence is none, and so is a number
 unfoldable pub isFrame : Option (List ℕ) → Bool

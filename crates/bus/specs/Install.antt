@@ -1,8 +1,7 @@
 -- The installer's job after a scan: "assigning to each listed identity in turn its own address 1, 2, 3, .. by an
 -- assignment frame with the whole unpadded identity, written and heard by every device".
---   unpadded x          == the octets x without the blanks at their end
 --   assignmentFor i a   == the assignment of the address a to the identity i: address, control and payload
---   assigning a x       == its line, for the listed identity x
+--   assigning a x       == its line, for the listed identity x, which is padded
 --   assignments a xs    == the lines for all of xs, the addresses counted from a on
 --   assignedAll xs ds   == the row ds after the lines for all of xs, the addresses counted from 1 on
 --   NoRightEnd xs       == "no listed identity is the right end of one listed before it"
@@ -13,15 +12,14 @@
 --   Job limit ds        == the installer's whole job: a scan with the limit, and the assignments after it
 -- Assumes nothing.
 use mathlib.Core.Path.{_≡_}
-use mathlib.Core.Bool.{true, cond}
+use mathlib.Core.Bool.{true}
 use mathlib.Core.Logic.{_↔_}
 use mathlib.Core.List.{List, [], _∷_, map, List·Memᴰ}
 use mathlib.Core.Option.{none, some}
 use Prim.Native.Nat.{ℕ, suc, _+_, _*_, _≤_, _<_}
-use lib.Dec.{eqb}
 use lib.ListN.{length, getD}
 use Rattle.refusal.specs.Answer.{gives}
-use Rattle.identity.specs.Identity.{blank}
+use Rattle.identity.specs.Identity.{unpadded}
 use Rattle.identity.specs.Order.{lower, Ascending, Different}
 use Rattle.record.specs.declared.Link.the-variants.{AddressAssigned}
 use Rattle.record.specs.declared.Device.{Device}
@@ -30,17 +28,9 @@ use Rattle.xid.specs.Meaning.{EndOf}
 use Rattle.states.specs.States.{begun}
 use Rattle.scan.specs.declared.State.the-variants.{Complete}
 use Rattle.scan.specs.Record.{listOf}
+use Rattle.whole_scan.specs.Demand.{probesEach}
 use Rattle.bus.specs.Cable.{identityIn, paddedIn, lineFor, hears, allAfterLines}
 use Rattle.bus.specs.Scanning.{scanned}
-
--- the list holds padded identities, and "the last [is] not 0x20"
-unfoldable pub trimmedTo : ℕ → List ℕ → List ℕ
-trimmedTo x [] = cond (eqb x blank) [] (x ∷ [])
-trimmedTo x (y ∷ ys) = x ∷ y ∷ ys
-
-unfoldable pub unpadded : List ℕ → List ℕ
-unpadded [] = []
-unpadded (x ∷ xs) = trimmedTo x (unpadded xs)
 
 -- 01: "Assignment: 2 present, 3 absent"; to 0xFF, control 0xBF
 unfoldable pub assignmentFor : List ℕ → ℕ → List ℕ
@@ -98,7 +88,7 @@ pub record Job (limit : ℕ) (ds : List Device) : Type 0 where
   pub ascending : Ascending lower (listOf (scanned limit ds .scan))
   pub members : (x : List ℕ) → List·Memᴰ x (listOf (scanned limit ds .scan)) ↔ List·Memᴰ x (map paddedIn ds)
   pub once : Different (listOf (scanned limit ds .scan))
-  pub bound : scanned limit ds .scan .count ≤ 1 + 304 * length ds
+  pub bound : scanned limit ds .scan .count ≤ 1 + probesEach * length ds
   -- the scan leaves the devices as they were, and the assignments give each its address
   pub unchanged : scanned limit ds .devices ≡ ds
   pub installed : Installed (listOf (scanned limit ds .scan)) ds

@@ -12,7 +12,7 @@ use Prim.Native.Nat.{ℕ, zero, suc}
 use Rattle.refusal.specs.Answer.{Answer, gives, refuses, stateAfter}
 use Rattle.record.specs.declared.Device.{Device}
 use Rattle.scan.specs.declared.Scan.{Scan}
-use Rattle.scan.specs.Scan.{fresh, probed, reported}
+use Rattle.scan.specs.Scan.{fresh, probeLength, probed, reported}
 use Rattle.bus.specs.Cable.{lineFor, anyReplies, allAfter}
 
 pub record Bus : Type 0 where
@@ -29,7 +29,7 @@ oneProbeBy b (gives f) =
 
 -- 01: "47 octets unescaped, go to the start of the lent output": so many are lent
 unfoldable pub oneProbe : Bus → Bus
-oneProbe b = oneProbeBy b (probed (b .scan) 47)
+oneProbe b = oneProbeBy b (probed (b .scan) probeLength)
 
 unfoldable pub probesAsked : ℕ → Bus → Bus
 probesAsked zero b = b
@@ -42,7 +42,7 @@ linesBy (gives f) = lineFor f ∷ []
 
 unfoldable pub linesSent : ℕ → Bus → List (List ℕ)
 linesSent zero b = []
-linesSent (suc n) b = linesBy (probed (b .scan) 47) ++ linesSent n (oneProbe b)
+linesSent (suc n) b = linesBy (probed (b .scan) probeLength) ++ linesSent n (oneProbe b)
 
 abbrev pub started : ℕ → List Device → Bus
 started limit ds = record { scan = fresh limit; devices = ds }

@@ -2,11 +2,11 @@
 -- an output as it was. Assumes nothing.
 use mathlib.Core.Path.{_≡_}
 use mathlib.Core.List.{List, _∷_}
-use Prim.Native.Nat.{ℕ, _+_, _-_, _*_, _<_, _≤_}
+use Prim.Native.Nat.{ℕ, _-_, _<_, _≤_}
 use native.Mathlib.Omega.{arith}
 use lib.ListN.{length, take, length-take}
 use Rattle.refusal.specs.Answer.{Answer, gives, refuses}
-use Rattle.frame.specs.Line.{plain}
+use Rattle.frame.specs.Line.{lineMost, plain}
 use Rattle.frame.specs.Decode.{body, decoded}
 use Rattle.frame.specs.Write.{written}
 use Rattle.frame.proofs.Exact.{decode-frame, write-line}
@@ -24,7 +24,7 @@ unfolding body
 body-short d = simp length-take (omega arith)
 
 -- over the frame limit N, as long as every line is shorter than the refusals' base
-module _ (N : ℕ) (small : 2 * N + 2 < refusals) where
+module _ (N : ℕ) (small : lineMost N < refusals) where
   module _ (src : List ℕ) (room : ℕ) where
     decoded-short : (b : List ℕ) → decoded N src room ≡ gives b → length b < refusals
     decoded-short b e =

@@ -6,6 +6,7 @@ ghost use mathlib.Core.Path.{_≡_};
 ghost use lib.ListN.{length};
 ghost use Rattle.refusal.specs.Answer.{answerOf};
 ghost use Rattle.fcs.specs.Check.{checkOf};
+ghost use Rattle.frame.specs.Line.{frameLimit};
 ghost use Rattle.frame.specs.Decode.{decoded};
 ghost use Rattle.frame.specs.Write.{written};
 ghost use Rattle.capi.specs.Crossing.{crossed, Crosses};
@@ -35,7 +36,7 @@ pub extern "C" fn gorittaem_check(s: &[u8]) -> u16
 // Decodes what lies between two flags: address, control and payload to the start of `out`.
 #[no_mangle]
 pub extern "C" fn gorittaem_decode(src: &[u8], out: &mut [u8]) -> usize
-    ensures { λ r. ⌜ Crosses (decoded 78 (now (src .entry)) (length (now (out .entry))))
+    ensures { λ r. ⌜ Crosses (decoded frameLimit (now (src .entry)) (length (now (out .entry))))
         (now (out .entry)) r (now (out .exit)) ⌝ }
 {
     let answer = frame::decode(src, out);
@@ -45,7 +46,7 @@ pub extern "C" fn gorittaem_decode(src: &[u8], out: &mut [u8]) -> usize
 // Writes flag, frame, flag to the start of `out`.
 #[no_mangle]
 pub extern "C" fn gorittaem_write(address: u8, control: u8, payload: &[u8], out: &mut [u8]) -> usize
-    ensures { λ r. ⌜ Crosses (written 78 address control (now (payload .entry)) (length (now (out .entry))))
+    ensures { λ r. ⌜ Crosses (written frameLimit address control (now (payload .entry)) (length (now (out .entry))))
         (now (out .entry)) r (now (out .exit)) ⌝ }
 {
     let answer = writer::write(address, control, payload, out);

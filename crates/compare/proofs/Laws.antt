@@ -13,7 +13,7 @@ use lib.Seq.{sets, sets-eq, take-all, length-take-le}
 use Rattle.octets.proofs.Takes.{take-rest}
 use Rattle.octets.proofs.Rest.{rest}
 use Rattle.identity.specs.Bits.{masked}
-use Rattle.identity.specs.Identity.{padded, same}
+use Rattle.identity.specs.Identity.{width, blank, padded, same}
 use Rattle.compare.specs.Rows.{endsWith}
 
 -- ---- the same row
@@ -53,11 +53,6 @@ length-masked [] [] = refl
 length-masked [] (y ∷ m) = omega arith
 length-masked (x ∷ s) [] = omega arith
 length-masked (x ∷ s) (y ∷ m) = omega (arith, length-masked s m)
-
-pub masked-nil : (s : List ℕ) → masked s [] ≡ []
-unfolding masked
-masked-nil [] = refl
-masked-nil (x ∷ s) = refl
 
 module _ (s m b : List ℕ) (i : ℕ) {w : Bool} (v : same (masked (drop i s) (drop i m)) (drop i b) ≡ w) where
   pub masked-not : i < length s → i < length m → i < length b
@@ -101,32 +96,32 @@ ends-right s t h =
 -- ---- padded with 0x20 to 19, for a loop that goes on from its length
 
 -- what is left to pad from i on comes to w
-module _ (row : List ℕ) (i : ℕ) {w : List ℕ} (v : sets row i (replicate (19 - i) 0x20) ≡ w) where
-  pub pad-more : i < 19 → sets (set row i 0x20) (i + 1) (replicate (19 - (i + 1)) 0x20) ≡ w
+module _ (row : List ℕ) (i : ℕ) {w : List ℕ} (v : sets row i (replicate (width - i) blank) ≡ w) where
+  pub pad-more : i < width → sets (set row i blank) (i + 1) (replicate (width - (i + 1)) blank) ≡ w
   pad-more h =
-      let n : 19 - i ≡ suc (19 - suc i) = omega arith in
+      let n : width - i ≡ suc (width - suc i) = omega arith in
       rw add-one (rw n at v)
 
-  pub pad-done : 19 ≤ i → row ≡ w
-  pad-done h = let n : 19 - i ≡ 0 = omega arith in rw n at v
+  pub pad-done : width ≤ i → row ≡ w
+  pad-done h = let n : width - i ≡ 0 = omega arith in rw n at v
 
-pub padded-is : (octets : List ℕ) (len : ℕ) → length octets ≡ 19
-    → sets octets len (replicate (19 - len) 0x20) ≡ padded (take len octets)
+pub padded-is : (octets : List ℕ) (len : ℕ) → length octets ≡ width
+    → sets octets len (replicate (width - len) blank) ≡ padded (take len octets)
 unfolding padded
-padded-is octets len l = go (leb len 19) refl
+padded-is octets len l = go (leb len width) refl
   where
-    go : (t : Bool) → leb len 19 ≡ t
-        → sets octets len (replicate (19 - len) 0x20)
-        ≡ take len octets ++ replicate (19 - length (take len octets)) 0x20
+    go : (t : Bool) → leb len width ≡ t
+        → sets octets len (replicate (width - len) blank)
+        ≡ take len octets ++ replicate (width - length (take len octets)) blank
     go true e =
-        let h = leb-true len 19 e in
+        let h = leb-true len width e in
         let n : length (take len octets) ≡ len = length-take-le len octets (omega arith) in
-        let m : length (replicate {A = ℕ} (19 - len) 0x20) ≡ 19 - len = length-replicate (19 - len) 0x20 in
-        sets-eq (replicate (19 - len) 0x20) octets len (omega arith)
-        ∙ rw (n, drop-of-length-le octets {i = len + length (replicate {A = ℕ} (19 - len) 0x20)} (omega arith))
-        (append-nil (take len octets ++ replicate (19 - len) 0x20))
+        let m : length (replicate {A = ℕ} (width - len) blank) ≡ width - len = length-replicate (width - len) blank in
+        sets-eq (replicate (width - len) blank) octets len (omega arith)
+        ∙ rw (n, drop-of-length-le octets {i = len + length (replicate {A = ℕ} (width - len) blank)} (omega arith))
+        (append-nil (take len octets ++ replicate (width - len) blank))
     go false e =
-        let h = leb-false len 19 e in
-        let n : 19 - len ≡ 0 = omega arith in
-        let m : 19 - length octets ≡ 0 = omega arith in
+        let h = leb-false len width e in
+        let n : width - len ≡ 0 = omega arith in
+        let m : width - length octets ≡ 0 = omega arith in
         rw (n, take-all len octets (omega arith), m, append-nil octets)

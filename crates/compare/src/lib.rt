@@ -5,6 +5,8 @@ ghost use lib.ListN.{take};
 ghost use Rattle.identity.specs.Bits.{masked};
 ghost use Rattle.identity.specs.Identity.{padded, same};
 ghost use Rattle.compare.specs.Rows.{endsWith};
+use identity::BLANK;
+use identity::OCTETS;
 
 // Whether two rows of octets are the same.
 pub fn same(a: &[u8], b: &[u8]) -> bool
@@ -53,13 +55,13 @@ pub fn ends_with(s: &[u8], tail: &[u8]) -> bool
 }
 
 // The identity, its first `len` octets, padded with 0x20.
-pub fn padded(octets: [u8; 19], len: usize) -> [u8; 19]
+pub fn padded(octets: [u8; OCTETS], len: usize) -> [u8; OCTETS]
     ensures { λ r. ⌜ r ≡ padded (take len octets) ⌝ }
 {
     let mut row = octets;
     let mut i = len;
-    while i < 19 {
-        row[i] = 0x20;
+    while i < OCTETS {
+        row[i] = BLANK;
         i += 1;
     }
     row

@@ -19,9 +19,8 @@ use Rattle.control.specs.Control.{polled, askedBy}
 use Rattle.control.specs.declared.Order.the-variants.{Snrm}
 use Rattle.record.specs.declared.Link.{Link}
 use Rattle.record.specs.declared.Link.the-variants.{NoAddress, AddressAssigned, Connected}
-use Rattle.record.specs.declared.Station.{Station}
 use Rattle.record.specs.declared.Device.{Device}
-use Rattle.record.specs.Allowed.{identityOf, addressed, sessionAllowed, linkAllowed, stationAllowed, allowedDevice}
+use Rattle.record.specs.Allowed.{identityOf, addressed, stationAllowed, allowedDevice}
 use Rattle.record.specs.Changes.{unsaidAt, endedAs}
 use Rattle.record.proofs.Stays.{sound}
 use Rattle.xid.specs.Match.{readOf, identityMatches, kindMatches, vendorMatches}
@@ -34,10 +33,11 @@ use Rattle.station.specs.declared.Turn.{Turn}
 use Rattle.station.specs.Turns.{saying, mute}
 use Rattle.states.specs.States.{newSession, begun, released, renewed, onSnrm, ua, connectedBy, isSnrm, assignedBy, linkedBy}
 use Rattle.link.specs.Link.{quiet, isOwn}
-use Rattle.link.specs.Link.{xidBy, frameMost}
+use Rattle.link.specs.Link.{xidBy}
 use Rattle.link.specs.Link.{judgedFrame}
 use Rattle.link.specs.Frames.{controlOf, hasAddress, Own, Everyone}
 use Rattle.link.proofs.Cases.{own-is, everyone-is}
+use Rattle.frame.specs.Line.{frameLimit, frameMost}
 use Rattle.conduct.specs.Conduct.{after}
 use Rattle.conduct.proofs.Addressed.{link-addressed, addressed-bounds}
 
@@ -122,7 +122,7 @@ assignment-ends d f a w t =
     xid-means d f w (xid.Assignment a) (assignment-exactly (identityOf (d .plate)) (drop 2 f) a .1 t)
 
 -- a frame to everyone with the payload m
-module _ (d : Device) (m : List ℕ) (fits : length m + 2 ≤ frameMost) where
+module _ (d : Device) (m : List ℕ) (fits : length m + 2 ≤ frameMost frameLimit) where
   to-everyone : Everyone (0xFF ∷ 0xBF ∷ m)
   to-everyone = record { least = omega arith; most = omega arith; address = refl; control = refl }
 

@@ -1,17 +1,9 @@
 -- Each promise of this crate is one equation, so it allows one result. Assumes nothing.
 use Rattle.octets.proofs.Only.{only}
 use Rattle.octets.proofs.Only.{AsksNothing, Settles}
-use Rattle.control.proofs.polls.Reads as polls-reads
-use Rattle.control.proofs.asked.Reads as asked-reads
 use Rattle.control.proofs.next.Reads as next-reads
 use Rattle.control.proofs.info.Reads as info-reads
 use Rattle.control.proofs.rr.Reads as rr-reads
-
-pub polls-only : Settles polls-reads.Learnt
-polls-only κs a r q s t = only
-
-pub asked-only : Settles asked-reads.Learnt
-asked-only κs a r q s t x y = only (x .order) (y .order)
 
 pub next-only : Settles next-reads.Learnt
 next-only κs a r q s t = only
@@ -21,12 +13,6 @@ info-only κs a r q s t = only
 
 pub rr-only : Settles rr-reads.Learnt
 rr-only κs a r q s t = only
-
-pub polls-asks : AsksNothing polls-reads.Asked
-polls-asks κs a = tt
-
-pub asked-asks : AsksNothing asked-reads.Asked
-asked-asks κs a = tt
 
 pub next-asks : AsksNothing next-reads.Asked
 next-asks κs a = tt

@@ -11,7 +11,7 @@ use Rattle.identity.specs.Identity.{depth}
 use Rattle.walk.specs.Probes.{order, beginningsOf}
 use Rattle.walk.specs.Demand.{Shorter}
 use Rattle.walk.proofs.Begins.{shorter-number}
-use Rattle.scan.specs.Record.{room}
+use Rattle.scan.specs.Record.{listMost}
 use Rattle.whole_scan.specs.Demand.{AnyScan, BusScan}
 use Rattle.record.specs.declared.Device.{Device}
 use Rattle.bus.specs.Cable.{paddedIn, Cabled, heardOn, lineFor, allAfter}
@@ -66,6 +66,6 @@ module _ (ds : List Device) (c : Cabled ds) where
   row-unchanged limit = scan-unchanged ds c limit
 
 -- found, addressed, and each answers SNRM
-pub installer : (limit : ℕ) (ds : List Device) → Cabled ds → length ds ≤ room → 1 + 304 * length ds ≤ limit
+pub installer : (limit : ℕ) (ds : List Device) → Cabled ds → length ds ≤ listMost → 1 + 304 * length ds ≤ limit
     → NoLaterEnd ds → Job limit ds
 installer = job-done

@@ -59,11 +59,12 @@ use Rattle.params.specs.Field.{tripleOf, fieldOf, payloadOf as xidPayload}
 use Rattle.inform.specs.Inform.{repliedBy, carriedBy, informOf}
 use Rattle.states.specs.States.{informedBy, polledBy, pausedBy, rnrBy}
 use Rattle.states.specs.States.{begun, renewed, released, rejected, infoBy, rrBy, connectedBy, isSnrm, assignedBy, linkedBy}
-use Rattle.link.specs.Link.{quiet, ownBy, xidBy, everyoneBy, isOwn, addressedBy, controlledBy, frameMost, wrongSize}
+use Rattle.link.specs.Link.{quiet, ownBy, xidBy, everyoneBy, isOwn, addressedBy, controlledBy, wrongSize}
 use Rattle.link.specs.Link.{judgedFrame}
 use Rattle.conduct.specs.Conduct.{after, Meeting, frame, event, meets, run}
 use Rattle.speech.specs.Speech.{pendingOctets, linkOctets, isSilent, controlBy, payloadBy, frameBy}
 use Rattle.device.specs.Judge.{reacts, judgeRows, judged, sizeOf, toldOf, frameAt, bufferAfter}
+use Rattle.frame.specs.Line.{frameLimit, frameMost}
 
 -- ---- who is tried
 
@@ -101,12 +102,13 @@ pub data Row : Type 0 where
 
 -- an answer buffer of 76 octets
 abbrev pub buffer : List ℕ
-buffer = replicate frameMost 0
+buffer = replicate (frameMost frameLimit) 0
 
 -- the device d says x of the frame f, into that buffer
 abbrev pub Answers : Device → List ℕ → Option (List ℕ) → Type 0
 Answers d f x =
-    let r = judged d f frameMost in (toldOf r ≡ gives (sizeOf x)) × (bufferAfter r buffer ≡ frameAt x buffer)
+    let r = judged d f (frameMost frameLimit) in
+    (toldOf r ≡ gives (sizeOf x)) × (bufferAfter r buffer ≡ frameAt x buffer)
 
 unfoldable pub Holds : Row → Type 0
 Holds (ends ids limit state count) =

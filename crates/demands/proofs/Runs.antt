@@ -26,7 +26,7 @@ use Rattle.refusal.specs.declared.Refusal.the-variants.{ScanOver}
 use Rattle.refusal.specs.Answer.{Hands}
 use Rattle.walk.specs.Machine.{step}
 use Rattle.scan.specs.declared.Scan.{Scan}
-use Rattle.scan.specs.Record.{room, beginningOf, walkOf, recordOf}
+use Rattle.scan.specs.Record.{listMost, beginningOf, walkOf, recordOf}
 use Rattle.scan.specs.Scan.{fresh, ended, over, probed, reportedAll, driven}
 use Rattle.scan.proofs.Overs.{over-ended}
 use Rattle.scan.proofs.Reports.{report-over, report-taken}
@@ -79,7 +79,7 @@ report-allowed s a = by-test (over s) refl
     by-test : (b : Bool) → over s ≡ b → (r : Reported) × ReportAllows s a r
     by-test true e = (record { outcome = Refused ScanOver; scan = s }, ((s, (a, tt)), report-over s a (sym e)))
     by-test false e =
-        let t : Scan = recordOf s (step octetsOf depth room (walkOf s) a) in
+        let t : Scan = recordOf s (step octetsOf depth listMost (walkOf s) a) in
         (record { outcome = Done; scan = t }, ((s, (a, tt)), report-taken s a e refl))
 
 reports-are : (heard : Bits → Bool) (n : ℕ) (s t : Scan) → Reports heard n s t → t ≡ driven heard n s

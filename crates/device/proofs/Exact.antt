@@ -15,12 +15,12 @@ use Rattle.refusal.specs.Numbers.{numberOf}
 use Rattle.refusal.specs.declared.Refusal.{Refusal}
 use Rattle.refusal.proofs.Exactly.{TestsFor, exactly-tests, exactly-given, answered-all}
 use Rattle.refusal.proofs.Answers.{gives-not-refuses, refuses-same, gives-same}
-use Rattle.frame.specs.Line.{broken, plain}
+use Rattle.frame.specs.Line.{frameLimit, frameMost, broken, plain}
 use Rattle.frame.specs.Decode.{body, rightCheck}
 use Rattle.frame.proofs.Exact.{Sized, decode-4, decode-1, decode-2, decode-3}
 use Rattle.record.specs.declared.Device.{Device}
 use Rattle.record.specs.Allowed.{allowedDevice}
-use Rattle.link.specs.Link.{frameMost, judgedFrame}
+use Rattle.link.specs.Link.{judgedFrame}
 use Rattle.device.specs.declared.Said.the-variants.{Silence, Frame, Refused}
 use Rattle.device.specs.declared.Judged.{Judged}
 use Rattle.device.specs.Judge.{Reaction, reactionOf, judgeRows, judged, heard, saidOf, sizeOf, toldOf}
@@ -42,7 +42,7 @@ module _ (d : Device) (f : List ℕ) (room : ℕ) where
   judge-6 = (λ e. not-true _ (by-rows 6 .0 e), λ w. by-rows 6 .1 (ap not w))
 
   -- 5: "an answer buffer shorter than 76", and not 6
-  pub judge-5 : judged d f room ≡ refuses 5 ↔ (allowedDevice d ≡ true) × (room < frameMost)
+  pub judge-5 : judged d f room ≡ refuses 5 ↔ (allowedDevice d ≡ true) × (room < frameMost frameLimit)
   unfolding TestsFor numbersOf holds judgeRows
   judge-5 = (
     λ e. let g = by-rows 5 .0 e in (not-false _ (g .0), ltb-true _ _ (g .1)),
@@ -51,7 +51,7 @@ module _ (d : Device) (f : List ℕ) (room : ℕ) where
 
   -- an answer: neither; and it is what comes of the frame
   pub judge-answer : (x : Reaction) → judged d f room ≡ gives x
-      ↔ (allowedDevice d ≡ true) × (frameMost ≤ room) × (reactionOf (judgedFrame d f) ≡ x)
+      ↔ (allowedDevice d ≡ true) × (frameMost frameLimit ≤ room) × (reactionOf (judgedFrame d f) ≡ x)
   unfolding judged Clear judgeRows
   judge-answer x = (
     λ e.
@@ -74,20 +74,21 @@ module _ (d : Device) (line : List ℕ) (room : ℕ) where
   -- 4, 1, 2, 3: as the decoder gives them
   pub hear-4 : heard d line room ≡ refuses 4 ↔ broken line ≡ true
   unfolding holds
-  hear-4 = Iff·trans (by-decoder d line room 4 refl) (decode-4 78 line frameMost)
+  hear-4 = Iff·trans (by-decoder d line room 4 refl) (decode-4 frameLimit line (frameMost frameLimit))
 
   pub hear-1 : heard d line room ≡ refuses 1 ↔ (broken line ≡ false) × (length (plain line) < 4)
   unfolding holds
-  hear-1 = Iff·trans (by-decoder d line room 1 refl) (decode-1 78 line frameMost)
+  hear-1 = Iff·trans (by-decoder d line room 1 refl) (decode-1 frameLimit line (frameMost frameLimit))
 
   pub hear-2 : heard d line room ≡ refuses 2
-      ↔ (broken line ≡ false) × (4 ≤ length (plain line)) × (78 < length (plain line))
+      ↔ (broken line ≡ false) × (4 ≤ length (plain line)) × (frameLimit < length (plain line))
   unfolding holds
-  hear-2 = Iff·trans (by-decoder d line room 2 refl) (decode-2 78 line frameMost)
+  hear-2 = Iff·trans (by-decoder d line room 2 refl) (decode-2 frameLimit line (frameMost frameLimit))
 
-  pub hear-3 : heard d line room ≡ refuses 3 ↔ Sized 78 line frameMost × (rightCheck (plain line) ≡ false)
+  pub hear-3 : heard d line room ≡ refuses 3
+      ↔ Sized frameLimit line (frameMost frameLimit) × (rightCheck (plain line) ≡ false)
   unfolding holds
-  hear-3 = Iff·trans (by-decoder d line room 3 refl) (decode-3 78 line frameMost)
+  hear-3 = Iff·trans (by-decoder d line room 3 refl) (decode-3 frameLimit line (frameMost frameLimit))
 
   -- then 6
   pub hear-6 : heard d line room ≡ refuses 6 ↔ Readable line × (allowedDevice d ≡ false)
@@ -97,7 +98,7 @@ module _ (d : Device) (line : List ℕ) (room : ℕ) where
   )
 
   -- then 5
-  pub hear-5 : heard d line room ≡ refuses 5 ↔ Readable line × (allowedDevice d ≡ true) × (room < frameMost)
+  pub hear-5 : heard d line room ≡ refuses 5 ↔ Readable line × (allowedDevice d ≡ true) × (room < frameMost frameLimit)
   hear-5 = (
     λ e.
         let w = by-judge d line room 5 (hear-own-room line) .0 e in
@@ -107,7 +108,7 @@ module _ (d : Device) (line : List ℕ) (room : ℕ) where
 
   -- an answer: none of the numbers; and it is what comes of the decoded frame
   pub hear-answer : (x : Reaction) → heard d line room ≡ gives x
-      ↔ Readable line × (allowedDevice d ≡ true) × (frameMost ≤ room)
+      ↔ Readable line × (allowedDevice d ≡ true) × (frameMost frameLimit ≤ room)
       × (reactionOf (judgedFrame d (body (plain line))) ≡ x)
   hear-answer x = (
     λ e.

@@ -28,9 +28,10 @@ use Rattle.station.specs.declared.Say.the-variants.{Silence, Bare, Reject, Pend
 use Rattle.link.specs.Link.{judgedFrame}
 use Rattle.speech.specs.Speech.{pendingOctets, linkOctets, isSilent, controlBy, payloadBy, frameBy}
 use Rattle.conduct.proofs.Stays.{stays-allowed}
+use Rattle.frame.specs.Line.{frameLimit, frameMost}
 use Rattle.device.proofs.Only.{none-not-some, some-same}
 
--- ---- what is pending has at most 74 octets
+-- ---- what is pending has at most so many octets as a payload of the record
 
 pending-short : (t : Desk) (p : Pending) → pendingFits t p ≡ true → length (pendingOctets t p) ≤ replyMost
 unfolding pendingFits pendingOctets
@@ -71,7 +72,7 @@ module _ (d : Device) (allowed : allowedDevice d ≡ true) where
       assignment-short (identityOf (d .plate)) (plate-identity (d .plate) (sound d allowed .plate))
 
   pub frame-fits : (x : Say) (g : List ℕ) → frameBy d x ≡ some g
-      → (2 ≤ length g) × (length g ≤ 76) × (getD g 0 0 ≡ d .station .desk .address)
+      → (2 ≤ length g) × (length g ≤ frameMost frameLimit) × (getD g 0 0 ≡ d .station .desk .address)
   unfolding frameBy
   frame-fits x g e = go (isSilent x) e
     where
@@ -79,7 +80,7 @@ module _ (d : Device) (allowed : allowedDevice d ≡ true) where
       f = d .station .desk .address ∷ controlBy x ∷ payloadBy d x
 
       go : (b : Bool) → cond b none (some f) ≡ some g
-          → (2 ≤ length g) × (length g ≤ 76) × (getD g 0 0 ≡ d .station .desk .address)
+          → (2 ≤ length g) × (length g ≤ frameMost frameLimit) × (getD g 0 0 ≡ d .station .desk .address)
       go true q = absurd (none-not-some q)
       go false q =
           let same : f ≡ g = some-same q in
@@ -105,6 +106,6 @@ address-fits d allowed = address-most (d .station .desk) (d .station .link) (sou
 
 pub answer-fits : (d : Device) (f g : List ℕ) → allowedDevice d ≡ true
     → frameBy (judgedFrame d f .device) (judgedFrame d f .say) ≡ some g
-    → (2 ≤ length g) × (length g ≤ 76) × (getD g 0 0 ≡ judgedFrame d f .device .station .desk .address)
+    → (2 ≤ length g) × (length g ≤ frameMost frameLimit) × (getD g 0 0 ≡ judgedFrame d f .device .station .desk .address)
 answer-fits d f g allowed =
     frame-fits (judgedFrame d f .device) (stays-allowed d f allowed) (judgedFrame d f .say) g

@@ -13,12 +13,12 @@ use Rattle.octets.proofs.Words.{true-not-false}
 use Rattle.refusal.specs.Answer.{gives, refuses, numbersOf}
 use Rattle.refusal.proofs.Exactly.{answered-all}
 use Rattle.refusal.proofs.Answers.{gives-not-refuses, refuses-same}
-use Rattle.frame.specs.Line.{plain}
-use Rattle.frame.specs.Decode.{body, rightCheck, decoded}
+use Rattle.frame.specs.Line.{frameLimit, frameMost, plain}
+use Rattle.frame.specs.Decode.{body, rightCheck}
 use Rattle.frame.proofs.Exact.{Sized, decode-5, decode-frame, decode-all}
 use Rattle.record.specs.declared.Device.{Device}
-use Rattle.link.specs.Link.{frameMost, judgedFrame}
-use Rattle.device.specs.Judge.{reactionOf, judgeRows, judged, heardBy, heard}
+use Rattle.link.specs.Link.{judgedFrame}
+use Rattle.device.specs.Judge.{reactionOf, judgeRows, judged, heardBy, decodedHere, heard}
 
 -- ---- the numbers of both
 
@@ -60,34 +60,35 @@ module _ (d : Device) (f : List ℕ) (room : ℕ) where
 
 -- a line that can be read: no number of the decoder
 abbrev pub Readable : List ℕ → Type 0
-Readable line = Sized 78 line frameMost × (rightCheck (plain line) ≡ true)
+Readable line = Sized frameLimit line (frameMost frameLimit) × (rightCheck (plain line) ≡ true)
 
-body-short : (line : List ℕ) → length (plain line) ≤ 78 → length (body (plain line)) ≤ frameMost
+body-short : (line : List ℕ) → length (plain line) ≤ frameLimit → length (body (plain line)) ≤ frameMost frameLimit
 unfolding body
 body-short line h = simp length-take (omega arith)
 
 -- the decoder has room in its own buffer for every frame: it never says 5 there
-pub hear-own-room : (line : List ℕ) → decoded 78 line frameMost ≡ refuses 5 → ⊥
+pub hear-own-room : (line : List ℕ) → decodedHere line ≡ refuses 5 → ⊥
 hear-own-room line e =
-    let (s, c, r) = decode-5 78 line frameMost .0 e in omega (arith, body-short line (s .2))
+    let (s, c, r) = decode-5 frameLimit line (frameMost frameLimit) .0 e in omega (arith, body-short line (s .2))
 
 -- the decoder has no number 6
-pub never-6 : (line : List ℕ) → decoded 78 line frameMost ≡ refuses 6 → ⊥
+pub never-6 : (line : List ℕ) → decodedHere line ≡ refuses 6 → ⊥
 unfolding holds
-never-6 line e = go (decode-all 78 line frameMost)
+never-6 line e = go (decode-all frameLimit line (frameMost frameLimit))
   where
-    go : (decoded 78 line frameMost ≡ gives (body (plain line)))
-        ⊎ ((k : ℕ) × (holds k (4 ∷ 1 ∷ 2 ∷ 3 ∷ 5 ∷ []) ≡ true) × (decoded 78 line frameMost ≡ refuses k)) → ⊥
+    go : (decodedHere line ≡ gives (body (plain line)))
+        ⊎ ((k : ℕ) × (holds k (4 ∷ 1 ∷ 2 ∷ 3 ∷ 5 ∷ []) ≡ true) × (decodedHere line ≡ refuses k)) → ⊥
     go (inl g) = gives-not-refuses (sym g ∙ e)
     go (inr (k, h, g)) = true-not-false (sym h ∙ ap (λ j. holds j (4 ∷ 1 ∷ 2 ∷ 3 ∷ 5 ∷ [])) (refuses-same (sym g ∙ e)))
 
-readable-decoded : (line : List ℕ) → Readable line → decoded 78 line frameMost ≡ gives (body (plain line))
+readable-decoded : (line : List ℕ) → Readable line → decodedHere line ≡ gives (body (plain line))
 readable-decoded line w =
-    decode-frame 78 line frameMost (body (plain line)) .1 (w .0, w .1, body-short line (w .0 .2), refl)
+    decode-frame frameLimit line (frameMost frameLimit) (body (plain line)) .1
+    (w .0, w .1, body-short line (w .0 .2), refl)
 
 module _ (d : Device) (line : List ℕ) (room : ℕ) where
   -- a number of the decoder is given at once
-  pub heard-at-once : (k : ℕ) → decoded 78 line frameMost ≡ refuses k → heard d line room ≡ refuses k
+  pub heard-at-once : (k : ℕ) → decodedHere line ≡ refuses k → heard d line room ≡ refuses k
   unfolding heard heardBy
   heard-at-once k e = rw e
 
@@ -98,17 +99,18 @@ module _ (d : Device) (line : List ℕ) (room : ℕ) where
 
   -- octets from the line are a readable line, or get a number of the decoder
   pub heard-cases : {A : Type 0} → (Readable line → A)
-      → ((k : ℕ) → holds k (4 ∷ 1 ∷ 2 ∷ 3 ∷ 5 ∷ []) ≡ true → decoded 78 line frameMost ≡ refuses k → A) → A
-  heard-cases {A} read not-read = go (decode-all 78 line frameMost)
+      → ((k : ℕ) → holds k (4 ∷ 1 ∷ 2 ∷ 3 ∷ 5 ∷ []) ≡ true → decodedHere line ≡ refuses k → A) → A
+  heard-cases {A} read not-read = go (decode-all frameLimit line (frameMost frameLimit))
     where
-      go : (decoded 78 line frameMost ≡ gives (body (plain line)))
-          ⊎ ((k : ℕ) × (holds k (4 ∷ 1 ∷ 2 ∷ 3 ∷ 5 ∷ []) ≡ true) × (decoded 78 line frameMost ≡ refuses k)) → A
-      go (inl e) = let w = decode-frame 78 line frameMost (body (plain line)) .0 e in read (w .0, w .1)
+      go : (decodedHere line ≡ gives (body (plain line)))
+          ⊎ ((k : ℕ) × (holds k (4 ∷ 1 ∷ 2 ∷ 3 ∷ 5 ∷ []) ≡ true) × (decodedHere line ≡ refuses k)) → A
+      go (inl e) =
+          let w = decode-frame frameLimit line (frameMost frameLimit) (body (plain line)) .0 e in read (w .0, w .1)
       go (inr (k, h, e)) = not-read k h e
 
   -- a number that judging does not give is the decoder's
   pub by-decoder : (k : ℕ) → holds k (6 ∷ 5 ∷ []) ≡ false
-      → heard d line room ≡ refuses k ↔ decoded 78 line frameMost ≡ refuses k
+      → heard d line room ≡ refuses k ↔ decodedHere line ≡ refuses k
   by-decoder k other = (
     λ e.
         heard-cases
@@ -119,7 +121,7 @@ module _ (d : Device) (line : List ℕ) (room : ℕ) where
   )
 
   -- one that the decoder does not give is given to a readable line, where judging gives it
-  pub by-judge : (k : ℕ) → (decoded 78 line frameMost ≡ refuses k → ⊥)
+  pub by-judge : (k : ℕ) → (decodedHere line ≡ refuses k → ⊥)
       → heard d line room ≡ refuses k ↔ Readable line × (judged d (body (plain line)) room ≡ refuses k)
   by-judge k never = (
     λ e.

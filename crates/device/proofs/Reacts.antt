@@ -13,18 +13,18 @@ use Rattle.refusal.specs.declared.Handed.{Handed}
 use Rattle.refusal.specs.Numbers.{numberOf}
 use Rattle.refusal.specs.Answer.{Answer, gives, refuses, answered, Hands}
 use Rattle.refusal.proofs.Answers.{octets-told, refusal-told}
-use Rattle.frame.specs.Decode.{decoded}
 use Rattle.record.specs.declared.Device.{Device}
 use Rattle.record.specs.Allowed.{allowedDevice}
 use Rattle.station.specs.declared.Say.{Say}
 use Rattle.station.specs.declared.Turn.{Turn}
-use Rattle.link.specs.Link.{frameMost, judgedFrame}
+use Rattle.link.specs.Link.{judgedFrame}
 use Rattle.speech.specs.declared.Spoken.{Spoken}
 use Rattle.speech.specs.Speech.{isSilent, controlBy, payloadBy, frameBy, spokenOf}
+use Rattle.frame.specs.Line.{frameLimit, frameMost}
 use Rattle.device.specs.declared.Said.the-variants.{Silence, Frame, Refused}
 use Rattle.device.specs.declared.Judged.{Judged}
-use Rattle.device.specs.Judge.{Reaction, reacts, reactionOf, judgeRows, judged, heardBy, heard, refusalIn, saidOf}
-use Rattle.device.specs.Judge.{sizeOf, toldOf, deviceAfter, frameAt, bufferAfter, Judges}
+use Rattle.device.specs.Judge.{Reaction, reacts, reactionOf, judgeRows, judged, heardBy, decodedHere, heard, refusalIn}
+use Rattle.device.specs.Judge.{saidOf, sizeOf, toldOf, deviceAfter, frameAt, bufferAfter, Judges}
 
 pub judges-is : {x y : Answer Reaction} {d : Device} {o o' : List ℕ} {r : Judged} → x ≡ y → Judges x d o r o'
     → Judges y d o r o'
@@ -55,7 +55,7 @@ module _ (d : Device) (x : Say) (o : List ℕ) {r : Spoken} (e : r ≡ spokenOf 
           let two : r .len ≡ length f = ap (λ (y : Spoken). y .len) e ∙ rw q in
           absurd (omega (arith, two, z))
 
-  pub framed : (r .len ≡ 0 → ⊥) → r .len ≤ 76 → 76 ≤ length o → {o' : List ℕ}
+  pub framed : (r .len ≡ 0 → ⊥) → r .len ≤ frameMost frameLimit → frameMost frameLimit ≤ length o → {o' : List ℕ}
       → o' ≡ sets o 0 (take (r .len) (r .octets))
       → Judges (gives (reacts d x)) d o (record { said = Frame (r .len); device = d }) o'
   unfolding frameBy spokenOf saidOf toldOf sizeOf deviceAfter bufferAfter frameAt reacts
@@ -68,7 +68,7 @@ module _ (d : Device) (x : Say) (o : List ℕ) {r : Spoken} (e : r ≡ spokenOf 
           let f : List ℕ = d .station .desk .address ∷ controlBy x ∷ payloadBy d x in
           let n : r .len ≡ length f = ap (λ (y : Spoken). y .len) e ∙ rw q in
           let t : take (r .len) (r .octets) ≡ f =
-          ap (λ (y : Spoken). take (y .len) (y .octets)) e ∙ rw q (take-start f (replicate 76 0)) in
+          ap (λ (y : Spoken). take (y .len) (y .octets)) e ∙ rw q (take-start f (replicate (frameMost frameLimit) 0)) in
           record {
             said = rw (q, n);
             device = refl;
@@ -82,17 +82,18 @@ module _ (d : Device) (f o : List ℕ) where
   unfolding judged judgeRows answered
   judged-6 e = rw e
 
-  pub judged-5 : allowedDevice d ≡ true → length o < 76 → judged d f (length o) ≡ refuses 5
+  pub judged-5 : allowedDevice d ≡ true → length o < frameMost frameLimit → judged d f (length o) ≡ refuses 5
   unfolding judged judgeRows answered
-  judged-5 e h = rw (e, lt-ltb (length o) 76 h)
+  judged-5 e h = rw (e, lt-ltb (length o) (frameMost frameLimit) h)
 
-  pub judged-turn : allowedDevice d ≡ true → 76 ≤ length o
+  pub judged-turn : allowedDevice d ≡ true → frameMost frameLimit ≤ length o
       → judged d f (length o) ≡ gives (reactionOf (judgedFrame d f))
   unfolding judged judgeRows answered
-  judged-turn e h = rw (e, le-ltb (length o) 76 h)
+  judged-turn e h = rw (e, le-ltb (length o) (frameMost frameLimit) h)
 
   -- the turn's device and what it says
-  pub turned : allowedDevice d ≡ true → 76 ≤ length o → {t : Turn} {r : Judged} {o' : List ℕ} → t ≡ judgedFrame d f
+  pub turned : allowedDevice d ≡ true → frameMost frameLimit ≤ length o → {t : Turn} {r : Judged} {o' : List ℕ}
+      → t ≡ judgedFrame d f
       → Judges (gives (reacts (t .device) (t .say))) (t .device) o r o' → Judges (judged d f (length o)) d o r o'
   unfolding deviceAfter
   turned e h {t} {r} {o'} q w =
@@ -103,18 +104,18 @@ module _ (d : Device) (f o : List ℕ) where
 -- ---- a line heard
 
 module _ (d : Device) (line o store store' : List ℕ) where
-  pub heard-refused : {h : Handed} (k q : Refusal) → Hands (decoded 78 line frameMost) store h store'
+  pub heard-refused : {h : Handed} (k q : Refusal) → Hands (decodedHere line) store h store'
       → h ≡ Handed.Refused k → q ≡ refusalIn h
       → Judges (heard d line (length o)) d o (record { said = Refused q; device = d }) o
   unfolding heard heardBy
   heard-refused k q w e u =
-      let t = refusal-told (decoded 78 line frameMost) {k = k} (rw e at w) in
+      let t = refusal-told (decodedHere line) {k = k} (rw e at w) in
       refused (heard d line (length o)) d o q (rw (t .0, u, e))
 
-  pub heard-judged : (n : ℕ) → {h : Handed} → Hands (decoded 78 line frameMost) store h store' → h ≡ Handed.Octets n
+  pub heard-judged : (n : ℕ) → {h : Handed} → Hands (decodedHere line) store h store' → h ≡ Handed.Octets n
       → judged d (take n store') (length o) ≡ heard d line (length o)
   unfolding heard heardBy
-  heard-judged n w e = let t = octets-told (decoded 78 line frameMost) {n = n} (rw e at w) in rw (t .0)
+  heard-judged n w e = let t = octets-told (decodedHere line) {n = n} (rw e at w) in rw (t .0)
 
 -- the frame that was decoded stands in the decoder's buffer
 pub heard-count : (x : Answer (List ℕ)) (n : ℕ) {store store' : List ℕ} {h : Handed} → Hands x store h store'

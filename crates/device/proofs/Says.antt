@@ -18,10 +18,12 @@ use Rattle.conduct.specs.Comes.{Comes, scans, assigns, left}
 use Rattle.conduct.specs.Spelt.{scanSaid, assignmentSaid, octetsSaid}
 use Rattle.conduct.proofs.Comes.{comes-leaves}
 use Rattle.conduct.proofs.Says.{frame-octets}
-use Rattle.device.specs.Judge.{Reaction, reacts, judged}
+use Rattle.frame.specs.Line.{frameLimit, frameMost}
+use Rattle.device.specs.Judge.{reacts, judged}
 use Rattle.device.proofs.Exact.{judge-answer}
 
-module _ (d : Device) (f : List ℕ) (room : ℕ) (allowed : allowedDevice d ≡ true) (fits : 76 ≤ room) where
+module _ (d : Device) (f : List ℕ) (room : ℕ) (allowed : allowedDevice d ≡ true)
+    (fits : frameMost frameLimit ≤ room) where
   -- whatever the frame is to the device: the device that its case leaves, and the octets that its case has
   pub judged-octets : (c : Comes d f)
       → judged d f room ≡ gives (record { device = left d f c; frame = octetsSaid d f c })

@@ -6,7 +6,9 @@ ghost use Prim.Native.Nat.{_≤_};
 ghost use lib.ListN.{length, take};
 ghost use lib.Seq.{sets};
 ghost use Rattle.refusal.specs.Answer.{gives};
+ghost use Rattle.frame.specs.Line.{frameLimit, frameMost};
 ghost use Rattle.device.specs.Judge.{Judges, reacts, judged, heard, refusalIn};
+use frame::FRAME_MOST;
 use record::Device;
 use refusal::Handed;
 use refusal::Refusal;
@@ -24,8 +26,8 @@ pub struct Judged {
     pub device: Device,
 }
 
-fn hand_over(octets: [u8; 76], len: usize, answer: &mut [u8])
-    requires { ⌜ len ≤ 76 ⌝ }
+fn hand_over(octets: [u8; FRAME_MOST], len: usize, answer: &mut [u8])
+    requires { ⌜ len ≤ frameMost frameLimit ⌝ }
     ensures { λ _. ⌜ now (answer .exit) ≡ sets (now (answer .entry)) 0 (take len octets) ⌝ }
 {
     octets::put_all(answer, 0, &octets[..len]);
@@ -33,7 +35,7 @@ fn hand_over(octets: [u8; 76], len: usize, answer: &mut [u8])
 
 // What is said goes to the start of the answer buffer.
 fn utter(device: Device, say: Say, answer: &mut [u8]) -> Judged
-    requires { ⌜ 76 ≤ length (now answer) ⌝ }
+    requires { ⌜ frameMost frameLimit ≤ length (now answer) ⌝ }
     ensures { λ r. ⌜ Judges (gives (reacts device say)) device (now (answer .entry)) r (now (answer .exit)) ⌝ }
 {
     let spoken = speech::speak(device, say);
@@ -57,7 +59,7 @@ pub fn judge(device: Device, frame: &[u8], answer: &mut [u8]) -> Judged
         (now (answer .entry)) r (now (answer .exit)) ⌝ }
 {
     if record::allowed(device) {
-        if answer.len() < 76 {
+        if answer.len() < FRAME_MOST {
             return Judged {
                 said: Said::Refused(Refusal::NoRoom),
                 device,
@@ -89,7 +91,7 @@ pub fn hear(device: Device, line: &[u8], answer: &mut [u8]) -> Judged
     ensures { λ r. ⌜ Judges (heard device (now (line .entry)) (length (now (answer .entry)))) device
         (now (answer .entry)) r (now (answer .exit)) ⌝ }
 {
-    let mut store = [0u8; 76];
+    let mut store = [0u8; FRAME_MOST];
     let handed = frame::decode(line, &mut store);
     let Handed::Octets(n) = handed else {
         return Judged {

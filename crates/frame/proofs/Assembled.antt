@@ -1,7 +1,7 @@
 -- How address, control, payload and check come to stand in a buffer, one behind the other. Assumes nothing.
 use mathlib.Core.Path.{_≡_, refl, ap, _∙_}
 use mathlib.Core.List.{List, [], _∷_, _++_, append-nil}
-use Prim.Native.Nat.{ℕ, _+_, _-_, _/_, _%_, _≤_}
+use Prim.Native.Nat.{ℕ, _+_, _/_, _%_, _≤_}
 use native.Mathlib.Omega.{arith}
 use lib.ListN.{length, take, set, length-append}
 use lib.Seq.{sets}
@@ -9,6 +9,7 @@ use Rattle.octets.specs.Octets.{lowOf, highOf}
 use Rattle.octets.specs.Puts.{Puts}
 use Rattle.octets.proofs.Runs.{Run, run-all, run-one, run-two, run-some, run-done, put-back}
 use Rattle.fcs.specs.Check.{checkOf, withCheck}
+use Rattle.frame.specs.Line.{payloadMost}
 
 pub length-withCheck : (b : List ℕ) → length (withCheck b) ≡ length b + 2
 unfolding withCheck
@@ -32,7 +33,7 @@ module _ (a c : ℕ) (p o : List ℕ) {o₁ o₂ o₃ : List ℕ} (room : length
       let checked = body-run (lowOf check ∷ highOf check ∷ []) in
       rw (← e') (run-done refl (run-two _ _ s₄ s₅ refl checked))
 
--- a frame of at most N - 4 octets of payload, with its check, has at most N
+-- a frame of at most `payloadMost N` octets of payload, with its check, has at most N
 pub assembled-short : (N a c : ℕ) (p : List ℕ) {o o' : List ℕ} {n : ℕ}
-    → Puts o 0 (withCheck (a ∷ c ∷ p)) n o' → 4 ≤ N → length p ≤ N - 4 → n ≤ N
+    → Puts o 0 (withCheck (a ∷ c ∷ p)) n o' → 4 ≤ N → length p ≤ payloadMost N → n ≤ N
 assembled-short N a c p f m h = omega (arith, f .count, length-withCheck (a ∷ c ∷ p))

@@ -10,9 +10,9 @@ use lib.ListN.{length, getD, drop, drop-of-length-le, length-append, length-drop
 use Rattle.octets.specs.Puts.{Puts}
 use Rattle.octets.proofs.Rest.{rest}
 use Rattle.octets.proofs.Runs.{run-all, run-one, run-put, run-done}
-use Rattle.frame.specs.Line.{flag, escape, special, escaped, onLine, between}
+use Rattle.frame.specs.Line.{lineMost, flag, escape, toggle, special, escaped, onLine, between}
 
-pub escaped-special : (x : ℕ) → special x ≡ true → escaped x ≡ escape ∷ bitXor x 0x20 ∷ []
+pub escaped-special : (x : ℕ) → special x ≡ true → escaped x ≡ escape ∷ bitXor x toggle ∷ []
 unfolding escaped
 escaped-special x e = rw e
 
@@ -38,7 +38,7 @@ length-between d = rw length-append (omega arith)
 
 -- one octet is put, as y to the place n: behind its escape, or at once
 module _ (x : ℕ) (o : List ℕ) (at : ℕ) {o₁ : List ℕ} {n y : ℕ} where
-  pub special-put : special x ≡ true → o₁ ≡ set o at escape → n ≡ at + 1 → y ≡ bitXor x 0x20
+  pub special-put : special x ≡ true → o₁ ≡ set o at escape → n ≡ at + 1 → y ≡ bitXor x toggle
       → Puts o at (escaped x) (n + 1) (set o₁ n y)
   special-put e s k v = rw (k, v) (run-done refl (run-one _ refl refl (run-one _ s (escaped-special x e) run-all)))
 
@@ -80,7 +80,7 @@ pub between-put : (d : List ℕ) {o o₁ o₂ o' : List ℕ} {n : ℕ} → o₁ 
 unfolding between
 between-put d s p t = run-done refl (run-one _ t refl (run-put (onLine d) p refl (run-one _ s refl run-all)))
 
--- at most N octets take at most 2N + 2 on the line, flags included
+-- at most N octets take at most `lineMost N` on the line, flags included
 pub between-short : (N : ℕ) (d : List ℕ) {o o' : List ℕ} {n : ℕ}
-    → Puts o 0 (between d) n o' → length d ≤ N → n ≤ 2 * N + 2
+    → Puts o 0 (between d) n o' → length d ≤ N → n ≤ lineMost N
 between-short N d p h = omega (arith, p .count, length-between d, onLine-short d)

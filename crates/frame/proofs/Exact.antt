@@ -1,10 +1,10 @@
 -- Each number is given exactly when 01 says: per number, both ways. And demand 1 for this layer: any octets get a
 -- frame or one of the numbers, and a number leaves the lent output as it was. Over the frame limit N. Assumes nothing.
-use mathlib.Core.Path.{_≡_, refl, ap}
+use mathlib.Core.Path.{_≡_, ap}
 use mathlib.Core.Bool.{true, false, not}
 use mathlib.Core.List.{List, [], _∷_}
 use mathlib.Core.Logic.{_↔_, _⊎_}
-use Prim.Native.Nat.{ℕ, _-_, _<_, _≤_}
+use Prim.Native.Nat.{ℕ, _<_, _≤_}
 use borrow.Author.Tests.{ltb-true, ltb-false, lt-ltb, le-ltb, not-true, not-false}
 use lib.ListN.{length}
 use Rattle.octets.specs.Octets.{holds}
@@ -14,7 +14,7 @@ use Rattle.refusal.specs.declared.Refusal.{Refusal}
 use Rattle.refusal.specs.declared.Handed.the-variants.{Refused}
 use Rattle.refusal.proofs.Exactly.{TestsFor, exactly-tests, exactly-given, answered-all}
 use Rattle.refusal.proofs.Answers.{refusal-told}
-use Rattle.frame.specs.Line.{broken, plain}
+use Rattle.frame.specs.Line.{payloadMost, broken, plain}
 use Rattle.frame.specs.Decode.{body, rightCheck, decodeRows, decoded}
 use Rattle.frame.specs.Write.{lineOf, writeRows, written}
 
@@ -105,12 +105,12 @@ module _ (N a c : ℕ) (p : List ℕ) (room : ℕ) where
   write-rows k = exactly-tests k (writeRows N p (lineOf (a ∷ c ∷ p)) room) (lineOf (a ∷ c ∷ p))
 
   -- 9: "payload to be written longer than 74 octets"
-  pub write-9 : written N a c p room ≡ refuses 9 ↔ N - 4 < length p
+  pub write-9 : written N a c p room ≡ refuses 9 ↔ payloadMost N < length p
   unfolding TestsFor numbersOf holds writeRows
   write-9 = (λ e. ltb-true _ _ (write-rows 9 .0 e), λ w. write-rows 9 .1 (lt-ltb _ _ w))
 
   -- 5: "the lent output is too short", and not 9
-  pub write-5 : written N a c p room ≡ refuses 5 ↔ (length p ≤ N - 4) × (room < length (lineOf (a ∷ c ∷ p)))
+  pub write-5 : written N a c p room ≡ refuses 5 ↔ (length p ≤ payloadMost N) × (room < length (lineOf (a ∷ c ∷ p)))
   unfolding TestsFor numbersOf holds writeRows
   write-5 = (
     λ e. let g = write-rows 5 .0 e in (ltb-false _ _ (g .0), ltb-true _ _ (g .1)),
@@ -119,7 +119,7 @@ module _ (N a c : ℕ) (p : List ℕ) (room : ℕ) where
 
   -- a line: neither
   pub write-line : (l : List ℕ) → written N a c p room ≡ gives l
-      ↔ (length p ≤ N - 4) × (length (lineOf (a ∷ c ∷ p)) ≤ room) × (lineOf (a ∷ c ∷ p) ≡ l)
+      ↔ (length p ≤ payloadMost N) × (length (lineOf (a ∷ c ∷ p)) ≤ room) × (lineOf (a ∷ c ∷ p) ≡ l)
   unfolding written Clear writeRows
   write-line l = (
     λ e.

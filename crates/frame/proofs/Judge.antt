@@ -9,7 +9,7 @@ use Rattle.octets.specs.Octets.{pairOf}
 use Rattle.refusal.specs.Answer.{refuses, answered, handedOut}
 use Rattle.refusal.proofs.Answers.{answered-here, answered-later}
 use Rattle.fcs.specs.Check.{checkOf, withCheck}
-use Rattle.frame.specs.Line.{broken, plain, between}
+use Rattle.frame.specs.Line.{payloadMost, broken, plain, between}
 use Rattle.frame.specs.Decode.{body, rightCheck, framed, decodeRows, decoded}
 use Rattle.frame.specs.Write.{lineOf, writeRows, written}
 
@@ -60,16 +60,16 @@ module _ (N : ℕ) (s : List ℕ) (room : ℕ) where
   when-stored e q = ap (λ (x : List ℕ). framed N x room) q ∙ sym (when-whole e)
 
 module _ (N a c : ℕ) (p : List ℕ) (room : ℕ) where
-  pub payload-long : N - 4 < length p → written N a c p room ≡ refuses 9
+  pub payload-long : payloadMost N < length p → written N a c p room ≡ refuses 9
   unfolding written writeRows
-  payload-long h = answered-here _ _ _ (lt-ltb (N - 4) (length p) h)
+  payload-long h = answered-here _ _ _ (lt-ltb (payloadMost N) (length p) h)
 
-  pub payload-fits : length p ≤ N - 4 → written N a c p room ≡ handedOut (lineOf (a ∷ c ∷ p)) room
+  pub payload-fits : length p ≤ payloadMost N → written N a c p room ≡ handedOut (lineOf (a ∷ c ∷ p)) room
   unfolding written writeRows handedOut
-  payload-fits h = answered-later _ _ _ (le-ltb (N - 4) (length p) h)
+  payload-fits h = answered-later _ _ _ (le-ltb (payloadMost N) (length p) h)
 
   -- the line of what was assembled is handed out
-  pub when-lined : {d l : List ℕ} → length p ≤ N - 4 → d ≡ withCheck (a ∷ c ∷ p) → l ≡ between d
+  pub when-lined : {d l : List ℕ} → length p ≤ payloadMost N → d ≡ withCheck (a ∷ c ∷ p) → l ≡ between d
       → handedOut l room ≡ written N a c p room
   unfolding lineOf
   when-lined h e q = ap (λ (x : List ℕ). handedOut x room) (q ∙ ap between e) ∙ sym (payload-fits h)

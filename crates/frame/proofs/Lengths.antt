@@ -1,7 +1,7 @@
 -- How long a written line is, where its flags stand, and which room it needs, over the frame limit N. Assumes nothing.
 use mathlib.Core.Path.{_≡_, sym, _∙_}
 use mathlib.Core.List.{List, [], _∷_}
-use Prim.Native.Nat.{ℕ, zero, suc, _+_, _-_, _*_, _<_, _≤_}
+use Prim.Native.Nat.{ℕ, zero, suc, _+_, _*_, _<_, _≤_}
 use native.Mathlib.Nat.{not-suc-le-zero}
 use native.Mathlib.Omega.{arith}
 use lib.ListN.{length, getD, List·getD-append}
@@ -9,7 +9,7 @@ use Rattle.octets.proofs.Words.{holds-nowhere}
 use Rattle.refusal.specs.Answer.{gives, refuses}
 use Rattle.refusal.proofs.Answers.{no-room, in-room}
 use Rattle.fcs.specs.Check.{withCheck}
-use Rattle.frame.specs.Line.{flag, onLine, between}
+use Rattle.frame.specs.Line.{payloadMost, lineMost, flag, onLine, between}
 use Rattle.frame.specs.Write.{lineOf, written}
 use Rattle.frame.proofs.Assembled.{length-withCheck}
 use Rattle.frame.proofs.Escapes.{length-between, onLine-short}
@@ -22,8 +22,8 @@ unfolding lineOf
 line-short b =
     omega (arith, length-between (withCheck b), onLine-short (withCheck b), length-withCheck b)
 
--- "It needs exactly the octets it writes, at most 158": at most 2N + 2
-pub line-most : (N a c : ℕ) (p : List ℕ) → 4 ≤ N → length p ≤ N - 4 → length (lineOf (a ∷ c ∷ p)) ≤ 2 * N + 2
+-- "It needs exactly the octets it writes, at most 158": at most `lineMost N`
+pub line-most : (N a c : ℕ) (p : List ℕ) → 4 ≤ N → length p ≤ payloadMost N → length (lineOf (a ∷ c ∷ p)) ≤ lineMost N
 line-most N a c p m h = omega (arith, line-short (a ∷ c ∷ p))
 
 -- 0x7E stands only at its two ends
@@ -36,7 +36,7 @@ flag-at-ends b (suc i) h k e =
     holds-nowhere flag (onLine d) (no-flag d) i short (sym (List·getD-append (onLine d) (flag ∷ []) 0 i short) ∙ e)
 
 -- the writer needs exactly the octets that it writes
-module _ (N a c : ℕ) (p : List ℕ) (room : ℕ) (h : length p ≤ N - 4) where
+module _ (N a c : ℕ) (p : List ℕ) (room : ℕ) (h : length p ≤ payloadMost N) where
   pub write-fits : length (lineOf (a ∷ c ∷ p)) ≤ room → written N a c p room ≡ gives (lineOf (a ∷ c ∷ p))
   write-fits k = payload-fits N a c p room h ∙ in-room (lineOf (a ∷ c ∷ p)) room k
 

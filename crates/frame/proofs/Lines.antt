@@ -12,8 +12,9 @@ use lib.Dec.{eqb, ltb}
 use lib.ListN.{length, getD, drop, drop-of-length-le}
 use Rattle.octets.specs.Octets.{holds, OneOf, lastOf}
 use Rattle.octets.proofs.Rest.{rest}
-use Rattle.octets.proofs.Words.{true-not-false, holds-here, holds-more, holds-done, holds-exactly, last-at, last-empty}
-use Rattle.frame.specs.Line.{flag, escape, broken, plainAfter, plain}
+use Rattle.octets.proofs.Words.{true-not-false, or-parts, or-none, holds-here, holds-more, holds-done, holds-exactly}
+use Rattle.octets.proofs.Words.{last-at, last-empty}
+use Rattle.frame.specs.Line.{lineMost, flag, escape, toggle, broken, plainAfter, plain}
 
 module _ (s : List ℕ) (i : ℕ) where
   pub plain-done : length s ≤ i → plain (drop i s) ≡ []
@@ -23,7 +24,7 @@ module _ (s : List ℕ) (i : ℕ) where
   module _ (h : i < length s) where
     -- an escape, and the octet behind it
     pub plain-pair : getD s i 0 ≡ escape → i + 1 < length s
-        → plain (drop i s) ≡ bitXor (getD s (i + 1) 0) 0x20 ∷ plain (drop (i + 1 + 1) s)
+        → plain (drop i s) ≡ bitXor (getD s (i + 1) 0) toggle ∷ plain (drop (i + 1 + 1) s)
     unfolding plainAfter
     plain-pair e k = rw (rest s i h, eq-eqb (getD s i 0) escape e, rest s (i + 1) k)
 
@@ -61,7 +62,7 @@ pub plain-long : (s : List ℕ) → length s ≤ 2 * length (plain s) + 1
 plain-long s = plain-long-after false s
 
 -- so more than 2N + 2 octets stand for more than N
-pub overlong : (N : ℕ) (s : List ℕ) → 2 * N + 2 < length s → N < length (plain s)
+pub overlong : (N : ℕ) (s : List ℕ) → lineMost N < length s → N < length (plain s)
 overlong N s h = omega (arith, plain-long s)
 
 -- a flag looked for by a loop that goes through all of s, whatever it found
@@ -79,14 +80,6 @@ module _ (s : List ℕ) (i : ℕ) {w : Bool} where
   flag-done true v h = v
   flag-done false v h = holds-done flag s i v h
 
-either : (a b : Bool) → (a || b) ≡ true → (a ≡ true) ⊎ (b ≡ true)
-either true b e = inl refl
-either false b e = inr e
-
-or-parts : (a b : Bool) → (a || b) ≡ false → (a ≡ false) × (b ≡ false)
-or-parts true b e = absurd (true-not-false e)
-or-parts false b e = (refl, e)
-
 module _ (s : List ℕ) where
   pub unbroken : holds flag s ≡ false → eqb (lastOf 0 s) escape ≡ false → broken s ≡ false
   unfolding broken
@@ -94,14 +87,14 @@ module _ (s : List ℕ) where
 
   pub unbroken-parts : broken s ≡ false → (holds flag s ≡ false) × (eqb (lastOf 0 s) escape ≡ false)
   unfolding broken
-  unbroken-parts e = or-parts (holds flag s) (eqb (lastOf 0 s) escape) e
+  unbroken-parts e = or-none (holds flag s) (eqb (lastOf 0 s) escape) e
 
   -- "0x7E inside, or 0x7D as the last octet", in words
-  pub broken-exactly : broken s ≡ true ↔ OneOf 0x7E s ⊎ ((0 < length s) × (getD s (length s - 1) 0 ≡ 0x7D))
+  pub broken-exactly : broken s ≡ true ↔ OneOf flag s ⊎ ((0 < length s) × (getD s (length s - 1) 0 ≡ escape))
   unfolding broken
   broken-exactly = (
     λ e. ⊎-elim (λ h. inl (holds-exactly flag s .0 h)) (λ h. inr (ended (eqb-true (lastOf 0 s) escape h)))
-        (either (holds flag s) (eqb (lastOf 0 s) escape) e),
+        (or-parts (holds flag s) (eqb (lastOf 0 s) escape) e),
     ⊎-elim (λ w. rw (holds-exactly flag s .1 w))
         (λ w. rw (last-at 0 s 0 (w .0) ∙ w .1) (or-true (holds flag s))),
   )

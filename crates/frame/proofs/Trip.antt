@@ -16,7 +16,8 @@ use Rattle.refusal.specs.declared.Handed.the-variants.{Octets as Handed·Octets
 use Rattle.refusal.proofs.Answers.{in-room, octets-told, hands-is}
 use Rattle.refusal.proofs.Exactly.{handed-out-told}
 use Rattle.fcs.specs.Check.{withCheck}
-use Rattle.frame.specs.Line.{flag, escape, broken, plainAfter, plain, special, escaped, onLine, between, inside}
+use Rattle.frame.specs.Line.{payloadMost, flag, escape, broken, plainAfter, plain, special, escaped, onLine}
+use Rattle.frame.specs.Line.{between, inside}
 use Rattle.frame.specs.Decode.{decoded}
 use Rattle.frame.specs.Write.{lineOf, written}
 use Rattle.frame.proofs.Assembled.{length-withCheck}
@@ -79,10 +80,10 @@ module _ (b : List ℕ) (os : Octets b) (N room : ℕ) (two : 2 ≤ length b) (f
       (right-withCheck b os))
       ∙ ap (λ (d : List ℕ). handedOut d room) (body-withCheck b)
 
--- The same of the promises, of which the code's are those at 78: any answer and output that `write` may give, and then
--- any that `decode` may give to what lies between the flags of what was written.
+-- The same of the promises, of which the code's are those at 01's limit: any answer and output that `write` may give, and
+-- then any that `decode` may give to what lies between the flags of what was written.
 pub round-trip : (N a c : ℕ) (p : List ℕ) (o o' u u' : List ℕ) {n : ℕ} {r : Handed}
-    → Octets (a ∷ c ∷ p) → 4 ≤ N → length p ≤ N - 4 → length p + 2 ≤ length u
+    → Octets (a ∷ c ∷ p) → 4 ≤ N → length p ≤ payloadMost N → length p + 2 ≤ length u
     → Hands (written N a c p (length o)) o (Handed·Octets n) o'
     → Hands (decoded N (inside (take n o')) (length u)) u r u'
     → Hands (gives (a ∷ c ∷ p)) u r u'

@@ -9,14 +9,13 @@ use native.Mathlib.Omega.{arith}
 use borrow.Author.Tests.{eqb-true, eqb-false, ne-eqb}
 use lib.Bits.{xor-lt}
 use lib.Dec.{eqb, lit<}
-use lib.ListN.{length}
 use Rattle.octets.specs.Octets.{Octets, holds, lastOf}
 use Rattle.octets.proofs.Bounds.{octets-cond}
 use Rattle.octets.proofs.Words.{holds-head, holds-tail}
 use Rattle.refusal.specs.Answer.{gives}
 use Rattle.fcs.specs.Check.{withCheck}
 use Rattle.frame.specs.Line.{flag, escape, plainAfter, plain, special, escaped, onLine, inside}
-use Rattle.frame.specs.Line.{Needed}
+use Rattle.frame.specs.Line.{toggle, Needed}
 use Rattle.frame.specs.Decode.{decoded}
 use Rattle.frame.specs.Write.{lineOf}
 use Rattle.frame.proofs.Checks.{check-exactly}
@@ -28,7 +27,7 @@ use Rattle.frame.proofs.Trip.{on-octet, inside-between}
 octets-plain : (s : List ℕ) (removed : Bool) → Octets s → Octets (plainAfter removed s)
 unfolding plainAfter
 octets-plain [] removed h = tt
-octets-plain (x ∷ xs) true h = (xor-lt 8 x 0x20 (h .0) (lit< tt), octets-plain xs false (h .1))
+octets-plain (x ∷ xs) true h = (xor-lt 8 x toggle (h .0) (lit< tt), octets-plain xs false (h .1))
 octets-plain (x ∷ xs) false h =
     octets-cond (eqb x escape) (plainAfter true xs) (x ∷ plainAfter false xs) (octets-plain xs true (h .1))
     (h .0, octets-plain xs false (h .1))

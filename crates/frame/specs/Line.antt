@@ -1,5 +1,8 @@
--- Octets on the line: 01, "Octets on the line". N, where a definition takes it, is the frame limit: 78 here.
---   flag, escape == 0x7E and 0x7D
+-- Octets on the line: 01, "Octets on the line". N, where a definition takes it, is the frame limit.
+--   frameLimit   == the frame limit of 01: 78 octets of address, control, payload and check
+--   frameMost N, payloadMost N, lineMost N == what follows from it: the most octets without the check (76), of a
+--                   payload to be written (74), and of a line with its flags (158)
+--   flag, escape, toggle == 0x7E, 0x7D, and the 0x20 that an escaped octet is changed by
 --   broken s     == refusal 4 looks before anything is decoded: 0x7E inside, or 0x7D as the last octet
 --   plain s      == the decoded octets: escapes taken out
 --   onLine d     == the octets d with their escapes
@@ -11,17 +14,36 @@ use mathlib.Core.Path.{_≡_}
 use mathlib.Core.Bool.{Bool, true, false, cond, _||_}
 use mathlib.Core.List.{List, [], _∷_, _++_}
 use mathlib.Core.Logic.{_⊎_}
-use Prim.Native.Nat.{ℕ, _-_}
+use Prim.Native.Nat.{ℕ, _+_, _-_, _*_}
 use lib.Bits.{bitXor}
 use lib.Dec.{eqb}
 use lib.ListN.{length, take, drop}
 use Rattle.octets.specs.Octets.{holds, lastOf}
+
+-- "decoded octets .. more than 78"
+abbrev pub frameLimit : ℕ
+frameLimit = 78
+
+-- "and two check octets"
+abbrev pub frameMost : ℕ → ℕ
+frameMost N = N - 2
+
+-- "payload to be written longer than 74 octets": without address, control and check
+abbrev pub payloadMost : ℕ → ℕ
+payloadMost N = N - 4
+
+-- "at most 158": each octet escaped, and two flags
+abbrev pub lineMost : ℕ → ℕ
+lineMost N = 2 * N + 2
 
 abbrev pub flag : ℕ
 flag = 0x7E
 
 abbrev pub escape : ℕ
 escape = 0x7D
+
+abbrev pub toggle : ℕ
+toggle = 0x20
 
 -- "0x7E inside, or 0x7D as the last octet"
 unfoldable pub broken : List ℕ → Bool
@@ -31,7 +53,7 @@ broken s = holds flag s || eqb (lastOf 0 s) escape
 -- before was a 0x7D so removed
 unfoldable pub plainAfter : Bool → List ℕ → List ℕ
 plainAfter removed [] = []
-plainAfter true (x ∷ xs) = bitXor x 0x20 ∷ plainAfter false xs
+plainAfter true (x ∷ xs) = bitXor x toggle ∷ plainAfter false xs
 plainAfter false (x ∷ xs) = cond (eqb x escape) (plainAfter true xs) (x ∷ plainAfter false xs)
 
 abbrev pub plain : List ℕ → List ℕ
@@ -42,7 +64,7 @@ unfoldable pub special : ℕ → Bool
 special x = eqb x flag || eqb x escape
 
 unfoldable pub escaped : ℕ → List ℕ
-escaped x = cond (special x) (escape ∷ bitXor x 0x20 ∷ []) (x ∷ [])
+escaped x = cond (special x) (escape ∷ bitXor x toggle ∷ []) (x ∷ [])
 
 unfoldable pub onLine : List ℕ → List ℕ
 onLine [] = []

@@ -5,12 +5,12 @@
 --   written N a c p room == the answer to address a, control c and payload p
 -- Assumes nothing.
 use mathlib.Core.List.{List, [], _∷_}
-use Prim.Native.Nat.{ℕ, _-_}
+use Prim.Native.Nat.{ℕ}
 use lib.Dec.{ltb}
 use lib.ListN.{length}
 use Rattle.refusal.specs.Answer.{Answer, Row, _when_, answered, shorter}
 use Rattle.fcs.specs.Check.{withCheck}
-use Rattle.frame.specs.Line.{between}
+use Rattle.frame.specs.Line.{payloadMost, between}
 
 -- "address, control, payload, and two check octets"
 abbrev pub frameOf : ℕ → ℕ → List ℕ → List ℕ
@@ -22,7 +22,7 @@ lineOf b = between (withCheck b)
 
 -- "the writer 9, then 5": "payload to be written longer than 74 octets", "It needs exactly the octets it writes"
 unfoldable pub writeRows : ℕ → List ℕ → List ℕ → ℕ → List Row
-writeRows N p l room = 9 when ltb (N - 4) (length p) ∷ 5 when shorter room l ∷ []
+writeRows N p l room = 9 when ltb (payloadMost N) (length p) ∷ 5 when shorter room l ∷ []
 
 unfoldable pub written : ℕ → ℕ → ℕ → List ℕ → ℕ → Answer (List ℕ)
 written N a c p room = answered (writeRows N p (lineOf (a ∷ c ∷ p)) room) (lineOf (a ∷ c ∷ p))

@@ -10,14 +10,27 @@ ghost use lib.ListN.{length};
 ghost use Rattle.octets.specs.Octets.{holds, lastOf};
 ghost use Rattle.octets.specs.Puts.{Puts};
 ghost use Rattle.refusal.specs.Answer.{Hands};
-ghost use Rattle.frame.specs.Line.{flag, escape, broken, plain};
+ghost use Rattle.frame.specs.Line.{flag, escape, frameLimit, broken, plain};
 ghost use Rattle.frame.specs.Decode.{framed, decoded};
 use refusal::Handed;
 use refusal::Refusal;
 
-const FLAG: u8 = 0x7E;
+// The octet at both ends of a line; the one in front of an octet that is escaped, and what that is changed by.
+pub const FLAG: u8 = 0x7E;
 
-const ESCAPE: u8 = 0x7D;
+pub const ESCAPE: u8 = 0x7D;
+
+pub const TOGGLE: u8 = 0x20;
+
+// The frame limit: the most octets of address, control, payload and check.
+pub const LIMIT: usize = 78;
+
+// What follows from it: the most octets without the check, of a payload to be written, and of a line with its flags.
+pub const FRAME_MOST: usize = LIMIT - 2;
+
+pub const PAYLOAD_MOST: usize = LIMIT - 4;
+
+pub const LINE_MOST: usize = 2 * LIMIT + 2;
 
 // Whether the last octet is an escape.
 fn ends_escaped(s: &[u8]) -> bool
@@ -64,7 +77,7 @@ fn unescape(s: &[u8], store: &mut [u8]) -> usize
         let b = s[i];
         i += 1;
         if b == ESCAPE {
-            store[n] = s[i] ^ 0x20;
+            store[n] = s[i] ^ TOGGLE;
             n += 1;
             i += 1;
         } else {
@@ -77,8 +90,8 @@ fn unescape(s: &[u8], store: &mut [u8]) -> usize
 
 // Judges the decoded octets `d`, and hands address, control and payload out.
 fn deliver(d: &[u8], out: &mut [u8]) -> Handed
-    requires { ⌜ length (now d) ≤ 78 ⌝ }
-    ensures { λ r. ⌜ Hands (framed 78 (now (d .entry)) (length (now (out .entry))))
+    requires { ⌜ length (now d) ≤ frameLimit ⌝ }
+    ensures { λ r. ⌜ Hands (framed frameLimit (now (d .entry)) (length (now (out .entry))))
         (now (out .entry)) r (now (out .exit)) ⌝ }
 {
     let n = d.len();
@@ -94,21 +107,21 @@ fn deliver(d: &[u8], out: &mut [u8]) -> Handed
     refusal::hand_out(&d[..len], out)
 }
 
-// Decodes what lies between two flags: address, control and payload to the start of `out`. More than 158 octets stand
-// for more than 78, so that the store has room for what is left, and no octet asks for it.
+// Decodes what lies between two flags: address, control and payload to the start of `out`. More octets than a line has
+// stand for more than the limit, so that the store has room for what is left, and no octet asks for it.
 pub fn decode(src: &[u8], out: &mut [u8]) -> Handed
-    ensures { λ r. ⌜ Hands (decoded 78 (now (src .entry)) (length (now (out .entry))))
+    ensures { λ r. ⌜ Hands (decoded frameLimit (now (src .entry)) (length (now (out .entry))))
         (now (out .entry)) r (now (out .exit)) ⌝ }
 {
     if is_broken(src) {
         return Handed::Refused(Refusal::Broken);
     }
-    if 158 < src.len() {
+    if LINE_MOST < src.len() {
         return Handed::Refused(Refusal::TooLong);
     }
-    let mut store = [0u8; 158];
+    let mut store = [0u8; LINE_MOST];
     let n = unescape(src, &mut store);
-    if 78 < n {
+    if LIMIT < n {
         return Handed::Refused(Refusal::TooLong);
     }
     deliver(&store[..n], out)

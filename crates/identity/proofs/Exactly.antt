@@ -11,39 +11,40 @@ use lib.Dec.{leb}
 use lib.ListN.{length, getD, take, drop, take-append-drop, length-take, length-drop, length-append}
 use Rattle.octets.specs.Octets.{lastOf}
 use Rattle.octets.proofs.Words.{last-at}
-use Rattle.identity.specs.Identity.{width, blank, printable, allPrintable, allowedIdentity, AnIdentity}
+use Rattle.identity.specs.Identity.{vendor, width, blank, lastPrintable, printable, allPrintable}
+use Rattle.identity.specs.Identity.{allowedIdentity, AnIdentity}
 use Rattle.identity.proofs.Identities.{and-parts, allowed-parts}
 
 -- "all 0x20 to 0x7E"
 all-printable : (s : List ℕ) → allPrintable s ≡ true
-    → (j : ℕ) → j < length s → (0x20 ≤ getD s j 0) × (getD s j 0 ≤ 0x7E)
+    → (j : ℕ) → j < length s → (blank ≤ getD s j 0) × (getD s j 0 ≤ lastPrintable)
 unfolding allPrintable printable
 all-printable [] e j h = absurd (not-suc-le-zero h)
 all-printable (x ∷ xs) e zero h =
-    let w = and-parts (leb blank x) (leb x 0x7E) (and-parts _ (allPrintable xs) e .0) in
-    (leb-true blank x (w .0), leb-true x 0x7E (w .1))
+    let w = and-parts (leb blank x) (leb x lastPrintable) (and-parts _ (allPrintable xs) e .0) in
+    (leb-true blank x (w .0), leb-true x lastPrintable (w .1))
 all-printable (x ∷ xs) e (suc j) h =
-    all-printable xs (and-parts (leb blank x && leb x 0x7E) (allPrintable xs) e .1) j (le-of-suc-le-suc h)
+    all-printable xs (and-parts (leb blank x && leb x lastPrintable) (allPrintable xs) e .1) j (le-of-suc-le-suc h)
 
-printable-all : (s : List ℕ) → ((j : ℕ) → j < length s → (0x20 ≤ getD s j 0) × (getD s j 0 ≤ 0x7E))
+printable-all : (s : List ℕ) → ((j : ℕ) → j < length s → (blank ≤ getD s j 0) × (getD s j 0 ≤ lastPrintable))
     → allPrintable s ≡ true
 unfolding allPrintable printable
 printable-all [] f = refl
 printable-all (x ∷ xs) f =
     let w = f 0 (omega arith) in
-    rw (le-leb blank x (w .0), le-leb x 0x7E (w .1)) (printable-all xs (λ j h. f (suc j) (suc-le-suc h)))
+    rw (le-leb blank x (w .0), le-leb x lastPrintable (w .1)) (printable-all xs (λ j h. f (suc j) (suc-le-suc h)))
 
 -- from 3 to 19 octets: 2 of the vendor, 1 to 17 of the serial number
 in-words : (i : List ℕ) → allowedIdentity i ≡ true → AnIdentity i
 in-words i e =
     let a = allowed-parts i e in
     record {
-      maker = take 2 i;
-      serial = drop 2 i;
-      parts = sym (take-append-drop 2 i);
-      maker-two = omega (arith, length-take 2 i, a .least);
-      serial-least = omega (arith, length-drop 2 i, a .least);
-      serial-most = omega (arith, length-drop 2 i, a .most);
+      maker = take vendor i;
+      serial = drop vendor i;
+      parts = sym (take-append-drop vendor i);
+      maker-two = omega (arith, length-take vendor i, a .least);
+      serial-least = omega (arith, length-drop vendor i, a .least);
+      serial-most = omega (arith, length-drop vendor i, a .most);
       all = all-printable i (a .plain);
       end = λ q. a .end (last-at blank i 0 (omega (arith, a .least)) ∙ q);
     }

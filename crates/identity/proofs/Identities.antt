@@ -1,7 +1,7 @@
 -- Which octets are an identity, and its padding: nothing is lost by it, since the last octet is no blank.
 -- Assumes nothing.
 use mathlib.Core.Path.{_≡_, refl, sym, ap, _∙_}
-use mathlib.Core.Bool.{Bool, true, false, cond, _&&_, and-false, and-true, false≢true}
+use mathlib.Core.Bool.{Bool, true, false, _&&_, and-false, and-true, false≢true}
 use mathlib.Core.List.{List, [], _∷_, _++_}
 use Prim.Native.Nat.{ℕ, zero, suc, _+_, _-_, _≤_, _<_}
 use native.Mathlib.Omega.{arith}
@@ -12,7 +12,8 @@ use Rattle.octets.specs.Octets.{Octets, lastOf}
 use Rattle.octets.proofs.Bounds.{octets-append}
 use Rattle.octets.proofs.Rest.{rest}
 use Rattle.octets.proofs.Words.{last-at}
-use Rattle.identity.specs.Identity.{width, blank, printable, allPrintable, allowedIdentity, padded}
+use Rattle.identity.specs.Identity.{width, blank, lastPrintable, printable, allPrintable, allowedIdentity, padded}
+use Rattle.identity.specs.Identity.{trimmedTo, unpadded}
 
 pub and-parts : (a b : Bool) → (a && b) ≡ true → (a ≡ true) × (b ≡ true)
 and-parts true b e = (refl, e)
@@ -24,13 +25,14 @@ module _ (s : List ℕ) (i : ℕ) {w : Bool} (v : allPrintable (drop i s) ≡ w)
   unfolding allPrintable printable
   printable-low h k = rw (rest s i h, lt-leb blank (getD s i 0) k) at v
 
-  pub printable-high : i < length s → 0x7E < getD s i 0 → false ≡ w
+  pub printable-high : i < length s → lastPrintable < getD s i 0 → false ≡ w
   unfolding allPrintable printable
-  printable-high h k = rw (rest s i h, lt-leb (getD s i 0) 0x7E k, and-false (leb blank (getD s i 0))) at v
+  printable-high h k = rw (rest s i h, lt-leb (getD s i 0) lastPrintable k, and-false (leb blank (getD s i 0))) at v
 
-  pub printable-more : i < length s → blank ≤ getD s i 0 → getD s i 0 ≤ 0x7E → allPrintable (drop (i + 1) s) ≡ w
+  pub printable-more : i < length s → blank ≤ getD s i 0 → getD s i 0 ≤ lastPrintable
+      → allPrintable (drop (i + 1) s) ≡ w
   unfolding allPrintable printable
-  printable-more h k j = rw (rest s i h, le-leb blank (getD s i 0) k, le-leb (getD s i 0) 0x7E j) at v
+  printable-more h k j = rw (rest s i h, le-leb blank (getD s i 0) k, le-leb (getD s i 0) lastPrintable j) at v
 
   pub printable-done : length s ≤ i → true ≡ w
   unfolding allPrintable
@@ -96,9 +98,9 @@ pub printable-octets : (s : List ℕ) → allPrintable s ≡ true → Octets s
 unfolding allPrintable printable
 printable-octets [] e = tt
 printable-octets (x ∷ xs) e =
-    let (a, r) = and-parts (leb blank x && leb x 0x7E) (allPrintable xs) e in
-    let (b, c) = and-parts (leb blank x) (leb x 0x7E) a in
-    (omega (arith, leb-true x 0x7E c), printable-octets xs r)
+    let (a, r) = and-parts (leb blank x && leb x lastPrintable) (allPrintable xs) e in
+    let (b, c) = and-parts (leb blank x) (leb x lastPrintable) a in
+    (omega (arith, leb-true x lastPrintable c), printable-octets xs r)
 
 pub length-padded : (i : List ℕ) → length i ≤ width → length (padded i) ≡ width
 unfolding padded
@@ -113,32 +115,27 @@ pub padded-octets : (i : List ℕ) → Octets i → Octets (padded i)
 unfolding padded
 padded-octets i h = octets-append i (replicate (width - length i) blank) h (blanks-octets (width - length i))
 
--- the blanks at the end taken away
-joined : ℕ → List ℕ → List ℕ
-joined x [] = cond (eqb x blank) [] (x ∷ [])
-joined x (y ∷ ys) = x ∷ y ∷ ys
+-- without the blanks at its end a padded identity is as it was
+unpadded-blanks : (n : ℕ) → unpadded (replicate n blank) ≡ []
+unfolding unpadded trimmedTo
+unpadded-blanks zero = refl
+unpadded-blanks (suc n) = ap (trimmedTo blank) (unpadded-blanks n)
 
-trimmed : List ℕ → List ℕ
-trimmed [] = []
-trimmed (x ∷ xs) = joined x (trimmed xs)
+unpadded-more : (x : ℕ) (xs : List ℕ) (n : ℕ) → (lastOf x xs ≡ blank → ⊥)
+    → unpadded ((x ∷ xs) ++ replicate n blank) ≡ x ∷ xs
+unfolding unpadded trimmedTo lastOf
+unpadded-more x [] n k = ap (trimmedTo x) (unpadded-blanks n) ∙ rw (ne-eqb x blank k)
+unpadded-more x (y ∷ ys) n k = ap (trimmedTo x) (unpadded-more y ys n k)
 
-trimmed-blanks : (n : ℕ) → trimmed (replicate n blank) ≡ []
-unfolding trimmed joined
-trimmed-blanks zero = refl
-trimmed-blanks (suc n) = ap (joined blank) (trimmed-blanks n)
-
-trimmed-more : (x : ℕ) (xs : List ℕ) (n : ℕ) → (lastOf x xs ≡ blank → ⊥)
-    → trimmed ((x ∷ xs) ++ replicate n blank) ≡ x ∷ xs
-unfolding trimmed joined lastOf
-trimmed-more x [] n k = ap (joined x) (trimmed-blanks n) ∙ rw (ne-eqb x blank k)
-trimmed-more x (y ∷ ys) n k = ap (joined x) (trimmed-more y ys n k)
-
-trimmed-padded : (i : List ℕ) → Allowed i → trimmed (padded i) ≡ i
+unpadded-parts : (i : List ℕ) → Allowed i → unpadded (padded i) ≡ i
 unfolding padded lastOf
-trimmed-padded [] a = absurd (omega (arith, a .least))
-trimmed-padded (x ∷ xs) a = trimmed-more x xs (width - length (x ∷ xs)) (a .end)
+unpadded-parts [] a = absurd (omega (arith, a .least))
+unpadded-parts (x ∷ xs) a = unpadded-more x xs (width - length (x ∷ xs)) (a .end)
+
+pub unpadded-padded : (i : List ℕ) → allowedIdentity i ≡ true → unpadded (padded i) ≡ i
+unpadded-padded i a = unpadded-parts i (allowed-parts i a)
 
 -- identities that are padded alike are alike
 pub padded-apart : (i j : List ℕ) → allowedIdentity i ≡ true → allowedIdentity j ≡ true → padded i ≡ padded j → i ≡ j
 padded-apart i j a b e =
-    sym (trimmed-padded i (allowed-parts i a)) ∙ ap trimmed e ∙ trimmed-padded j (allowed-parts j b)
+    sym (unpadded-padded i a) ∙ ap unpadded e ∙ unpadded-padded j b

@@ -3,13 +3,18 @@ ghost use mathlib.Core.Path.{_≡_};
 ghost use mathlib.Core.Bool.{false};
 ghost use Prim.Native.Nat.{_≤_, min};
 ghost use lib.ListN.{take, drop, getD};
-ghost use Rattle.identity.specs.Bits.{word, digit, ones};
+ghost use Rattle.identity.specs.Bits.{word, digit};
 ghost use Rattle.identity.specs.Identity.{depth, allPrintable, allowedIdentity, octetsOf};
 
 // The octets of a padded identity, and its bits.
 pub const OCTETS: usize = 19;
 
 pub const BITS: usize = 8 * OCTETS;
+
+// The blank that an identity is padded with, and the last octet that it may have.
+pub const BLANK: u8 = 0x20;
+
+const LAST_PRINTABLE: u8 = 0x7E;
 
 // Whether every octet is 0x20 to 0x7E.
 fn all_printable(s: &[u8]) -> bool
@@ -19,10 +24,10 @@ fn all_printable(s: &[u8]) -> bool
     while i < s.len() {
         let x = s[i];
         i += 1;
-        if x < 0x20 {
+        if x < BLANK {
             return false;
         }
-        if 0x7E < x {
+        if LAST_PRINTABLE < x {
             return false;
         }
     }
@@ -39,7 +44,7 @@ pub fn allowed(identity: &[u8]) -> bool
     if OCTETS < identity.len() {
         return false;
     }
-    if identity[identity.len() - 1] == 0x20 {
+    if identity[identity.len() - 1] == BLANK {
         return false;
     }
     all_printable(identity)
@@ -91,11 +96,4 @@ pub fn octets_of(beginning: [bool; BITS], bits: usize) -> [u8; OCTETS]
         j += 1;
     }
     octets
-}
-
-// Ones over a beginning of so many bits, zeros behind it.
-pub fn mask_of(bits: usize) -> [u8; OCTETS]
-    ensures { λ r. ⌜ r ≡ octetsOf (ones bits) ⌝ }
-{
-    octets_of([true; BITS], bits)
 }

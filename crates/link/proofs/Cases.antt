@@ -9,6 +9,7 @@ use borrow.Author.Tests.{eqb-true, eqb-false, ne-eqb}
 use lib.Dec.{eqb}
 use lib.ListN.{length, getD, drop}
 use Rattle.octets.proofs.Words.{true-not-false}
+use Rattle.frame.specs.Line.{frameLimit, frameMost}
 use Rattle.control.specs.Control.{polled, askedBy}
 use Rattle.control.specs.declared.Order.{Order}
 use Rattle.control.specs.declared.Order.the-variants.{Xid, Snrm, Disc, Info, Rr, Rnr, Unknown}
@@ -28,7 +29,7 @@ use Rattle.station.specs.Turns.{saying, mute}
 use Rattle.states.specs.States.{begun, renewed, released, ua, dm, rejected, informedBy, polledBy, pausedBy}
 use Rattle.states.specs.States.{infoBy, rrBy, rnrBy, connectedBy, isSnrm, assignedBy, linkedBy}
 use Rattle.link.specs.Link.{allStations, xidControl, quiet, ownBy, xidBy, everyoneBy, isOwn, addressedBy}
-use Rattle.link.specs.Link.{controlledBy, frameMost, wrongSize, judgedFrame}
+use Rattle.link.specs.Link.{controlledBy, wrongSize, judgedFrame}
 use Rattle.link.specs.Frames.{controlOf, Own, numberIn, Numbered, Everyone, Unread}
 use Rattle.link.specs.Frames.{missized, unpolled, unfit, unmeant, elsewhere, unheeded, unassigned}
 use Rattle.link.proofs.Judged.{size-right, judged-is}
@@ -152,7 +153,7 @@ module _ (d : Device) (f : List ℕ) (P : Turn → Type 0)
   xid-cases w xids.Xid.Scan e = scanned w e
   xid-cases w (xids.Xid.Assignment a) e = assigned a w e
 
-  module _ (least : 2 ≤ length f) (most : length f ≤ frameMost) where
+  module _ (least : 2 ≤ length f) (most : length f ≤ frameMost frameLimit) where
     everyone-cases : getD f 0 0 ≡ allStations → (b : Bool) → eqb (controlOf f) xidControl ≡ b
         → P (cond b (xidBy d (readOf (identityOf (d .plate)) (drop 2 f))) (mute d))
     everyone-cases a true e =

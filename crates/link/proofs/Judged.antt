@@ -8,40 +8,41 @@ use Prim.Native.Nat.{ℕ, _-_, _<_, _≤_}
 use borrow.Author.Tests.{lt-ltb, le-ltb, ltb-true, ltb-false}
 use lib.Dec.{ltb}
 use lib.ListN.{length, getD, take, drop}
+use Rattle.frame.specs.Line.{frameLimit, frameMost}
 use Rattle.octets.proofs.Takes.{take-rest}
 use Rattle.octets.proofs.Words.{true-not-false}
 use Rattle.record.specs.declared.Device.{Device}
 use Rattle.station.specs.declared.Turn.{Turn}
-use Rattle.link.specs.Link.{controlledBy, wrongSize, judgedFrame, frameMost}
+use Rattle.link.specs.Link.{controlledBy, wrongSize, judgedFrame}
 
 module _ (f : List ℕ) where
   -- "fewer than 2 or more than 76 octets"
-  pub wrong-size-exactly : wrongSize f ≡ true ↔ (length f < 2) ⊎ (frameMost < length f)
+  pub wrong-size-exactly : wrongSize f ≡ true ↔ (length f < 2) ⊎ (frameMost frameLimit < length f)
   unfolding wrongSize
   wrong-size-exactly = (
     go (ltb (length f) 2) refl,
-    ⊎-elim (λ h. rw (lt-ltb (length f) 2 h)) (λ h. rw (lt-ltb frameMost (length f) h) (or-true (ltb (length f) 2))),
+    ⊎-elim (λ h. rw (lt-ltb (length f) 2 h)) (λ h. rw (lt-ltb (frameMost frameLimit) (length f) h) (or-true (ltb (length f) 2))),
   )
     where
-      go : (b : Bool) → ltb (length f) 2 ≡ b → b || ltb frameMost (length f) ≡ true
-          → (length f < 2) ⊎ (frameMost < length f)
+      go : (b : Bool) → ltb (length f) 2 ≡ b → b || ltb (frameMost frameLimit) (length f) ≡ true
+          → (length f < 2) ⊎ (frameMost frameLimit < length f)
       go true e h = inl (ltb-true (length f) 2 e)
-      go false e h = inr (ltb-true frameMost (length f) h)
+      go false e h = inr (ltb-true (frameMost frameLimit) (length f) h)
 
-  pub size-right : wrongSize f ≡ false → (2 ≤ length f) × (length f ≤ frameMost)
+  pub size-right : wrongSize f ≡ false → (2 ≤ length f) × (length f ≤ frameMost frameLimit)
   unfolding wrongSize
   size-right = go (ltb (length f) 2) refl
     where
-      go : (b : Bool) → ltb (length f) 2 ≡ b → b || ltb frameMost (length f) ≡ false
-          → (2 ≤ length f) × (length f ≤ frameMost)
+      go : (b : Bool) → ltb (length f) 2 ≡ b → b || ltb (frameMost frameLimit) (length f) ≡ false
+          → (2 ≤ length f) × (length f ≤ frameMost frameLimit)
       go true e h = absurd (true-not-false h)
-      go false e h = (ltb-false (length f) 2 e, ltb-false frameMost (length f) h)
+      go false e h = (ltb-false (length f) 2 e, ltb-false (frameMost frameLimit) (length f) h)
 
-  pub size-fits : 2 ≤ length f → length f ≤ frameMost → wrongSize f ≡ false
+  pub size-fits : 2 ≤ length f → length f ≤ frameMost frameLimit → wrongSize f ≡ false
   unfolding wrongSize
-  size-fits two most = rw (le-ltb (length f) 2 two, le-ltb frameMost (length f) most)
+  size-fits two most = rw (le-ltb (length f) 2 two, le-ltb (frameMost frameLimit) (length f) most)
 
-module _ (d : Device) (f : List ℕ) (two : 2 ≤ length f) (most : length f ≤ frameMost) where
+module _ (d : Device) (f : List ℕ) (two : 2 ≤ length f) (most : length f ≤ frameMost frameLimit) where
   pub judged-is : judgedFrame d f ≡ controlledBy d (getD f 0 0) (getD f 1 0) (drop 2 f)
   unfolding judgedFrame
   judged-is = rw (size-fits f two most)

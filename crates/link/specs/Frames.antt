@@ -15,6 +15,7 @@ use mathlib.Core.Option.{Option, none, some}
 use Prim.Native.Nat.{ℕ, _≤_}
 use lib.Dec.{eqb}
 use lib.ListN.{length, getD, drop}
+use Rattle.frame.specs.Line.{frameLimit, frameMost}
 use Rattle.refusal.specs.Answer.{Given}
 use Rattle.control.specs.Control.{polled, askedBy}
 use Rattle.control.specs.declared.Order.{Order}
@@ -26,7 +27,7 @@ use Rattle.record.specs.declared.Device.{Device}
 use Rattle.record.specs.Allowed.{identityOf}
 use Rattle.xid.specs.Match.{payloadRows}
 use Rattle.session.specs.Session.{goodNumber}
-use Rattle.link.specs.Link.{allStations, xidControl, quiet, isOwn, frameMost, wrongSize}
+use Rattle.link.specs.Link.{allStations, xidControl, quiet, isOwn, wrongSize}
 
 abbrev pub controlOf : List ℕ → ℕ
 controlOf f = getD f 1 0
@@ -38,7 +39,7 @@ hasAddress (Connected s) = true
 
 pub record Own (d : Device) (f : List ℕ) (o : Order) : Type 0 where
   pub least : 2 ≤ length f
-  pub most : length f ≤ frameMost
+  pub most : length f ≤ frameMost frameLimit
   pub poll : polled (controlOf f) ≡ true
   pub all : eqb (getD f 0 0) allStations ≡ false
   pub own : isOwn d (getD f 0 0) ≡ true
@@ -52,7 +53,7 @@ pub record Numbered (d : Device) (f : List ℕ) (o : Order) (r : ℕ) (s : Sessi
 
 pub record Everyone (f : List ℕ) : Type 0 where
   pub least : 2 ≤ length f
-  pub most : length f ≤ frameMost
+  pub most : length f ≤ frameMost frameLimit
   pub address : getD f 0 0 ≡ allStations
   pub control : controlOf f ≡ xidControl
 

@@ -11,6 +11,7 @@ use mathlib.Core.List.{List}
 use Prim.Native.Nat.{ℕ}
 use lib.Dec.{ltb, eqb}
 use lib.ListN.{length, getD, drop}
+use Rattle.frame.specs.Line.{frameLimit, frameMost}
 use Rattle.control.specs.Control.{polled, askedBy}
 use Rattle.control.specs.declared.Order.{Order}
 use Rattle.control.specs.declared.Order.the-variants.{Xid, Snrm, Disc, Info, Rr, Rnr, Unknown}
@@ -69,11 +70,8 @@ unfoldable pub controlledBy : Device → ℕ → ℕ → List ℕ → Turn
 controlledBy d a c p = cond (polled c) (addressedBy d a c p) (mute d)
 
 -- "fewer than 2 or more than 76 octets, silence"
-abbrev pub frameMost : ℕ
-frameMost = 76
-
 unfoldable pub wrongSize : List ℕ → Bool
-wrongSize f = ltb (length f) 2 || ltb frameMost (length f)
+wrongSize f = ltb (length f) 2 || ltb (frameMost frameLimit) (length f)
 
 unfoldable pub judgedFrame : Device → List ℕ → Turn
 judgedFrame d f = cond (wrongSize f) (mute d) (controlledBy d (getD f 0 0) (getD f 1 0) (drop 2 f))

@@ -2,10 +2,12 @@
 // Headline: a frame starts a movement exactly if it is a set tilt that is the next one due (conduct/proofs/Due.antt);
 // an allowed device stays allowed (conduct/proofs/Stays.antt). Assumes nothing of its caller.
 ghost use mathlib.Core.Path.{_≡_};
+ghost use Rattle.control.specs.Control.{polled, numberedBy, Asks};
 ghost use Rattle.station.specs.Turns.{saying};
 ghost use Rattle.link.specs.Link.{quiet, ownBy, xidBy, everyoneBy, isOwn, addressedBy, controlledBy};
 ghost use Rattle.link.specs.Link.{judgedFrame};
 use control::Order;
+use frame::FRAME_MOST;
 use record::Device;
 use record::Link;
 use station::Say;
@@ -16,6 +18,52 @@ use xid::Xid;
 const ALL_STATIONS: u8 = 0xFF;
 
 const XID_CONTROL: u8 = 0xBF;
+
+// ---- what a control octet asks
+
+// Whether the poll bit is set.
+fn polls(control: u8) -> bool
+    ensures { λ r. ⌜ r ≡ polled control ⌝ }
+{
+    control / 16 % 2 == 1
+}
+
+// An I-frame, or a supervisory one, by its numbers.
+fn numbered(control: u8) -> Order
+    ensures { λ r. ⌜ r ≡ numberedBy control ⌝ }
+{
+    if control % 2 == 0 {
+        return Order::Info {
+            ns: control / 2 % 8,
+            nr: control / 32,
+        };
+    }
+    if control % 32 == 0x11 {
+        return Order::Rr { nr: control / 32 };
+    }
+    if control % 32 == 0x15 {
+        return Order::Rnr { nr: control / 32 };
+    }
+    Order::Unknown
+}
+
+// What a control octet with its poll bit set asks; of one whose poll bit is clear it means nothing, and `polls` tells.
+fn asked(control: u8) -> Order
+    ensures { λ r. ⌜ Asks control r ⌝ }
+{
+    if control == XID_CONTROL {
+        return Order::Xid;
+    }
+    if control == 0x93 {
+        return Order::Snrm;
+    }
+    if control == 0x53 {
+        return Order::Disc;
+    }
+    numbered(control)
+}
+
+// ---- the frame
 
 fn say(device: Device, say: Say) -> Turn
     ensures { λ r. ⌜ r ≡ saying device say ⌝ }
@@ -92,7 +140,7 @@ fn addressed(device: Device, address: u8, control: u8, m: &[u8]) -> Turn
         return everyone(device, control, m);
     }
     if is_own(device, address) {
-        return own(device, control::asked(control), control, m);
+        return own(device, asked(control), control, m);
     }
     say(device, Say::Silence)
 }
@@ -100,7 +148,7 @@ fn addressed(device: Device, address: u8, control: u8, m: &[u8]) -> Turn
 fn controlled(device: Device, address: u8, control: u8, m: &[u8]) -> Turn
     ensures { λ r. ⌜ r ≡ controlledBy device address control (now (m .entry)) ⌝ }
 {
-    if control::polls(control) {
+    if polls(control) {
         return addressed(device, address, control, m);
     }
     say(device, Say::Silence)
@@ -113,7 +161,7 @@ pub fn judge_frame(device: Device, frame: &[u8]) -> Turn
     if frame.len() < 2 {
         return say(device, Say::Silence);
     }
-    if 76 < frame.len() {
+    if FRAME_MOST < frame.len() {
         return say(device, Say::Silence);
     }
     controlled(device, frame[0], frame[1], &frame[2..])

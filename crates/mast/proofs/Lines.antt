@@ -13,7 +13,7 @@ use Rattle.refusal.specs.declared.Handed.{Handed}
 use Rattle.refusal.specs.declared.Handed.the-variants.{Octets, Refused}
 use Rattle.refusal.specs.Answer.{Answer, gives, refuses, answerOf, counted, outAfter, Hands}
 use Rattle.refusal.proofs.Answers.{gives-not-refuses, gives-same, octets-told, in-room}
-use Rattle.frame.specs.Line.{inside}
+use Rattle.frame.specs.Line.{frameLimit, frameMost, lineMost, inside}
 use Rattle.frame.specs.Write.{written}
 use Rattle.record.specs.declared.Device.{Device}
 use Rattle.device.specs.declared.Said.{Said}
@@ -22,7 +22,7 @@ use Rattle.device.specs.Judge.{Reaction, heard, saidOf, sizeOf, toldOf, deviceA
 use Rattle.device.proofs.Only.{none-not-some}
 use Rattle.scan.specs.declared.Scan.{Scan}
 use Rattle.scan.specs.Record.{beginningOf}
-use Rattle.scan.specs.Scan.{probeOf, over, probed}
+use Rattle.scan.specs.Scan.{probeLength, probeOf, over, probed}
 use Rattle.scan.proofs.Probes.{length-probe, probed-over, probed-open}
 use Rattle.bus.specs.Cable.{octetsGiven, lineFor, hears, isFrame, withFrame}
 use Rattle.mast.specs.Steps.{lineIn, sizeIn, givenIn, frameIn, isGiven, Asks, Listens}
@@ -48,42 +48,43 @@ module _ {o o' : List ℕ} where
 
 -- a probe is written from its first octet, its second and the rest
 pub probe-line : (f : List ℕ) (m : ℕ) {o o' : List ℕ} {r : Handed} {n : ℕ} → length f ≤ m
-    → Hands (written 78 (getD f 0 0) (getD f 1 0) (take (m - 2) (drop 2 f)) 158) o r o' → n ≡ sizeIn r
+    → Hands (written frameLimit (getD f 0 0) (getD f 1 0) (take (m - 2) (drop 2 f)) (lineMost frameLimit)) o r o'
+    → n ≡ sizeIn r
     → take n o' ≡ lineFor f
 unfolding lineFor
 probe-line f m {o' = o'} {r = r} long h e =
     let all : take (m - 2) (drop 2 f) ≡ drop 2 f = take-all (m - 2) (drop 2 f) (omega (arith, length-drop 2 f)) in
     ap (λ (k : ℕ). take k o') e
     ∙ handed-line _ r h
-    ∙ ap (λ (p : List ℕ). octetsGiven (written 78 (getD f 0 0) (getD f 1 0) p 158)) all
+    ∙ ap (λ (p : List ℕ). octetsGiven (written frameLimit (getD f 0 0) (getD f 1 0) p (lineMost frameLimit))) all
 
--- a probe that is given has 47 octets
-given-47 : (s : Scan) (f : List ℕ) → probed s 47 ≡ gives f → length f ≡ 47
-given-47 s f g = go (over s) refl
+-- a probe that is given has all its octets
+given-all : (s : Scan) (f : List ℕ) → probed s probeLength ≡ gives f → length f ≡ probeLength
+given-all s f g = go (over s) refl
   where
-    go : (b : Bool) → over s ≡ b → length f ≡ 47
-    go true e = absurd (gives-not-refuses (sym g ∙ probed-over s 47 (sym e)))
+    go : (b : Bool) → over s ≡ b → length f ≡ probeLength
+    go true e = absurd (gives-not-refuses (sym g ∙ probed-over s probeLength (sym e)))
     go false e =
         let b : List ℕ = probeOf (beginningOf s) in
-        let gave : probed s 47 ≡ gives b =
-        sym (probed-open s 47 e refl) ∙ in-room b 47 (omega (arith, length-probe (beginningOf s))) in
+        let gave : probed s probeLength ≡ gives b =
+        sym (probed-open s probeLength e refl) ∙ in-room b probeLength (omega (arith, length-probe (beginningOf s))) in
         ap length (gives-same (sym g ∙ gave)) ∙ length-probe (beginningOf s)
 
--- and so it fills the 47 octets that were lent
-given-fills : (s : Scan) (f : List ℕ) {o o' : List ℕ} {r : Handed} → length o ≡ 47 → Hands (probed s 47) o r o'
-    → probed s 47 ≡ gives f → o' ≡ f
+-- and so it fills what was lent
+given-fills : (s : Scan) (f : List ℕ) {o o' : List ℕ} {r : Handed} → length o ≡ probeLength
+    → Hands (probed s probeLength) o r o' → probed s probeLength ≡ gives f → o' ≡ f
 unfolding outAfter _atStartOf_
 given-fills s f {o} n h e =
-    let size : length f ≡ 47 = given-47 s f e in
+    let size : length f ≡ probeLength = given-all s f e in
     h .octets ∙ ap (λ (x : Answer (List ℕ)). outAfter x o) e
     ∙ rw (drop-of-length-le o {i = length f} (omega arith), append-nil f)
 
-pub asks-is : (s : Scan) {o o' : List ℕ} {r : Handed} {w : Written} {b : Bool} → length o ≡ 47
-    → Hands (probed s 47) o r o' → lineIn w ≡ lineFor o' → b ≡ givenIn r
-    → Asks (probed s 47) (record { asks = b; line = w })
+pub asks-is : (s : Scan) {o o' : List ℕ} {r : Handed} {w : Written} {b : Bool} → length o ≡ probeLength
+    → Hands (probed s probeLength) o r o' → lineIn w ≡ lineFor o' → b ≡ givenIn r
+    → Asks (probed s probeLength) (record { asks = b; line = w })
 asks-is s {r = r} n h l e =
     record {
-      asks = e ∙ handed-given (probed s 47) r h;
+      asks = e ∙ handed-given (probed s probeLength) r h;
       line = λ f g. l ∙ ap lineFor (given-fills s f n h g);
     }
 
@@ -123,12 +124,14 @@ said-frame (gives x) s e = go (x .frame) s e
     go (some f) (Said.Refused k) e = absurd (gives-not-refuses (sym e))
 
 pub listens-is : (d : Device) (l : List ℕ) {x o o' : List ℕ} {j : Judged} {before b : Bool}
-    → Judges (heard d x 76) d o j o' → x ≡ inside l → b ≡ (frameIn (j .said) || before)
+    → Judges (heard d x (frameMost frameLimit)) d o j o' → x ≡ inside l → b ≡ (frameIn (j .said) || before)
     → Listens d l before (record { heard = b; device = j .device })
 unfolding hears
 listens-is d l {x} {j = j} {before = before} h e f =
-    let same : heard d x 76 ≡ hears d l = ap (λ (s : List ℕ). heard d s 76) e in
+    let same : heard d x (frameMost frameLimit) ≡ hears d l = ap (λ (s : List ℕ). heard d s (frameMost frameLimit)) e in
     record {
-      heard = f ∙ ap (λ (t : Bool). t || before) (said-frame (heard d x 76) (j .said) (h .said) ∙ ap withFrame same);
+      heard =
+          f ∙ ap (λ (t : Bool). t || before)
+          (said-frame (heard d x (frameMost frameLimit)) (j .said) (h .said) ∙ ap withFrame same);
       device = h .device ∙ ap (λ (a : Answer Reaction). deviceAfter a d) same;
     }

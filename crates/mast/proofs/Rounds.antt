@@ -12,8 +12,8 @@ use lib.Seq.{take-all}
 use Rattle.refusal.specs.Answer.{Answer, gives, refuses, stateAfter}
 use Rattle.record.specs.declared.Device.{Device}
 use Rattle.scan.specs.declared.Scan.{Scan}
-use Rattle.scan.specs.Scan.{fresh, probed, reported}
-use Rattle.bus.specs.Cable.{lineFor, replies, afterLine, anyReplies, allAfter}
+use Rattle.scan.specs.Scan.{probeLength, fresh, probed, reported}
+use Rattle.bus.specs.Cable.{rowMost, lineFor, replies, afterLine, anyReplies, allAfter}
 use Rattle.bus.specs.Scanning.{Bus, oneProbeBy, oneProbe, probesAsked, scanned}
 use Rattle.mast.specs.Mast.{onCable, withDevices, sweptBy, swept}
 use Rattle.mast.specs.Steps.{lineIn, isGiven, Asks, Listens, Sends}
@@ -26,8 +26,8 @@ use Rattle.bus.specs.declared.Row.{Row}
 
 -- the first k of ds are left to hear the line l, and one behind them answered: b; the first n of ds₀ were to hear it
 pub record Sending (l : List ℕ) (ds : List Device) (k : ℕ) (b : Bool) (ds₀ : List Device) (n : ℕ) : Type 0 where
-  pub size : length ds ≡ 32
-  pub most : k ≤ 32
+  pub size : length ds ≡ rowMost
+  pub most : k ≤ rowMost
   pub heard : (anyReplies (take k ds) l || b) ≡ anyReplies (take n ds₀) l
   pub devices : allAfter (take k ds) l ++ drop k ds ≡ allAfter (take n ds₀) l ++ drop n ds₀
 
@@ -48,8 +48,8 @@ few-same n ds = go (leb n (length ds)) refl
           drop-of-length-le ds {i = min n (length ds)} (omega arith) ∙ sym (drop-of-length-le ds {i = n} (omega arith)),
         )
 
-pub sending-all : (l : List ℕ) (ds : List Device) (n : ℕ) {k : ℕ} {b : Bool} → length ds ≡ 32 → k ≡ min n 32 → b ≡ false
-    → Sending l ds k b ds n
+pub sending-all : (l : List ℕ) (ds : List Device) (n : ℕ) {k : ℕ} {b : Bool} → length ds ≡ rowMost
+    → k ≡ min n rowMost → b ≡ false → Sending l ds k b ds n
 sending-all l ds n {k} {b} size e f =
     let m : k ≡ min n (length ds) = omega arith in
     let (t, u) = few-same n ds in
@@ -143,28 +143,28 @@ unfolding scanned
 sweeping-all row limit e = record { ahead = rw e; behind = refl }
 
 -- a scan that asks no more stays
-stays : (n : ℕ) (b : Bus) → isGiven (probed (b .scan) 47) ≡ false → probesAsked n b ≡ b
+stays : (n : ℕ) (b : Bus) → isGiven (probed (b .scan) probeLength) ≡ false → probesAsked n b ≡ b
 unfolding probesAsked oneProbe oneProbeBy isGiven
 stays zero b e = refl
-stays (suc n) b e = ap (probesAsked n) (one (probed (b .scan) 47) refl e) ∙ stays n b e
+stays (suc n) b e = ap (probesAsked n) (one (probed (b .scan) probeLength) refl e) ∙ stays n b e
   where
-    one : (x : Answer (List ℕ)) → probed (b .scan) 47 ≡ x → isGiven x ≡ false → oneProbe b ≡ b
+    one : (x : Answer (List ℕ)) → probed (b .scan) probeLength ≡ x → isGiven x ≡ false → oneProbe b ≡ b
     one (gives f) g e = absurd (true≢false e)
     one (refuses k) g e = ap (oneProbeBy b) g
 
 module _ (row : Row) (limit : ℕ) {s : Scan} {ds : List Device} where
   -- a probe is asked, heard and reported
   pub sweeping-one : {m n : ℕ} {a : Asked} {h : Heard} {t : Scan} → m ≡ n + 1 → Sweeping m s ds row limit
-      → Asks (probed s 47) a → a .asks ≡ true → Sends ds (row .count) (lineIn (a .line)) h
+      → Asks (probed s probeLength) a → a .asks ≡ true → Sends ds (row .count) (lineIn (a .line)) h
       → t ≡ stateAfter (reported s (h .heard)) s → Sweeping n t (h .devices) row limit
   unfolding probesAsked oneProbe oneProbeBy isGiven
   sweeping-one {m} {n} {a} {h} {t} e w asked asks sent told =
-      go (probed s 47) refl (sym (asked .asks) ∙ asks)
+      go (probed s probeLength) refl (sym (asked .asks) ∙ asks)
     where
       k : ℕ
       k = row .count
 
-      one : (f : List ℕ) → probed s 47 ≡ gives f
+      one : (f : List ℕ) → probed s probeLength ≡ gives f
           → record { scan = t; devices = take k (h .devices) } ≡ oneProbeBy (now row s ds) (gives f)
       one f g =
           let l : lineIn (a .line) ≡ lineFor f = asked .line f g in
@@ -174,7 +174,7 @@ module _ (row : Row) (limit : ℕ) {s : Scan} {ds : List Device} where
           ap (take k) (sent .devices) ∙ cable-after k ds (lineIn (a .line)) .0 ∙ ap (allAfter (take k ds)) l in
           ap₂ (λ (u : Scan) (es : List Device). record { scan = u; devices = es }) x y
 
-      go : (x : Answer (List ℕ)) → probed s 47 ≡ x → isGiven x ≡ true → Sweeping n t (h .devices) row limit
+      go : (x : Answer (List ℕ)) → probed s probeLength ≡ x → isGiven x ≡ true → Sweeping n t (h .devices) row limit
       go (refuses j) g i = absurd (false≢true i)
       go (gives f) g i =
           record {
@@ -201,7 +201,7 @@ module _ (row : Row) (limit : ℕ) {s : Scan} {ds : List Device} where
   unfolding probesAsked
   sweeping-none e w = sweeping-end (rw e at (w .ahead)) (w .behind)
 
-  pub sweeping-over : {n : ℕ} {a : Asked} → Sweeping n s ds row limit → Asks (probed s 47) a → a .asks ≡ false
+  pub sweeping-over : {n : ℕ} {a : Asked} → Sweeping n s ds row limit → Asks (probed s probeLength) a → a .asks ≡ false
       → record { scan = s; row = record { devices = ds; count = row .count } } ≡ swept row limit
   sweeping-over {n} w asked over =
       sweeping-end (sym (stays n (now row s ds) (sym (asked .asks) ∙ over)) ∙ w .ahead) (w .behind)

@@ -6,24 +6,19 @@ ghost use mathlib.Core.Bool.{_||_};
 ghost use lib.ListN.{take};
 ghost use Rattle.refusal.specs.Answer.{stateAfter};
 ghost use Rattle.frame.specs.Line.{inside};
-ghost use Rattle.scan.specs.Scan.{probed, reported};
+ghost use Rattle.scan.specs.Scan.{probeLength, probed, reported};
 ghost use Rattle.bus.specs.Cable.{lineFor};
 ghost use Rattle.mast.specs.Mast.{swept};
 ghost use Rattle.mast.specs.Steps.{sizeIn, givenIn, frameIn, lineIn, Asks, Listens, Sends};
 use bus::MOST;
 use bus::Row;
 use device::Said;
+use frame::FRAME_MOST;
+use frame::LINE_MOST;
 use record::Device;
 use refusal::Handed;
+use scan::PROBE;
 use scan::Scan;
-
-// The octets of a probe.
-const PROBE: usize = 47;
-
-// Room for any line, and for any answer.
-const LINE: usize = 158;
-
-const ANSWER: usize = 76;
 
 // A scan that was run to its end, and the row after it.
 pub struct Swept {
@@ -35,7 +30,7 @@ pub struct Swept {
 
 // A line: the first `len` of the octets.
 struct Written {
-    octets: [u8; LINE],
+    octets: [u8; LINE_MOST],
     len: usize,
 }
 
@@ -68,7 +63,7 @@ fn given_in(handed: Handed) -> bool
 fn line_of(probe: [u8; PROBE]) -> Written
     ensures { λ r. ⌜ lineIn r ≡ lineFor probe ⌝ }
 {
-    let mut octets = [0u8; LINE];
+    let mut octets = [0u8; LINE_MOST];
     let handed = writer::write(probe[0], probe[1], &probe[2..], &mut octets);
     Written {
         octets,
@@ -77,7 +72,7 @@ fn line_of(probe: [u8; PROBE]) -> Written
 }
 
 fn ask(scan: Scan) -> Asked
-    ensures { λ r. ⌜ Asks (probed scan 47) r ⌝ }
+    ensures { λ r. ⌜ Asks (probed scan probeLength) r ⌝ }
 {
     let mut probe = [0u8; PROBE];
     let handed = scan::probe(scan, &mut probe);
@@ -127,7 +122,7 @@ fn is_heard(said: Said, before: bool) -> bool
 fn listen(device: Device, line: Written, before: bool) -> Listened
     ensures { λ r. ⌜ Listens device (lineIn line) before r ⌝ }
 {
-    let mut answer = [0u8; ANSWER];
+    let mut answer = [0u8; FRAME_MOST];
     let octets = line.octets;
     let judged = device::hear(device, inner(&octets, line.len), &mut answer);
     let said = judged.said;

@@ -7,6 +7,7 @@ use Rattle.octets.proofs.find.Reads as find-reads
 use Rattle.octets.proofs.pair.Reads as pair-reads
 use Rattle.octets.proofs.put.Reads as put-reads
 use Rattle.octets.proofs.put_all.Reads as put-all-reads
+use Rattle.octets.proofs.wide.Reads as wide-reads
 
 -- what equals the same is equal: every promise that is an equation allows one result
 pub only {ℓ} : {A : Type ℓ} {a b right : A} → a ≡ right → b ≡ right → a ≡ b
@@ -42,6 +43,9 @@ put-only κs a r q s t x y = (refl, only x y)
 pub put-all-only : SettlesAll put-all-reads.Learnt (λ κs s. now (s .0))
 put-all-only κs a r q s t x y = (refl, only x y)
 
+pub wide-only : Settles wide-reads.Learnt
+wide-only κs a r q s t = only
+
 pub fewer-asks : AsksNothing fewer-reads.Asked
 fewer-asks κs a = tt
 
@@ -56,3 +60,6 @@ put-asks κs a = tt
 
 pub put-all-asks : AsksNothing put-all-reads.Asked
 put-all-asks κs a = tt
+
+pub wide-asks : AsksNothing wide-reads.Asked
+wide-asks κs a = tt

@@ -1,8 +1,9 @@
--- A word looked for in a list that a loop goes through by an index i, and the last one of a list. Assumes nothing.
+-- A word looked for in a list that a loop goes through by an index i, and the last one of a list; two tests joined.
+-- Assumes nothing.
 use mathlib.Core.Path.{_≡_, refl, sym, _∙_}
-use mathlib.Core.Bool.{Bool, true, false, cond}
+use mathlib.Core.Bool.{Bool, true, false, cond, _||_}
 use mathlib.Core.List.{List, [], _∷_}
-use mathlib.Core.Logic.{_↔_, inl, inr, ⊎-elim}
+use mathlib.Core.Logic.{_↔_, _⊎_, inl, inr, ⊎-elim}
 use Prim.Native.Nat.{ℕ, zero, suc, _+_, _-_, _<_, _≤_}
 use native.Mathlib.Nat.{add-zero, le-of-suc-le-suc, not-suc-le-zero}
 use native.Mathlib.Omega.{arith}
@@ -14,6 +15,15 @@ use Rattle.octets.proofs.Rest.{rest}
 
 pub true-not-false : true ≡ false → ⊥
 true-not-false e = let z : _≡_ {A = ℕ} 0 1 = cc in omega arith
+
+-- of two tests, of which one holds, or none
+pub or-parts : (a b : Bool) → (a || b) ≡ true → (a ≡ true) ⊎ (b ≡ true)
+or-parts true b e = inl refl
+or-parts false b e = inr e
+
+pub or-none : (a b : Bool) → (a || b) ≡ false → (a ≡ false) × (b ≡ false)
+or-none true b e = absurd (true-not-false e)
+or-none false b e = (refl, e)
 
 module _ (x : ℕ) (s : List ℕ) (i : ℕ) {w : Bool} (v : holds x (drop i s) ≡ w) where
   pub holds-here : i < length s → getD s i 0 ≡ x → true ≡ w

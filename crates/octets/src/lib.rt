@@ -51,6 +51,13 @@ pub fn find(octet: u8, s: &[u8]) -> usize
     i
 }
 
+// An octet as a length.
+pub fn wide(octet: u8) -> usize
+    ensures { λ r. ⌜ r ≡ octet ⌝ }
+{
+    octet as usize
+}
+
 // The number that two octets stand for, the low one first.
 pub fn pair(low: u8, high: u8) -> u16
     ensures { λ r. ⌜ r ≡ pairOf low high ⌝ }

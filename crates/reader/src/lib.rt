@@ -12,15 +12,8 @@ pub enum Stands {
     Triple { id: u8, from: usize, len: usize },
 }
 
-// An octet as a length.
-fn wide(x: u8) -> usize
-    ensures { λ r. ⌜ r ≡ x ⌝ }
-{
-    x as usize
-}
-
 // The triple that stands at a place.
-pub fn stands_at(s: &[u8], at: usize) -> Stands
+fn stands_at(s: &[u8], at: usize) -> Stands
     ensures { λ r. ⌜ r ≡ standsAt (now (s .entry)) at ⌝ }
 {
     if s.len() <= at {
@@ -30,7 +23,7 @@ pub fn stands_at(s: &[u8], at: usize) -> Stands
     if left < 2 {
         return Stands::Broken;
     }
-    let len = wide(s[at + 1]);
+    let len = octets::wide(s[at + 1]);
     if left - 2 < len {
         return Stands::Broken;
     }

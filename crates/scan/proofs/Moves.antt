@@ -16,7 +16,7 @@ use Rattle.identity.proofs.Words.{length-packed}
 use Rattle.walk.specs.Beginnings.{then}
 use Rattle.walk.specs.Machine.{asking, limited, named, goOn, settle, next, zeroHalf, listing, noted}
 use Rattle.walk.specs.Machine.{stepIn, step}
-use Rattle.scan.specs.Record.{room, listOf, beginningOf, flat, phaseOf, stateOf, _onto_}
+use Rattle.scan.specs.Record.{listMost, listOf, beginningOf, flat, phaseOf, stateOf, _onto_}
 use Rattle.scan.specs.Record.{walkOf, recordOf}
 use Rattle.scan.specs.Steps.{nextAt, inState, at, standsAt, finishedBy, going, movedOn, notedIn}
 use Rattle.scan.specs.declared.Scan.{Scan}
@@ -106,7 +106,7 @@ module _ (s : Scan) (q w : Bool) where
       (set-split (s .beginning) (s .bits) false (omega arith))))
 
   pub note-listed : (n : ℕ) {list : List ℕ} → list ≡ sets (s .list) (width * s .listed) (octetsOf (beginningOf s))
-      → length (s .list) ≡ width * room → s .bits ≡ depth → length (s .beginning) ≡ depth → s .listed < room
+      → length (s .list) ≡ width * listMost → s .bits ≡ depth → length (s .beginning) ≡ depth → s .listed < listMost
       → n ≤ length (s .beginning) → next (beginningOf s) ≡ nextAt (s .beginning) n
       → movedOn (made (s .limit) (s .count + 1) (s .listed + 1) list (s .bits) (s .beginning) (s .state)) n false w
       ≡ notedIn s q w true
@@ -118,7 +118,7 @@ module _ (s : Scan) (q w : Bool) where
       omega (arith, length-packed width (beginningOf s)) in
       rw (
         le-ltb (length (beginningOf s)) depth (omega arith),
-        lt-ltb (length (listOf s)) room (omega (arith, same-length)),
+        lt-ltb (length (listOf s)) listMost (omega (arith, same-length)),
         v,
         ← (add-one (s .count)),
       )
@@ -126,14 +126,14 @@ module _ (s : Scan) (q w : Bool) where
       (listOf s ++ (y ∷ [])) n false w (length-more (s .listed) (s .list) y)
       (g ∙ rows-more (s .listed) (s .list) y fits) refl i)
 
-  pub note-full : s .bits ≡ depth → length (s .beginning) ≡ depth → room ≤ s .listed
+  pub note-full : s .bits ≡ depth → length (s .beginning) ≡ depth → listMost ≤ s .listed
       → made (s .limit) (s .count + 1) (s .listed) (s .list) (s .bits) (s .beginning) Full ≡ notedIn s q w true
   unfolding noted flat named stateOf listing
   note-full b e k =
       let n : length (beginningOf s) ≡ s .bits = bits-are (omega arith) in
       rw (
         le-ltb (length (beginningOf s)) depth (omega arith),
-        le-ltb (length (listOf s)) room (omega (arith, same-length)),
+        le-ltb (length (listOf s)) listMost (omega (arith, same-length)),
         ← (add-one (s .count)),
         n,
         length-rows (s .listed) (s .list),
@@ -143,6 +143,6 @@ module _ (s : Scan) (q w : Bool) where
 
 -- a step of the record's walk, where it asks
 pub noted-step : (s : Scan) (a : Bool) {q w : Bool} → s .state ≡ Asking q w
-    → notedIn s q w a ≡ recordOf s (step octetsOf depth room (walkOf s) a)
+    → notedIn s q w a ≡ recordOf s (step octetsOf depth listMost (walkOf s) a)
 unfolding step stepIn phaseOf
 noted-step s a e = rw e

@@ -1,6 +1,6 @@
 -- Which records take no probe and no answer. Assumes nothing.
 use mathlib.Core.Path.{_≡_, refl, sym, _∙_}
-use mathlib.Core.Bool.{Bool, true, false, not, _||_, or-true, true≢false}
+use mathlib.Core.Bool.{true, false, not, or-true}
 use mathlib.Core.List.{[], _∷_}
 use mathlib.Core.Logic.{⊎-elim}
 use Prim.Native.Nat.{_≤_, _<_}
@@ -10,7 +10,8 @@ use denote.Enum.Declared.{tagOf}
 use lib.Dec.{ltb}
 use types.Run.{OneOf}
 use Rattle.identity.specs.Identity.{depth}
-use Rattle.scan.specs.Record.{room}
+use Rattle.octets.proofs.Words.{or-none}
+use Rattle.scan.specs.Record.{listMost}
 use Rattle.scan.specs.Scan.{ended, over}
 use Rattle.scan.specs.declared.Scan.{Scan}
 use Rattle.scan.specs.declared.State.{State}
@@ -44,24 +45,20 @@ module _ (s : Scan) where
   unfolding over
   over-count h = rw (le-ltb (s .count) (s .limit) h, or-true (ended (s .state)))
 
-  pub over-list : room < s .listed → true ≡ over s
+  pub over-list : listMost < s .listed → true ≡ over s
   unfolding over
   over-list h =
-      rw (lt-ltb room (s .listed) h, or-true (not (ltb (s .count) (s .limit))), or-true (ended (s .state)))
+      rw (lt-ltb listMost (s .listed) h, or-true (not (ltb (s .count) (s .limit))), or-true (ended (s .state)))
 
-  pub over-bits : ended (s .state) ≡ false → s .count < s .limit → s .listed ≤ room → ltb depth (s .bits) ≡ over s
+  pub over-bits : ended (s .state) ≡ false → s .count < s .limit → s .listed ≤ listMost → ltb depth (s .bits) ≡ over s
   unfolding over
-  over-bits e h k = rw (e, lt-ltb (s .count) (s .limit) h, le-ltb room (s .listed) k)
-
-or-none : (a b : Bool) → (a || b) ≡ false → (a ≡ false) × (b ≡ false)
-or-none true b e = absurd (true≢false e)
-or-none false b e = (refl, e)
+  over-bits e h k = rw (e, lt-ltb (s .count) (s .limit) h, le-ltb listMost (s .listed) k)
 
 -- a record that takes a probe and an answer
 pub record Open (s : Scan) : Type 0 where
   pub asks : ended (s .state) ≡ false
   pub counts : s .count < s .limit
-  pub lists : s .listed ≤ room
+  pub lists : s .listed ≤ listMost
   pub begins : s .bits ≤ depth
 
 pub open-parts : (s : Scan) → over s ≡ false → Open s
@@ -69,11 +66,11 @@ unfolding over
 open-parts s e =
     let (a, r) = or-none (ended (s .state)) _ e in
     let (b, q) = or-none (not (ltb (s .count) (s .limit))) _ r in
-    let (c, d) = or-none (ltb room (s .listed)) (ltb depth (s .bits)) q in
+    let (c, d) = or-none (ltb listMost (s .listed)) (ltb depth (s .bits)) q in
     record {
       asks = a;
       counts = ltb-true (s .count) (s .limit) (not-false (ltb (s .count) (s .limit)) b);
-      lists = ltb-false room (s .listed) c;
+      lists = ltb-false listMost (s .listed) c;
       begins = ltb-false depth (s .bits) d;
     }
 

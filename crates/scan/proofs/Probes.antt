@@ -13,7 +13,7 @@ use Rattle.identity.specs.Identity.{width, depth, octetsOf, maskOf}
 use Rattle.identity.proofs.Words.{length-packed, ones-within}
 use Rattle.refusal.specs.Answer.{refuses, answered, handedOut}
 use Rattle.scan.specs.Record.{beginningOf}
-use Rattle.scan.specs.Scan.{probeOf, over, probed}
+use Rattle.scan.specs.Scan.{probeLength, probeOf, over, probed}
 use Rattle.scan.specs.declared.Scan.{Scan}
 
 -- four runs of octets, one behind the other, that fill a row
@@ -37,7 +37,7 @@ four-runs o a b c e i j k x y z n =
 abbrev head : List ℕ
 head = 0xFF ∷ 0xBF ∷ 0x81 ∷ 0xF0 ∷ 0x2A ∷ 1 ∷ width ∷ []
 
-pub length-probe : (p : Bits) → length (probeOf p) ≡ 47
+pub length-probe : (p : Bits) → length (probeOf p) ≡ probeLength
 unfolding probeOf
 length-probe p =
     omega (
@@ -49,7 +49,7 @@ length-probe p =
 
 -- the octets of the probe, as they are put into a row of zeros
 probe-is : (row : Bits) (n : ℕ) → length row ≡ depth
-    → sets (sets (sets (sets (replicate 47 0) 0 head) 7 (octetsOf (take n row))) 26 (3 ∷ width ∷ [])) 28
+    → sets (sets (sets (sets (replicate probeLength 0) 0 head) 7 (octetsOf (take n row))) 26 (3 ∷ width ∷ [])) 28
     (octetsOf (ones n))
     ≡ probeOf (take n row)
 unfolding probeOf
@@ -57,16 +57,17 @@ probe-is row n e =
     let v : List ℕ = octetsOf (take n row) in
     let t : List ℕ = 3 ∷ width ∷ [] in
     let m : List ℕ = octetsOf (ones n) in
-    let size : 47 ≡ length (head ++ (v ++ (t ++ m))) =
+    let size : probeLength ≡ length (head ++ (v ++ (t ++ m))) =
     omega (arith, length-packed width (take n row), length-packed width (ones n), length-append v (t ++ m)) in
     let long : length (take n row) ≡ min n depth = length-take n row ∙ ap (min n) e in
-    four-runs (replicate 47 0) head v t m 7 26 28 refl (omega (arith, length-packed width (take n row))) refl size
+    four-runs (replicate probeLength 0) head v t m 7 26 28 refl (omega (arith, length-packed width (take n row))) refl
+    size
     ∙ ap (λ (x : List ℕ). head ++ (v ++ (t ++ x)))
     (sym (ap (λ (k : ℕ). octetsOf (ones k)) long ∙ ones-within width n))
 
 pub probe-built : (row : Bits) (n : ℕ) {v m f g i j : List ℕ} → length row ≡ depth
     → v ≡ octetsOf (take n row) → m ≡ octetsOf (ones n)
-    → f ≡ sets (replicate 47 0) 0 head → g ≡ sets f 7 v → i ≡ sets g 26 (3 ∷ width ∷ []) → j ≡ sets i 28 m
+    → f ≡ sets (replicate probeLength 0) 0 head → g ≡ sets f 7 v → i ≡ sets g 26 (3 ∷ width ∷ []) → j ≡ sets i 28 m
     → j ≡ probeOf (take n row)
 probe-built row n e a b x y z w = w ∙ rw (z, y, x, a, b) (probe-is row n e)
 

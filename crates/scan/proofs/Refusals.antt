@@ -12,9 +12,9 @@ use Rattle.octets.specs.Octets.{holds}
 use Rattle.refusal.specs.Answer.{refuses, Row, _when_, shorter, numbersOf}
 use Rattle.refusal.proofs.Exactly.{TestsFor, exactly-tests}
 use Rattle.walk.specs.Machine.{step}
-use Rattle.walk.proofs.Doubts.{or-parts}
-use Rattle.scan.specs.Record.{room, beginningOf, walkOf, recordOf}
-use Rattle.scan.specs.Scan.{ended, over, probeOf, probed, reported}
+use Rattle.octets.proofs.Words.{or-parts}
+use Rattle.scan.specs.Record.{listMost, beginningOf, walkOf, recordOf}
+use Rattle.scan.specs.Scan.{probeLength, ended, over, probeOf, probed, reported}
 use Rattle.scan.specs.declared.Scan.{Scan}
 use Rattle.scan.proofs.Overs.{over-ended, over-count, over-list}
 use Rattle.scan.proofs.Probes.{length-probe}
@@ -26,7 +26,7 @@ or-right false b e = e
 -- 01: "a scan that has ended or a record whose count isn't below its limit, whose list passes 32 or whose beginning
 -- passes 152 bits"
 abbrev pub Over : Scan → Type 0
-Over s = (ended (s .state) ≡ true) ⊎ ((s .limit ≤ s .count) ⊎ ((room < s .listed) ⊎ (depth < s .bits)))
+Over s = (ended (s .state) ≡ true) ⊎ ((s .limit ≤ s .count) ⊎ ((listMost < s .listed) ⊎ (depth < s .bits)))
 
 pub over-exactly : (s : Scan) → (over s ≡ true) ↔ Over s
 unfolding over
@@ -38,8 +38,9 @@ over-exactly s = (there, back)
         (λ h.
         ⊎-elim (λ k. inr (inl (ltb-false (s .count) (s .limit) (not-true (ltb (s .count) (s .limit)) k))))
         (λ k.
-        ⊎-elim (λ m. inr (inr (inl (ltb-true room (s .listed) m)))) (λ m. inr (inr (inr (ltb-true depth (s .bits) m))))
-        (or-parts (ltb room (s .listed)) (ltb depth (s .bits)) k))
+        ⊎-elim (λ m. inr (inr (inl (ltb-true listMost (s .listed) m))))
+        (λ m. inr (inr (inr (ltb-true depth (s .bits) m))))
+        (or-parts (ltb listMost (s .listed)) (ltb depth (s .bits)) k))
         (or-parts (not (ltb (s .count) (s .limit))) _ h))
         (or-parts (ended (s .state)) _ e)
 
@@ -49,11 +50,11 @@ over-exactly s = (there, back)
     back (inr (inr (inl h))) = sym (over-list s h)
     back (inr (inr (inr h))) =
         or-right (ended (s .state)) _ (or-right (not (ltb (s .count) (s .limit))) _
-        (or-right (ltb room (s .listed)) _ (lt-ltb depth (s .bits) h)))
+        (or-right (ltb listMost (s .listed)) _ (lt-ltb depth (s .bits) h)))
 
 pub report-seven : (s : Scan) (heard : Bool) → (reported s heard ≡ refuses 7) ↔ (over s ≡ true)
 unfolding reported TestsFor numbersOf holds
-report-seven s heard = exactly-tests 7 (7 when over s ∷ []) (recordOf s (step octetsOf depth room (walkOf s) heard))
+report-seven s heard = exactly-tests 7 (7 when over s ∷ []) (recordOf s (step octetsOf depth listMost (walkOf s) heard))
 
 module _ (s : Scan) (lent : ℕ) where
   rows : List Row
@@ -63,7 +64,7 @@ module _ (s : Scan) (lent : ℕ) where
   unfolding probed rows TestsFor numbersOf holds
   probe-seven = exactly-tests 7 rows (probeOf (beginningOf s))
 
-  pub probe-five : (probed s lent ≡ refuses 5) ↔ ((over s ≡ false) × (lent < 47))
+  pub probe-five : (probed s lent ≡ refuses 5) ↔ ((over s ≡ false) × (lent < probeLength))
   unfolding probed rows TestsFor numbersOf holds
   probe-five =
       let law = exactly-tests 5 rows (probeOf (beginningOf s)) in

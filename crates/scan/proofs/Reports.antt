@@ -7,7 +7,7 @@ use Rattle.refusal.specs.declared.Refusal.the-variants.{ScanOver}
 use Rattle.refusal.proofs.Answers.{answered-here, unchanged, changed}
 use Rattle.identity.specs.Identity.{depth, octetsOf}
 use Rattle.walk.specs.Machine.{step}
-use Rattle.scan.specs.Record.{room, recordOf, walkOf}
+use Rattle.scan.specs.Record.{listMost, recordOf, walkOf}
 use Rattle.scan.specs.Scan.{over, reported}
 use Rattle.scan.specs.declared.Scan.{Scan}
 
@@ -18,7 +18,7 @@ report-over s heard e = unchanged ScanOver (answered-here _ _ _ (sym e))
 
 -- the scan one step on
 pub report-taken : (s : Scan) (heard : Bool) {t : Scan} → over s ≡ false
-    → t ≡ recordOf s (step octetsOf depth room (walkOf s) heard) → Changes (reported s heard) s Done t
+    → t ≡ recordOf s (step octetsOf depth listMost (walkOf s) heard) → Changes (reported s heard) s Done t
 unfolding reported answered
 report-taken s heard e g = changed (rw (e, g))
 
@@ -28,6 +28,6 @@ unfolding reported answered stateAfter
 report-stays s a e = rw (← e)
 
 pub report-steps : (s : Scan) (a : Bool) → over s ≡ false
-    → stateAfter (reported s a) s ≡ recordOf s (step octetsOf depth room (walkOf s) a)
+    → stateAfter (reported s a) s ≡ recordOf s (step octetsOf depth listMost (walkOf s) a)
 unfolding reported answered stateAfter
 report-steps s a e = rw e

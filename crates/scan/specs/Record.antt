@@ -1,5 +1,5 @@
 -- The scan's record as a walk, and back.
---   room             == how many identities the list holds
+--   listMost         == how many identities the list holds
 --   beginningOf s    == the beginning of the record s: the first `bits` of its row
 --   rowsOf n l       == the first n identities of a list, 19 octets each; listOf s == those of the record s
 --   walkOf s         == the record s as a walk
@@ -18,8 +18,8 @@ use Rattle.scan.specs.declared.State.the-variants.{Asking, Complete, Dou
 
 infixl 45 _onto_
 -- 01: "the list holds 32"
-abbrev pub room : ℕ
-room = 32
+abbrev pub listMost : ℕ
+listMost = 32
 
 unfoldable pub rowsOf : ℕ → List ℕ → List (List ℕ)
 rowsOf zero l = []

@@ -16,7 +16,7 @@ use Rattle.identity.specs.Bits.{Bits}
 use Rattle.identity.specs.Identity.{depth, octetsOf}
 use Rattle.walk.specs.Beginnings.{then}
 use Rattle.walk.specs.Machine.{noted}
-use Rattle.scan.specs.Record.{room, beginningOf, listOf, recordOf}
+use Rattle.scan.specs.Record.{listMost, beginningOf, listOf, recordOf}
 use Rattle.scan.specs.declared.Scan.{Scan}
 use Rattle.scan.specs.declared.State.{State}
 use Rattle.scan.specs.declared.State.the-variants.{Asking, Complete, Doubtful, Limit}
@@ -66,4 +66,4 @@ movedOn s (suc m) quiet doubt = going (at s (suc m) (set (s .beginning) m true))
 
 abbrev pub notedIn : Scan → Bool → Bool → Bool → Scan
 notedIn s quiet doubt heard =
-    recordOf s (noted octetsOf depth room (s .limit) (s .count) (listOf s) (beginningOf s) quiet doubt heard)
+    recordOf s (noted octetsOf depth listMost (s .limit) (s .count) (listOf s) (beginningOf s) quiet doubt heard)

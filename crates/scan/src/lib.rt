@@ -2,6 +2,8 @@
 // The definitions and laws of the whole scanner are here, its other calls in `scanner`. Assumes nothing of its caller.
 ghost use mathlib.Core.Path.{_≡_};
 ghost use lib.ListN.{length, take};
+ghost use Rattle.identity.specs.Bits.{ones};
+ghost use Rattle.identity.specs.Identity.{octetsOf};
 ghost use Rattle.refusal.specs.Answer.{Hands};
 ghost use Rattle.scan.specs.Scan.{over, probeOf, probed};
 use identity::BITS;
@@ -10,12 +12,21 @@ use refusal::Handed;
 use refusal::Refusal;
 
 // How many identities the list holds, and their octets.
-pub const ROOM: usize = 32;
+pub const LIST_MOST: usize = 32;
 
-pub const LIST: usize = OCTETS * ROOM;
+pub const LIST: usize = OCTETS * LIST_MOST;
 
-// The octets of a probe.
-const PROBE: usize = 47;
+// The length in front of a value and of its mask.
+const WIDTH: u8 = OCTETS as u8;
+
+// The octets of a probe, and where in it the value, the mask's head and the mask stand.
+pub const PROBE: usize = 47;
+
+const VALUE: usize = 7;
+
+const HEAD: usize = VALUE + OCTETS;
+
+const MASK: usize = HEAD + 2;
 
 // Asking: the 0 half just before was silent; some heard beginning had both halves silent. Or one of the four ends.
 pub enum State {
@@ -48,10 +59,17 @@ pub fn is_over(scan: Scan) -> bool
     if scan.limit <= scan.count {
         return true;
     }
-    if ROOM < scan.listed {
+    if LIST_MOST < scan.listed {
         return true;
     }
     BITS < scan.bits
+}
+
+// Ones over a beginning of so many bits, zeros behind it.
+fn mask_of(bits: usize) -> [u8; OCTETS]
+    ensures { λ r. ⌜ r ≡ octetsOf (ones bits) ⌝ }
+{
+    identity::octets_of([true; BITS], bits)
 }
 
 // The octets of the probe of a beginning.
@@ -59,10 +77,10 @@ fn probe_of(beginning: [bool; BITS], bits: usize) -> [u8; PROBE]
     ensures { λ r. ⌜ r ≡ probeOf (take bits beginning) ⌝ }
 {
     let mut probe = [0u8; PROBE];
-    octets::put_all(&mut probe, 0, &[0xFF, 0xBF, 0x81, 0xF0, 0x2A, 1, 19]);
-    octets::put_all(&mut probe, 7, &identity::octets_of(beginning, bits));
-    octets::put_all(&mut probe, 26, &[3, 19]);
-    octets::put_all(&mut probe, 28, &identity::mask_of(bits));
+    octets::put_all(&mut probe, 0, &[0xFF, 0xBF, 0x81, 0xF0, 0x2A, 1, WIDTH]);
+    octets::put_all(&mut probe, VALUE, &identity::octets_of(beginning, bits));
+    octets::put_all(&mut probe, HEAD, &[3, WIDTH]);
+    octets::put_all(&mut probe, MASK, &mask_of(bits));
     probe
 }
 

@@ -8,7 +8,7 @@ ghost use lib.Seq.{sets};
 ghost use Rattle.refusal.specs.Answer.{Changes};
 ghost use Rattle.identity.specs.Identity.{width, depth};
 ghost use Rattle.walk.specs.Machine.{next, zeroHalf};
-ghost use Rattle.scan.specs.Record.{room};
+ghost use Rattle.scan.specs.Record.{listMost};
 ghost use Rattle.scan.specs.Steps.{nextAt, standsAt, finishedBy, inState, going, movedOn, notedIn};
 ghost use Rattle.scan.specs.Scan.{fresh, reported};
 use identity::BITS;
@@ -16,7 +16,7 @@ use identity::OCTETS;
 use refusal::Outcome;
 use refusal::Refusal;
 use scan::LIST;
-use scan::ROOM;
+use scan::LIST_MOST;
 use scan::Scan;
 use scan::State;
 
@@ -126,9 +126,9 @@ fn move_on(scan: Scan, n: usize, quiet: bool, doubt: bool) -> Scan
 
 // The list with an identity at the next free place.
 fn store(list: [u8; LIST], listed: usize, name: [u8; OCTETS]) -> [u8; LIST]
-    requires { ⌜ listed < room ⌝ }
+    requires { ⌜ listed < listMost ⌝ }
     ensures { λ r. ⌜ r ≡ sets list (width * listed) name ⌝ }
-    ensures sized { λ _. ⌜ length list ≡ width * room ⌝ }
+    ensures sized { λ _. ⌜ length list ≡ width * listMost ⌝ }
 {
     let mut l = list;
     octets::put_all(&mut l, OCTETS * listed, &name);
@@ -137,7 +137,7 @@ fn store(list: [u8; LIST], listed: usize, name: [u8; OCTETS]) -> [u8; LIST]
 
 // One answer to the beginning that is asked.
 fn note(scan: Scan, quiet: bool, doubt: bool, heard: bool) -> Scan
-    requires { ⌜ (scan .count < scan .limit) × (scan .listed ≤ room) × (scan .bits ≤ depth) ⌝ }
+    requires { ⌜ (scan .count < scan .limit) × (scan .listed ≤ listMost) × (scan .bits ≤ depth) ⌝ }
     ensures { λ r. ⌜ r ≡ notedIn scan quiet doubt heard ⌝ }
 {
     let bits = scan.bits;
@@ -155,7 +155,7 @@ fn note(scan: Scan, quiet: bool, doubt: bool, heard: bool) -> Scan
         s.bits = bits + 1;
         return keep_going(s, false, doubt);
     }
-    if listed < ROOM {
+    if listed < LIST_MOST {
         let old = scan.list;
         let list = store(old, listed, identity::octets_of(beginning, bits));
         s.list = list;

@@ -10,6 +10,7 @@ use mathlib.Core.Option.{Option, none, some}
 use Prim.Native.Nat.{ℕ}
 use lib.ListN.{length, take, replicate}
 use Rattle.octets.specs.Octets.{_atStartOf_}
+use Rattle.frame.specs.Line.{frameLimit, frameMost}
 use Rattle.record.specs.declared.Pending.{Pending}
 use Rattle.record.specs.declared.Pending.the-variants.{Nothing, Answer, Indication}
 use Rattle.record.specs.declared.Link.{Link}
@@ -68,7 +69,7 @@ payloadBy d Assigned = assignmentAnswer (identityOf (d .plate))
 unfoldable pub frameBy : Device → Say → Option (List ℕ)
 frameBy d x = cond (isSilent x) none (some (d .station .desk .address ∷ controlBy x ∷ payloadBy d x))
 
--- at the start of 76 zeros; silence has no octet
+-- at the start of as many zeros as a frame has octets at most; silence has no octet
 unfoldable pub spokenOf : Option (List ℕ) → Spoken
-spokenOf none = record { octets = replicate 76 0; len = 0 }
-spokenOf (some f) = record { octets = f atStartOf replicate 76 0; len = length f }
+spokenOf none = record { octets = replicate (frameMost frameLimit) 0; len = 0 }
+spokenOf (some f) = record { octets = f atStartOf replicate (frameMost frameLimit) 0; len = length f }

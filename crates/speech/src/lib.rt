@@ -6,18 +6,21 @@ ghost use mathlib.Core.List.{[], _∷_};
 ghost use mathlib.Core.Option.{some};
 ghost use Prim.Native.Nat.{_≤_};
 ghost use lib.ListN.{take};
+ghost use Rattle.frame.specs.Line.{frameLimit, frameMost};
 ghost use Rattle.speech.specs.Speech.{octetsOf, pendingOctets, linkOctets, isSilent, controlBy, payloadBy};
 ghost use Rattle.speech.specs.Speech.{frameBy, spokenOf};
+use frame::FRAME_MOST;
 use record::Desk;
 use record::Device;
 use record::Link;
 use record::Payload;
 use record::Pending;
+use record::REPLY;
 use station::Say;
 
 // A frame of `len` octets; none where `len` is 0.
 pub struct Spoken {
-    pub octets: [u8; 76],
+    pub octets: [u8; FRAME_MOST],
     pub len: usize,
 }
 
@@ -30,7 +33,7 @@ fn nothing() -> Payload
 fn reject(control: u8, counts: u8, why: u8) -> Payload
     ensures { λ r. ⌜ octetsOf r ≡ control ∷ counts ∷ why ∷ [] ⌝ }
 {
-    let mut octets = [0u8; 74];
+    let mut octets = [0u8; REPLY];
     octets[0] = control;
     octets[1] = counts;
     octets[2] = why;
@@ -118,11 +121,11 @@ fn payload_of(device: Device, say: Say) -> Payload
 }
 
 // Address and control in front of the first `len` octets of a row.
-fn laid(address: u8, control: u8, row: [u8; 74], len: usize) -> Spoken
-    ensures { λ r. ⌜ (r ≡ spokenOf (some (address ∷ control ∷ take len row))) × (r .len ≤ 76) ⌝ }
+fn laid(address: u8, control: u8, row: [u8; REPLY], len: usize) -> Spoken
+    ensures { λ r. ⌜ (r ≡ spokenOf (some (address ∷ control ∷ take len row))) × (r .len ≤ frameMost frameLimit) ⌝ }
 {
-    let n = octets::fewer(len, 74);
-    let mut octets = [0u8; 76];
+    let n = octets::fewer(len, REPLY);
+    let mut octets = [0u8; FRAME_MOST];
     octets[0] = address;
     octets[1] = control;
     octets::put_all(&mut octets, 2, &row[..n]);
@@ -131,13 +134,13 @@ fn laid(address: u8, control: u8, row: [u8; 74], len: usize) -> Spoken
 
 // The frame that a device says.
 pub fn speak(device: Device, say: Say) -> Spoken
-    ensures { λ r. ⌜ (r ≡ spokenOf (frameBy device say)) × (r .len ≤ 76) ⌝ }
+    ensures { λ r. ⌜ (r ≡ spokenOf (frameBy device say)) × (r .len ≤ frameMost frameLimit) ⌝ }
 {
     let station = device.station;
     let desk = station.desk;
     if is_silent(say) {
         return Spoken {
-            octets: [0u8; 76],
+            octets: [0u8; FRAME_MOST],
             len: 0,
         };
     }

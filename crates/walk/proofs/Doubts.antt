@@ -10,12 +10,9 @@ use native.Mathlib.Omega.{arith}
 use borrow.Author.Tests.{not-true}
 use Rattle.identity.specs.Bits.{Bits}
 use Rattle.identity.proofs.Identities.{and-parts}
+use Rattle.octets.proofs.Words.{or-parts}
 use Rattle.walk.specs.Beginnings.{then}
 use Rattle.walk.specs.Probes.{pass, hit, order, Doubt}
-
-pub or-parts : (a b : Bool) → (a || b) ≡ true → (a ≡ true) ⊎ (b ≡ true)
-or-parts true b e = inl refl
-or-parts false b e = inr e
 
 module _ (heard : Bits → Bool) where
   -- both halves of p are silent

@@ -12,7 +12,7 @@ use Rattle.walk.specs.Probes.{Mark, order, beginningsOf, hits}
 use Rattle.walk.specs.Machine.{Walk, named, start, run}
 use Rattle.walk.specs.Demand.{AnyEnd}
 use Rattle.walk.proofs.Answers.{any-answers}
-use Rattle.scan.specs.Record.{room, stateOf, beginningOf}
+use Rattle.scan.specs.Record.{listMost, stateOf, beginningOf}
 use Rattle.scan.specs.Scan.{fresh, ended, probeOf, probed, driven}
 use Rattle.scan.specs.declared.Scan.{Scan}
 use Rattle.whole_scan.specs.Demand.{AnyScan, AnyScans}
@@ -24,7 +24,7 @@ use Rattle.whole_scan.proofs.Ends.{count-is, state-is, beginning-is, li
 
 module _ (limit : ℕ) (heard : Bits → Bool) where
   abbrev walk : ℕ → Walk (List ℕ)
-  walk n = run octetsOf depth room heard n (start limit)
+  walk n = run octetsOf depth listMost heard n (start limit)
 
   abbrev ms : List Mark
   ms = order heard depth []
@@ -32,8 +32,8 @@ module _ (limit : ℕ) (heard : Bits → Bool) where
   after : (n : ℕ) → Driven (driven heard n (fresh limit)) (walk n)
   after n = drives-new heard n limit
 
-  any : AnyEnd octetsOf depth room limit heard (walk limit) walk ms
-  any = any-answers (List ℕ) octetsOf depth room limit heard
+  any : AnyEnd octetsOf depth listMost limit heard (walk limit) walk ms
+  any = any-answers (List ℕ) octetsOf depth listMost limit heard
 
   abbrev end : Scan
   end = driven heard limit (fresh limit)
@@ -58,7 +58,7 @@ module _ (limit : ℕ) (heard : Bits → Bool) where
         exactly = new-driven-exactly heard limit;
         count = count-is d ∙ any .count;
         list = list-is d ∙ any .list
-            ∙ ap (λ (n : ℕ). map octetsOf (take room (hits (take n ms)))) (sym (count-is d));
+            ∙ ap (λ (n : ℕ). map octetsOf (take listMost (hits (take n ms)))) (sym (count-is d));
         ends = ap ended (state-is d) ∙ ended-of x (any .ended);
         fulls = (
           λ h. let (a, b, c) = any .fulls _ .0 (full-of x (sym (state-is d) ∙ h)) in (a, b),

@@ -13,7 +13,7 @@ use Rattle.identity.specs.Identity.{depth, octetsOf}
 use Rattle.walk.specs.Beginnings.{then}
 use Rattle.walk.specs.Machine.{next, carry, zeroHalf, Phase, asking, complete, doubtful, limited, full, named}
 use Rattle.walk.specs.Machine.{Walk, goOn, settle, listing, noted}
-use Rattle.scan.specs.Record.{room, stateOf, recordOf}
+use Rattle.scan.specs.Record.{listMost, stateOf, recordOf}
 use Rattle.scan.specs.Scan.{ended}
 use Rattle.scan.specs.declared.Scan.{Scan}
 use Rattle.scan.proofs.Overs.{Open}
@@ -27,7 +27,7 @@ Counts l c (limited p) = Unit {0}
 Counts l c (full p) = Unit {0}
 
 pub record Bounded (v : Walk (List ℕ)) : Type 0 where
-  pub lists : length (v .listed) ≤ room
+  pub lists : length (v .listed) ≤ listMost
   pub begins : length (named (v .phase)) ≤ depth
   pub counts : Counts (v .limit) (v .count) (v .phase)
 
@@ -51,7 +51,7 @@ within-more : (n m : ℕ) (x : Option Bits) → n ≤ m → Within n x → Withi
 within-more n m none h k = tt
 within-more n m (some p) h k = omega arith
 
-pub settle-bounded : (l c : ℕ) (f : List (List ℕ)) (q w : Bool) (x : Option Bits) → length f ≤ room → Within depth x
+pub settle-bounded : (l c : ℕ) (f : List (List ℕ)) (q w : Bool) (x : Option Bits) → length f ≤ listMost → Within depth x
     → Bounded (settle l c f q w x)
 unfolding goOn named
 settle-bounded l c f q true none h k = record { lists = h; begins = omega arith; counts = tt }
@@ -63,15 +63,15 @@ settle-bounded l c f q w (some p) h k = by-test (ltb c l) refl
     by-test true e = record { lists = h; begins = k; counts = ltb-true c l e }
     by-test false e = record { lists = h; begins = k; counts = tt }
 
-pub noted-bounded : (l c : ℕ) (f : List (List ℕ)) (p : Bits) (q w a : Bool) → length f ≤ room → length p ≤ depth
-    → Bounded (noted octetsOf depth room l c f p q w a)
+pub noted-bounded : (l c : ℕ) (f : List (List ℕ)) (p : Bits) (q w a : Bool) → length f ≤ listMost → length p ≤ depth
+    → Bounded (noted octetsOf depth listMost l c f p q w a)
 unfolding noted named listing
 noted-bounded l c f p q w false h k =
     settle-bounded l (suc c) f (zeroHalf p) (w || q) (next p) h
     (within-more (length p) depth (next p) k (next-within p))
-noted-bounded l c f p q w true h k = by-tests (ltb (length p) depth) (ltb (length f) room) refl refl
+noted-bounded l c f p q w true h k = by-tests (ltb (length p) depth) (ltb (length f) listMost) refl refl
   where
-    by-tests : (t u : Bool) → ltb (length p) depth ≡ t → ltb (length f) room ≡ u
+    by-tests : (t u : Bool) → ltb (length p) depth ≡ t → ltb (length f) listMost ≡ u
         → Bounded (cond t (settle l (suc c) f false w (some (then p false)))
         (cond u (settle l (suc c) (f ++ (octetsOf p ∷ [])) false w (next p))
         (record { limit = l; count = suc c; listed = f; phase = full p })))
@@ -80,7 +80,7 @@ noted-bounded l c f p q w true h k = by-tests (ltb (length p) depth) (ltb (lengt
         (omega (arith, length-append p (false ∷ []), ltb-true (length p) depth e))
     by-tests false true e g =
         settle-bounded l (suc c) (f ++ (octetsOf p ∷ [])) false w (next p)
-        (omega (arith, length-append f (octetsOf p ∷ []), ltb-true (length f) room g))
+        (omega (arith, length-append f (octetsOf p ∷ []), ltb-true (length f) listMost g))
         (within-more (length p) depth (next p) k (next-within p))
     by-tests false false e g = record { lists = h; begins = k; counts = tt }
 

@@ -17,7 +17,7 @@ use Rattle.walk.specs.Probes.{Mark, order}
 use Rattle.walk.specs.Machine.{Phase, complete, limited, full, named, Walk, start, run}
 use Rattle.walk.specs.Demand.{BusEnd}
 use Rattle.walk.proofs.Demand.{demand3}
-use Rattle.scan.specs.Record.{room, stateOf, beginningOf}
+use Rattle.scan.specs.Record.{listMost, stateOf, beginningOf}
 use Rattle.scan.specs.Scan.{fresh, driven}
 use Rattle.whole_scan.specs.Demand.{OctetBus, BusScan, Demand3, Demand3Identities}
 use Rattle.scan.specs.declared.Scan.{Scan}
@@ -32,7 +32,7 @@ module _ (limit : ℕ) (ids : List (List ℕ)) (heard : Bits → Bool) (b : Octe
   last = driven heard limit (fresh limit)
 
   abbrev walk : Walk (List ℕ)
-  walk = run octetsOf depth room heard limit (start limit)
+  walk = run octetsOf depth listMost heard limit (start limit)
 
   abbrev ms : List Mark
   ms = order heard depth []
@@ -43,7 +43,7 @@ module _ (limit : ℕ) (ids : List (List ℕ)) (heard : Bits → Bool) (b : Octe
   abbrev x : Phase
   x = walk .phase
 
-  module _ (e : BusEnd octetsOf depth room limit (map bitsOf ids) walk ms all shorter) where
+  module _ (e : BusEnd octetsOf depth listMost limit (map bitsOf ids) walk ms all shorter) where
     long : (y : Bits) → List·Memᴰ y all → length y ≡ depth
     long y m = bits-long ids heard b y (e .ordered .members y .0 m)
 
@@ -114,7 +114,7 @@ module _ (limit : ℕ) (ids : List (List ℕ)) (heard : Bits → Bool) (b : Octe
       full-names = λ h.
           let (n, k) = e .fulls .0 (_, is-full h) in
           ap octetsOf (beginning-is d ∙ sym (e .full-names _ (is-full h)))
-          ∙ sym (getD-map octetsOf all room [] [] (omega (arith, e .ordered .number)));
+          ∙ sym (getD-map octetsOf all listMost [] [] (omega (arith, e .ordered .number)));
       full-list = λ h. list-is d ∙ e .full-list _ (is-full h) ∙ below-there;
     }
 
@@ -122,7 +122,7 @@ pub demand3-octets : Demand3
 unfolding under
 demand3-octets limit ids heard b =
     let (all, shorter, e) =
-    demand3 (List ℕ) octetsOf [] depth room limit (map bitsOf ids) heard (bit-bus ids heard b) in
+    demand3 (List ℕ) octetsOf [] depth listMost limit (map bitsOf ids) heard (bit-bus ids heard b) in
     (map octetsOf all, shorter, bus-scan limit ids heard b all shorter e)
 
 pub demand3-identities : Demand3Identities

@@ -15,7 +15,7 @@ use Rattle.refusal.specs.Answer.{answered, stateAfter}
 use Rattle.walk.specs.Beginnings.{then}
 use Rattle.walk.specs.Machine.{next, Phase, asking, complete, doubtful, limited, full, named}
 use Rattle.walk.specs.Machine.{Walk, goOn, settle, start, listing, noted, stepIn, step, run}
-use Rattle.scan.specs.Record.{room, flat, phaseOf, stateOf, beginningOf, walkOf, recordOf}
+use Rattle.scan.specs.Record.{listMost, flat, phaseOf, stateOf, beginningOf, walkOf, recordOf}
 use Rattle.scan.specs.Steps.{standsAt}
 use Rattle.scan.specs.Scan.{fresh, ended, over, reported, driven}
 use Rattle.scan.specs.declared.Scan.{Scan}
@@ -43,10 +43,10 @@ walk-record s v h =
     ∙ phase-back (v .phase))
 
 noted-wide : (l c : ℕ) (f : List (List ℕ)) (p : Bits) (q w a : Bool) → Wide f
-    → Wide ((noted octetsOf depth room l c f p q w a) .listed)
+    → Wide ((noted octetsOf depth listMost l c f p q w a) .listed)
 unfolding noted listing
 noted-wide l c f p q w false h = h
-noted-wide l c f p q w true h = by-tests (ltb (length p) depth) (ltb (length f) room)
+noted-wide l c f p q w true h = by-tests (ltb (length p) depth) (ltb (length f) listMost)
   where
     by-tests : (t u : Bool)
         → Wide ((cond t (settle l (suc c) f false w (some (then p false)))
@@ -69,19 +69,19 @@ module _ (heard : Bits → Bool) where
       → (let r = recordOf s (record { limit = l; count = c; listed = f; phase = asking p q w }) in
       stateAfter (reported r (heard (beginningOf r))) r)
       ≡ recordOf (recordOf s (record { limit = l; count = c; listed = f; phase = asking p q w }))
-      (noted octetsOf depth room l c f p q w (heard p))
+      (noted octetsOf depth listMost l c f p q w (heard p))
   unfolding step named noted stepIn
   one-answer s l c f p q w h b =
       let v : Walk (List ℕ) = record { limit = l; count = c; listed = f; phase = asking p q w } in
       let r : Scan = recordOf s v in
       report-steps r (heard (beginningOf r)) (open-over r (asking-open s l c f p q w b))
-      ∙ ap₂ (λ (x : Walk (List ℕ)) (y : Bits). recordOf r (step octetsOf depth room x (heard y))) (walk-record s v h)
+      ∙ ap₂ (λ (x : Walk (List ℕ)) (y : Bits). recordOf r (step octetsOf depth listMost x (heard y))) (walk-record s v h)
       (take-append-seam p (drop (length p) (s .beginning)))
 
   pub drives : (n : ℕ) (s : Scan) (l c : ℕ) (f : List (List ℕ)) (x : Phase)
       → Wide f → Bounded (record { limit = l; count = c; listed = f; phase = x })
       → Driven (driven heard n (recordOf s (record { limit = l; count = c; listed = f; phase = x })))
-      (run octetsOf depth room heard n (record { limit = l; count = c; listed = f; phase = x }))
+      (run octetsOf depth listMost heard n (record { limit = l; count = c; listed = f; phase = x }))
   unfolding driven run step stepIn named stateOf ended over reported stateAfter answered
   drives zero s l c f x h b = record { base = s; is = refl; wide = h; bounded = b }
   drives (suc n) s l c f complete h b = drives n s l c f complete h b
@@ -90,7 +90,7 @@ module _ (heard : Bits → Bool) where
   drives (suc n) s l c f (full p) h b = drives n s l c f (full p) h b
   drives (suc n) s l c f (asking p q w) h b =
       let r : Scan = recordOf s (record { limit = l; count = c; listed = f; phase = asking p q w }) in
-      let v : Walk (List ℕ) = noted octetsOf depth room l c f p q w (heard p) in
+      let v : Walk (List ℕ) = noted octetsOf depth listMost l c f p q w (heard p) in
       rw (one-answer s l c f p q w h b)
       (drives n r (v .limit) (v .count) (v .listed) (v .phase) (noted-wide l c f p q w (heard p) h)
       (noted-bounded l c f p q w (heard p) (b .lists) (b .begins)))
@@ -100,7 +100,7 @@ unfolding fresh standsAt goOn named stateOf flat
 new-record limit = by-test (ltb 0 limit)
   where
     by-test : (t : Bool)
-        → made limit 0 0 (replicate (width * room) 0) 0 (replicate depth false) (cond t (Asking false false) Limit)
+        → made limit 0 0 (replicate (width * listMost) 0) 0 (replicate depth false) (cond t (Asking false false) Limit)
         ≡ recordOf (fresh limit)
         (record { limit = limit; count = 0; listed = []; phase = cond t (asking [] false false) (limited []) })
     by-test true = refl
@@ -108,7 +108,7 @@ new-record limit = by-test (ltb 0 limit)
 
 -- what the code does from `new` on is what the walk does
 pub drives-new : (heard : Bits → Bool) (n limit : ℕ)
-    → Driven (driven heard n (fresh limit)) (run octetsOf depth room heard n (start limit))
+    → Driven (driven heard n (fresh limit)) (run octetsOf depth listMost heard n (start limit))
 drives-new heard n limit =
     rw (new-record limit)
     (drives heard n (fresh limit) limit 0 [] (goOn limit 0 false false (some [])) tt

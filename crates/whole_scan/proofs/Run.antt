@@ -4,7 +4,7 @@ use mathlib.Core.Bool.{Bool, true, false, cond, true≢false}
 use mathlib.Core.List.{List, [], _∷_, _++_}
 use mathlib.Core.Option.{some}
 use mathlib.Core.Logic.{_⊎_, inl, inr}
-use Prim.Native.Nat.{ℕ, suc, _+_, _-_}
+use Prim.Native.Nat.{ℕ, suc, _+_}
 use native.Mathlib.Omega.{arith}
 use lib.Dec.{ltb}
 use lib.ListN.{length, length-take}
@@ -12,7 +12,7 @@ use Rattle.identity.specs.Bits.{Bits}
 use Rattle.identity.specs.Identity.{depth, octetsOf}
 use Rattle.walk.specs.Beginnings.{then}
 use Rattle.walk.specs.Machine.{Phase, asking, complete, doubtful, limited, full, Walk, settle, next, listing, noted}
-use Rattle.scan.specs.Record.{room, stateOf, beginningOf, listOf, recordOf}
+use Rattle.scan.specs.Record.{listMost, stateOf, beginningOf, listOf, recordOf}
 use Rattle.refusal.specs.Answer.{stateAfter}
 use Rattle.scan.specs.Scan.{ended, reported, reportedAll}
 use Rattle.scan.specs.Steps.{notedIn}
@@ -72,7 +72,7 @@ pub noted-count : (s : Scan) (q w a : Bool)
     → ((notedIn s q w a) .limit ≡ s .limit) × ((notedIn s q w a) .count ≡ suc (s .count))
 unfolding noted listing
 noted-count s q w false = (refl, refl)
-noted-count s q w true = by-tests (ltb (length (beginningOf s)) depth) (ltb (length (listOf s)) room)
+noted-count s q w true = by-tests (ltb (length (beginningOf s)) depth) (ltb (length (listOf s)) listMost)
   where
     l : ℕ
     l = s .limit

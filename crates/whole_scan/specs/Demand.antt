@@ -1,4 +1,5 @@
 -- Demand 3, in octets and of the record that the code makes, from `fresh limit` on.
+--   probesEach            == the most probes that an identity takes, besides the first: two for each of its 152 bits
 --   OctetBus ids heard    == demand 3's premises: padded identities, no two alike, and a probe is heard exactly when
 --                            one of them, masked as a scan masks it, equals what the probe asks for
 --   IdentityBus ids heard == the same of allowed identities, not padded
@@ -21,10 +22,14 @@ use Rattle.identity.specs.Identity.{width, depth, allowedIdentity, padded, octe
 use Rattle.identity.specs.Order.{lower, those, Ascending, Different}
 use Rattle.walk.specs.Probes.{Mark, order, beginningsOf, hits, place, Doubt}
 use Rattle.walk.specs.Demand.{Shorter}
-use Rattle.scan.specs.Record.{room, beginningOf, listOf}
+use Rattle.scan.specs.Record.{listMost, beginningOf, listOf}
 use Rattle.scan.specs.Scan.{fresh, probeOf, ended, over, probed, reportedAll, driven}
 use Rattle.scan.specs.declared.Scan.{Scan}
 use Rattle.scan.specs.declared.State.the-variants.{Complete, Doubtful, Limit, Full}
+
+-- "1 + 304n"
+abbrev pub probesEach : ℕ
+probesEach = 2 * depth
 
 pub record OctetBus (ids : List (List ℕ)) (heard : Bits → Bool) : Type 0 where
   pub whole : (i : List ℕ) → List·Memᴰ i ids → (length i ≡ width) × Octets i
@@ -49,19 +54,19 @@ pub record AnyScan (limit : ℕ) (heard : Bits → Bool) (last : Scan) (after : 
   -- "The count is the number of probes answered", and no other is asked
   pub exactly : AsksExactly (last .count) last after
   -- as many as the limit lets, up to the 33rd identity's
-  pub count : last .count ≡ min limit (place room ms)
-  pub list : listOf last ≡ map octetsOf (take room (hits (take (last .count) ms)))
+  pub count : last .count ≡ min limit (place listMost ms)
+  pub list : listOf last ≡ map octetsOf (take listMost (hits (take (last .count) ms)))
   pub ends : ended (last .state) ≡ true
   -- "full" beats "limit", and names the 33rd identity; "limit" names the next probe's beginning
-  pub fulls : (last .state ≡ Full) ↔ ((room < length (hits ms)) × (place room ms ≤ limit))
-  pub full-names : last .state ≡ Full → beginningOf last ≡ getD (hits ms) room []
-  pub limits : (last .state ≡ Limit) ↔ (limit < place room ms)
+  pub fulls : (last .state ≡ Full) ↔ ((listMost < length (hits ms)) × (place listMost ms ≤ limit))
+  pub full-names : last .state ≡ Full → beginningOf last ≡ getD (hits ms) listMost []
+  pub limits : (last .state ≡ Limit) ↔ (limit < place listMost ms)
   pub limit-names : last .state ≡ Limit → beginningOf last ≡ getD (beginningsOf ms) limit []
   -- no probe remains, it is not full, and a heard beginning had both halves silent; or none had
   pub doubtfuls : (last .state ≡ Doubtful)
-      ↔ ((length (hits ms) ≤ room) × (length ms ≤ limit) × Doubt heard depth [])
+      ↔ ((length (hits ms) ≤ listMost) × (length ms ≤ limit) × Doubt heard depth [])
   pub completes : (last .state ≡ Complete)
-      ↔ ((length (hits ms) ≤ room) × (length ms ≤ limit) × (Doubt heard depth [] → ⊥))
+      ↔ ((length (hits ms) ≤ listMost) × (length ms ≤ limit) × (Doubt heard depth [] → ⊥))
   -- after i answers the scan stands at the i-th beginning of the order, `probe` writes its probe, and none comes twice
   pub asked : (i : ℕ) → i < last .count → beginningOf (after i) ≡ getD (beginningsOf ms) i []
   pub sent : (i : ℕ) → i < last .count → (lent : ℕ)
@@ -81,19 +86,19 @@ pub record BusScan (limit : ℕ) (ids : List (List ℕ)) (last : Scan) (ms : Lis
   -- "doubtful" never
   pub ends : (last .state ≡ Complete) ⊎ ((last .state ≡ Limit) ⊎ (last .state ≡ Full))
   -- "complete" exactly if there are at most 32 and the limit lets all the probes be asked
-  pub completes : (last .state ≡ Complete) ↔ ((length ids ≤ room) × (1 + 2 * length shorter ≤ limit))
+  pub completes : (last .state ≡ Complete) ↔ ((length ids ≤ listMost) × (1 + 2 * length shorter ≤ limit))
   pub complete-list : last .state ≡ Complete → listOf last ≡ all
   pub complete-count : last .state ≡ Complete → last .count ≡ 1 + 2 * length shorter
   -- never more than 1 + 304n probes
-  pub bound : last .count ≤ 1 + 304 * length ids
+  pub bound : last .count ≤ 1 + probesEach * length ids
   -- at "limit": limit probes answered, the next probe's beginning named, what is below it listed
   pub limit-count : last .state ≡ Limit → last .count ≡ limit
   pub limit-names : last .state ≡ Limit → beginningOf last ≡ getD (beginningsOf ms) limit []
   pub limit-list : last .state ≡ Limit → listOf last ≡ those (λ x. lower x (octetsOf (beginningOf last))) all
   -- "full" exactly if there are at least 33 and the limit reaches the 33rd's place; it is named, those below it listed
-  pub fulls : (last .state ≡ Full) ↔ ((room < length ids) × (place room ms ≤ limit))
-  pub full-count : last .state ≡ Full → last .count ≡ place room ms
-  pub full-names : last .state ≡ Full → octetsOf (beginningOf last) ≡ getD all room []
+  pub fulls : (last .state ≡ Full) ↔ ((listMost < length ids) × (place listMost ms ≤ limit))
+  pub full-count : last .state ≡ Full → last .count ≡ place listMost ms
+  pub full-names : last .state ≡ Full → octetsOf (beginningOf last) ≡ getD all listMost []
   pub full-list : last .state ≡ Full → listOf last ≡ those (λ x. lower x (octetsOf (beginningOf last))) all
 
 abbrev pub AnyScans : Type 0

@@ -6,14 +6,16 @@ ghost use Prim.Native.Nat.{_+_, _-_, _*_, _≤_};
 ghost use lib.ListN.{length, drop};
 ghost use Rattle.octets.specs.Puts.{Puts};
 ghost use Rattle.refusal.specs.Answer.{Hands};
-ghost use Rattle.frame.specs.Line.{special, escaped, onLine, between};
+ghost use Rattle.frame.specs.Line.{frameLimit, special, escaped, onLine, between};
 ghost use Rattle.frame.specs.Write.{frameOf, written};
+use frame::ESCAPE;
+use frame::FLAG;
+use frame::LIMIT;
+use frame::LINE_MOST;
+use frame::PAYLOAD_MOST;
+use frame::TOGGLE;
 use refusal::Handed;
 use refusal::Refusal;
-
-const FLAG: u8 = 0x7E;
-
-const ESCAPE: u8 = 0x7D;
 
 // Whether `b` is escaped on the line.
 fn is_special(b: u8) -> bool
@@ -32,7 +34,7 @@ fn put_octet(b: u8, line: &mut [u8], at: usize) -> usize
     if is_special(b) {
         line[n] = ESCAPE;
         n += 1;
-        x = b ^ 0x20;
+        x = b ^ TOGGLE;
     }
     line[n] = x;
     n + 1
@@ -90,15 +92,15 @@ fn assemble(address: u8, control: u8, payload: &[u8], d: &mut [u8]) -> usize
 
 // Writes flag, frame, flag to the start of `out`.
 pub fn write(address: u8, control: u8, payload: &[u8], out: &mut [u8]) -> Handed
-    ensures { λ r. ⌜ Hands (written 78 address control (now (payload .entry)) (length (now (out .entry))))
+    ensures { λ r. ⌜ Hands (written frameLimit address control (now (payload .entry)) (length (now (out .entry))))
         (now (out .entry)) r (now (out .exit)) ⌝ }
 {
-    if 74 < payload.len() {
+    if PAYLOAD_MOST < payload.len() {
         return Handed::Refused(Refusal::PayloadTooLong);
     }
-    let mut d = [0u8; 78];
+    let mut d = [0u8; LIMIT];
     let n = assemble(address, control, payload, &mut d);
-    let mut line = [0u8; 158];
+    let mut line = [0u8; LINE_MOST];
     let len = put_between(&d[..n], &mut line);
     refusal::hand_out(&line[..len], out)
 }

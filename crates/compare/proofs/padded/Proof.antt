@@ -4,17 +4,16 @@ use mathlib.Core.Path.{_≡_, refl, _∙_}
 use Prim.Native.Nat.{_-_}
 use lib.ListN.{replicate}
 use lib.Seq.{sets}
+use Rattle.identity.specs.Identity.{width, blank}
 use Rattle.compare.proofs.Laws.{pad-more, pad-done, padded-is}
 use Rattle.compare.proofs.padded.Statement.{statement}
 use Rattle.compare.proofs.padded.Tie as tie
-use Rattle.compare.proofs.padded.Reads as reads
-use Rattle.compare.proofs.padded.Lts as lts
 
 abbrev Inv-loop : tie.InvT-loop
-Inv-loop len row₀ i₀ row i = sets row i (replicate (19 - i) 0x20) ≡ sets row₀ len (replicate (19 - len) 0x20)
+Inv-loop len row₀ i₀ row i = sets row i (replicate (width - i) blank) ≡ sets row₀ len (replicate (width - len) blank)
 
 abbrev μ-loop : tie.MeasureT-loop
-μ-loop len row₀ i₀ row i = 19 - i
+μ-loop len row₀ i₀ row i = width - i
 
 loop-holds : tie.Need-loop-holds Inv-loop μ-loop
 loop-holds c = refl

@@ -7,7 +7,7 @@ use lib.ListN.{length, length-take}
 use Rattle.octets.proofs.Runs.{put-back}
 use Rattle.refusal.specs.declared.Refusal.the-variants.{Broken, TooLong}
 use Rattle.refusal.proofs.Answers.{refused, hands-is}
-use Rattle.frame.specs.Line.{plain}
+use Rattle.frame.specs.Line.{frameLimit, plain}
 use Rattle.frame.proofs.Judge.{when-broken, when-long, when-stored}
 use Rattle.frame.proofs.Lines.{unbroken-parts, overlong}
 use Rattle.frame.proofs.decode.Statement.{statement}
@@ -17,14 +17,14 @@ is-broken-requires : tie.Need-is-broken-requires
 is-broken-requires c κs = search needs
 
 returns : tie.Need-returns
-returns c = refused Broken (when-broken 78 _ _ (sym (c .before .is-broken .ensures) ∙ c .if1 .taken))
+returns c = refused Broken (when-broken frameLimit _ _ (sym (c .before .is-broken .ensures) ∙ c .if1 .taken))
 
--- more than 158 octets stand for more than 78
+-- more octets than a line has stand for more than the limit
 returns-2 : tie.Need-returns-2
 returns-2 c =
     let whole = sym (c .before .before .is-broken .ensures) ∙ c .before .if1 .left in
-    let h = overlong 78 _ (c .if2 .taken) in
-    refused TooLong (when-long 78 _ _ whole (omega arith) h)
+    let h = overlong frameLimit _ (c .if2 .taken) in
+    refused TooLong (when-long frameLimit _ _ whole (omega arith) h)
 
 slice-aggregate-unescape : tie.Need-slice-aggregate-unescape
 slice-aggregate-unescape c = search needs
@@ -39,9 +39,9 @@ returns-3 c =
     let room = c .before .before .before .before in
     let whole = sym (room .before .before .is-broken .ensures) ∙ room .before .if1 .left in
     let start = room .before .before .before .before .before in
-    let h : 78 < length (plain (start .args .src .now)) =
+    let h : frameLimit < length (plain (start .args .src .now)) =
     omega (arith, c .before .before .unescape .ensures .count, c .if3 .taken) in
-    refused TooLong (when-long 78 _ _ whole (omega arith) h)
+    refused TooLong (when-long frameLimit _ _ whole (omega arith) h)
 
 array-share-prefix-store : tie.Need-array-share-prefix-store
 array-share-prefix-store c = search needs
@@ -61,7 +61,7 @@ returns-4 c =
     let room = fits .before .before .before .before in
     let whole = sym (room .before .before .is-broken .ensures) ∙ room .before .if1 .left in
     let few = fits .if3 .left in
-    hands-is (when-stored 78 _ _ whole (put-back (fits .before .before .unescape .ensures) (omega arith)))
+    hands-is (when-stored frameLimit _ _ whole (put-back (fits .before .before .unescape .ensures) (omega arith)))
     (c .before .before .deliver .ensures)
 
 pub decode-spec : {M : Type 1} → statement M

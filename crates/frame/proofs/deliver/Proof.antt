@@ -5,13 +5,14 @@ use mathlib.Core.Path.{sym}
 use Rattle.refusal.specs.declared.Refusal.the-variants.{TooShort, WrongCheck}
 use Rattle.refusal.proofs.Answers.{refused, hands-is}
 use Rattle.frame.specs.Decode.{body}
+use Rattle.frame.specs.Line.{frameLimit}
 use Rattle.frame.proofs.Judge.{short, wrong, right, check-differs, check-agrees}
 use borrow.Author.Needs.{needs}
 use Rattle.frame.proofs.deliver.Statement.{statement}
 use Rattle.frame.proofs.deliver.Tie as tie
 
 returns : tie.Need-returns
-returns c = refused TooShort (short 78 _ _ (c .if1 .taken))
+returns c = refused TooShort (short frameLimit _ _ (c .if1 .taken))
 
 sub-len : tie.Need-sub-len
 sub-len c = search needs
@@ -40,7 +41,7 @@ returns-2 c =
     let differs = check-differs _ (c .before .before .before .before .check .ensures) (c .before .pair .ensures)
     (c .if2 .taken) in
     refused WrongCheck
-    (wrong 78 _ _ (c .before .before .before .before .before .before .if1 .left) (start .pre) differs)
+    (wrong frameLimit _ _ (c .before .before .before .before .before .before .if1 .left) (start .pre) differs)
 
 slice-aggregate-hand-out : tie.Need-slice-aggregate-hand-out
 slice-aggregate-hand-out c = simp length-take (omega arith)
@@ -58,7 +59,7 @@ returns-3 c =
     let early = late .before .before .before .before .before .before in
     let agrees = check-agrees _ (late .before .before .before .before .check .ensures) (late .before .pair .ensures)
     (late .if2 .left) in
-    hands-is (sym (right 78 _ _ (early .if1 .left) (early .before .before .before .pre) agrees))
+    hands-is (sym (right frameLimit _ _ (early .if1 .left) (early .before .before .before .pre) agrees))
     (c .before .before .hand-out .ensures)
 
 pub deliver-spec : {M : Type 1} → statement M

@@ -1,5 +1,6 @@
 -- `mast::line_of` meets its promise: the octets that the writer handed out are the line. Assumes nothing.
 use native.Mathlib.Omega.{arith}
+use Rattle.scan.specs.Scan.{probeLength}
 use Rattle.mast.proofs.Lines.{probe-line}
 use borrow.Author.Needs.{needs}
 use Rattle.mast.proofs.line_of.Statement.{statement}
@@ -32,7 +33,7 @@ size-in-requires c κs = search needs
 returns : tie.Need-returns
 returns c =
     let a = c .before .before .before .before .before .before .args in
-    probe-line (a .t1) 47 (omega arith) (c .before .before .write .ensures) (c .size-in .ensures)
+    probe-line (a .t1) probeLength (omega arith) (c .before .before .write .ensures) (c .size-in .ensures)
 
 pub line-of-spec : {M : Type 1} → statement M
 line-of-spec =

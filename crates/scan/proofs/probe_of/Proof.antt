@@ -1,4 +1,4 @@
--- `scan::probe_of` meets its promise: four runs of octets, one behind the other, fill the 47. Assumes nothing.
+-- `scan::probe_of` meets its promise: four runs of octets, one behind the other, fill the probe. Assumes nothing.
 use borrow.Author.Needs.{needs}
 use native.Mathlib.Omega.{arith}
 use Rattle.scan.proofs.Probes.{probe-built}

@@ -4,6 +4,7 @@ use native.Mathlib.Omega.{arith}
 use lib.ListN.{length-take}
 use Rattle.refusal.specs.declared.Refusal.the-variants.{PayloadTooLong}
 use Rattle.refusal.proofs.Answers.{refused, hands-is}
+use Rattle.frame.specs.Line.{frameLimit}
 use Rattle.frame.proofs.Assembled.{assembled-short}
 use Rattle.octets.proofs.Runs.{put-back}
 use Rattle.frame.proofs.Escapes.{between-short}
@@ -12,7 +13,7 @@ use Rattle.writer.proofs.write.Statement.{statement}
 use Rattle.writer.proofs.write.Tie as tie
 
 returns : tie.Need-returns
-returns c = refused PayloadTooLong (payload-long 78 _ _ _ _ (omega (arith, c .if1 .taken)))
+returns c = refused PayloadTooLong (payload-long frameLimit _ _ _ _ (omega (arith, c .if1 .taken)))
 
 slice-aggregate-assemble : tie.Need-slice-aggregate-assemble
 slice-aggregate-assemble c = search needs
@@ -23,12 +24,12 @@ assemble-requires c κs = search needs
 array-share-prefix-d : tie.Need-array-share-prefix-d
 array-share-prefix-d c =
     let fits = c .before .before .before .if1 .left in
-    let h = assembled-short 78 _ _ _ (c .before .assemble .ensures) (omega arith) fits in
+    let h = assembled-short frameLimit _ _ _ (c .before .assemble .ensures) (omega arith) fits in
     omega arith
 
 slice-aggregate-put-between : tie.Need-slice-aggregate-put-between
 slice-aggregate-put-between c =
-    let h = assembled-short 78 _ _ _ (c .before .before .assemble .ensures) (omega arith)
+    let h = assembled-short frameLimit _ _ _ (c .before .before .assemble .ensures) (omega arith)
     (c .before .before .before .before .if1 .left) in
     simp length-take (omega arith)
 
@@ -37,23 +38,24 @@ slice-aggregate-put-between-2 c = search needs
 
 put-between-requires : tie.Need-put-between-requires
 put-between-requires c κs =
-    let h = assembled-short 78 _ _ _ (c .before .before .before .assemble .ensures) (omega arith)
+    let h = assembled-short frameLimit _ _ _ (c .before .before .before .assemble .ensures) (omega arith)
     (c .before .before .before .before .before .if1 .left) in
     simp length-take (omega arith)
 
 array-share-prefix-line : tie.Need-array-share-prefix-line
 array-share-prefix-line c =
-    let few = assembled-short 78 _ _ _ (c .before .before .before .before .before .assemble .ensures) (omega arith)
+    let few = assembled-short frameLimit _ _ _ (c .before .before .before .before .before .assemble .ensures)
+    (omega arith)
     (c .before .before .before .before .before .before .before .if1 .left) in
-    let h = between-short 78 _ (c .before .put-between .ensures) (simp length-take (omega arith)) in
+    let h = between-short frameLimit _ (c .before .put-between .ensures) (simp length-take (omega arith)) in
     omega arith
 
 slice-aggregate-hand-out : tie.Need-slice-aggregate-hand-out
 slice-aggregate-hand-out c =
     let fits = c .before .before .before .before .before .before .before .before .if1 .left in
-    let few = assembled-short 78 _ _ _ (c .before .before .before .before .before .before .assemble .ensures)
+    let few = assembled-short frameLimit _ _ _ (c .before .before .before .before .before .before .assemble .ensures)
     (omega arith) fits in
-    let h = between-short 78 _ (c .before .before .put-between .ensures) (simp length-take (omega arith)) in
+    let h = between-short frameLimit _ (c .before .before .put-between .ensures) (simp length-take (omega arith)) in
     simp length-take (omega arith)
 
 hand-out-requires : tie.Need-hand-out-requires
@@ -67,10 +69,10 @@ returns-2 c =
     let late = c .before .before .before .before .before .before in
     let early = late .before .before .before .before in
     let fits = early .before .before .if1 .left in
-    let few = assembled-short 78 _ _ _ (early .assemble .ensures) (omega arith) fits in
-    let line = between-short 78 _ (late .put-between .ensures) (simp length-take (omega arith)) in
+    let few = assembled-short frameLimit _ _ _ (early .assemble .ensures) (omega arith) fits in
+    let line = between-short frameLimit _ (late .put-between .ensures) (simp length-take (omega arith)) in
     let stored = put-back (early .assemble .ensures) (omega arith) in
-    hands-is (when-lined 78 _ _ _ _ fits stored (put-back (late .put-between .ensures) (omega arith)))
+    hands-is (when-lined frameLimit _ _ _ _ fits stored (put-back (late .put-between .ensures) (omega arith)))
     (c .before .before .hand-out .ensures)
 
 pub write-spec : {M : Type 1} → statement M

@@ -1,8 +1,8 @@
--- `control::numbered` meets its promise: each way out, by the tests that lead to it. Assumes nothing.
+-- `link::numbered` meets its promise: each way out, by the tests that lead to it. Assumes nothing.
 use Rattle.control.specs.Control.{numberedBy}
 use Rattle.octets.proofs.Rules.{tests}
-use Rattle.control.proofs.numbered.Statement.{statement}
-use Rattle.control.proofs.numbered.Tie as tie
+use Rattle.link.proofs.numbered.Statement.{statement}
+use Rattle.link.proofs.numbered.Tie as tie
 
 returns : tie.Need-returns
 unfolding numberedBy

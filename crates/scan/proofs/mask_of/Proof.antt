@@ -1,10 +1,10 @@
--- `identity::mask_of` meets its promise: so many of a row of ones, as octets. Assumes nothing.
+-- `scan::mask_of` meets its promise: so many of a row of ones, as octets. Assumes nothing.
 use borrow.Author.Needs.{needs}
 use mathlib.Core.Path.{_∙_}
 use Rattle.identity.specs.Identity.{width}
 use Rattle.identity.proofs.Words.{ones-packed}
-use Rattle.identity.proofs.mask_of.Statement.{statement}
-use Rattle.identity.proofs.mask_of.Tie as tie
+use Rattle.scan.proofs.mask_of.Statement.{statement}
+use Rattle.scan.proofs.mask_of.Tie as tie
 
 octets-of-requires : tie.Need-octets-of-requires
 octets-of-requires c κs = search needs

@@ -1,11 +1,11 @@
--- `control::asked` meets its promise: each way out, by the tests that lead to it. Assumes nothing.
+-- `link::asked` meets its promise: each way out, by the tests that lead to it. Assumes nothing.
 use Rattle.control.specs.Control.{askedBy}
 use mathlib.Core.Path.{sym}
 use Rattle.octets.proofs.Rules.{tests}
 use borrow.Author.Needs.{needs}
 use Rattle.control.proofs.Named.{asks}
-use Rattle.control.proofs.asked.Statement.{statement}
-use Rattle.control.proofs.asked.Tie as tie
+use Rattle.link.proofs.asked.Statement.{statement}
+use Rattle.link.proofs.asked.Tie as tie
 
 returns : tie.Need-returns
 unfolding askedBy
