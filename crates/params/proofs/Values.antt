@@ -5,12 +5,14 @@ use mathlib.Core.Bool.{Bool, true, false, cond, false≢true}
 use mathlib.Core.List.{List, [], _∷_, _++_}
 use mathlib.Core.Option.{Option, none, some}
 use Prim.Native.Nat.{ℕ, zero, suc, _+_, _<_}
+use native.Mathlib.Omega.{arith}
 use borrow.Author.Tests.{eqb-true, eqb-false}
 use lib.Dec.{eqb}
 use lib.ListN.{length, set, take, drop, length-set, length-replicate}
 use lib.Seq.{getD-set-other, drop-drop, take-append-seam, drop-append-seam}
 use Rattle.octets.proofs.Words.{true-not-false}
-use Rattle.params.specs.Field.{Param, _is_, tripleOf, fieldOf, xidPayload, paramsOf, valueFor}
+use Rattle.params.specs.Field.{Param, _is_, tripleOf, fieldOf, xidPayload, rightLength, AllRight, paramsOf}
+use Rattle.params.specs.Field.{valueFor}
 use Rattle.params.specs.Walk.{placeIn, slot, noParts, partsAt, partIn, foundFrom, foundIn, valueAt}
 use Rattle.params.specs.declared.Part.the-variants.{Absent, At}
 use Rattle.params.specs.declared.Identifier.{Identifier}
@@ -20,6 +22,20 @@ use Rattle.params.specs.declared.Found.{Found}
 use Rattle.params.proofs.Tables.{places-apart}
 use Rattle.params.proofs.Kept.{part-same}
 use Rattle.params.proofs.Exact.{params-exactly}
+
+-- a given value has a right length
+pub value-right : (t : List Identifier) (n : ℕ) (ps : List Param) {v : List ℕ} → AllRight t ps → valueFor n ps ≡ some v
+    → rightLength t n (length v) ≡ true
+unfolding valueFor
+value-right t n [] {v} r e = let z : _≡_ {A = ℕ} 0 1 = cc in let no : ⊥ = omega arith in absurd no
+value-right t n (k is u ∷ ps) {v} r e = go (value-right t n ps {v = v} (r .1)) (eqb k n) refl e
+  where
+    go : (valueFor n ps ≡ some v → rightLength t n (length v) ≡ true) → (b : Bool) → eqb k n ≡ b
+        → cond b (some u) (valueFor n ps) ≡ some v → rightLength t n (length v) ≡ true
+    go more true d f =
+        let same : u ≡ v = cc in
+        rw (sym (eqb-true k n d)) (rw same at (r .0))
+    go more false d f = more f
 
 parts-long : (t : List Identifier) (at : ℕ) (ps : List Param) → length (partsAt t at ps) ≡ length t
 unfolding partsAt

@@ -16,9 +16,9 @@ use Rattle.identity.proofs.Scans.{same-is, is-same}
 use Rattle.compare.specs.Rows.{rightmost, endsWith}
 use Rattle.record.specs.Allowed.{addressed}
 use Rattle.params.specs.Field.{given, octetsIn}
-use Rattle.params.specs.Field.{Values, valuesOf}
 use Rattle.params.proofs.Exact.{one-reading}
 use Rattle.params.proofs.Kept.{both-of, of-both}
+use Rattle.xid.specs.Addressing.{addressing, Values, valuesOf}
 use Rattle.xid.specs.Match.{deviceType, isScan, scanShape, assignmentShape, scanMatches}
 use Rattle.xid.specs.Match.{identityMatches, kindMatches, vendorMatches, assignmentMatches, assigned, judged}
 use Rattle.xid.specs.Match.{readOf}
@@ -154,7 +154,7 @@ assignment-exactly i m a = (there, back)
 
 pub never-both : (m v k : List ℕ) (a : ℕ) (x y z : Option (List ℕ)) → ScanOf m v k → AssignmentOf m a x y z → ⊥
 never-both m v k a x y z s t =
-    let one = one-reading m (s .params) (t .params) (s .formed) (t .formed) in
+    let one = one-reading addressing m (s .params) (t .params) (s .formed) (t .formed) in
     let e = ap (λ (w : Values). w .mask) (sym (s .values) ∙ ap valuesOf one ∙ t .values) in
     let n : _≡_ {A = ℕ} 0 1 = cc in
     omega arith

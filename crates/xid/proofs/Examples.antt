@@ -8,8 +8,9 @@ use Rattle.identity.specs.Bits.{masked}
 use Rattle.identity.specs.Identity.{padded, same, answersScan}
 use Rattle.compare.specs.Rows.{endsWith}
 use Rattle.record.specs.Allowed.{addressed}
-use Rattle.params.specs.Field.{opened, triplesAfter, before, checked, allRight, rightLength, identityLong, identifiers}
-use Rattle.params.specs.Field.{noneTwice, paramsOf, valueOf, valuesOf, given, octetsIn}
+use Rattle.params.specs.Field.{opened, triplesAfter, before, checked, allRight, rightLength, identifiers}
+use Rattle.params.specs.Field.{noneTwice, paramsOf, valueFor, given, octetsIn}
+use Rattle.xid.specs.Addressing.{valuesOf}
 use Rattle.xid.specs.Match.{isScan, scanShape, assignmentShape, scanMatches, identityMatches, kindMatches}
 use Rattle.xid.specs.Match.{vendorMatches, assignmentMatches, assigned, judged, judgedParams, readOf}
 use Rattle.xid.specs.declared.Xid.{Xid}
@@ -79,8 +80,8 @@ malformed =
     ∷ (0x81 ∷ 0xF0 ∷ 4 ∷ 2 ∷ 1 ∷ 7 ∷ []) gets Silence ∷ []
 
 pub computed : All right × All unpadded × All named × All left × All padding × All edges × All malformed
-unfolding readOf judgedParams paramsOf opened triplesAfter before checked allRight rightLength identityLong
-    identifiers noneTwice holds valuesOf valueOf given octetsIn judged isScan scanShape assignmentShape
+unfolding readOf judgedParams paramsOf opened triplesAfter before checked allRight rightLength identifiers
+    noneTwice holds valuesOf valueFor given octetsIn judged isScan scanShape assignmentShape
     scanMatches answersScan padded masked same endsWith identityMatches kindMatches vendorMatches
     assignmentMatches addressed assigned
 computed = (

@@ -24,7 +24,8 @@ use Rattle.compare.specs.Rows.{endsWith}
 use Rattle.record.specs.Allowed.{addressed}
 use Rattle.params.specs.declared.Part.{Part}
 use Rattle.params.specs.declared.Part.the-variants.{Absent, At}
-use Rattle.params.specs.Field.{Param, paramsOf, Values, valuesOf, given, octetsIn}
+use Rattle.params.specs.Field.{Param, paramsOf, given, octetsIn}
+use Rattle.xid.specs.Addressing.{addressing, Values, valuesOf}
 use Rattle.xid.specs.declared.Xid.{Xid}
 use Rattle.xid.specs.declared.Xid.the-variants.{Silence, Scan, Assignment}
 
@@ -97,7 +98,7 @@ judgedParams i none = Silence
 judgedParams i (some ps) = judged i (valuesOf ps)
 
 unfoldable pub readOf : List ℕ → List ℕ → Xid
-readOf i m = judgedParams i (paramsOf m)
+readOf i m = judgedParams i (paramsOf addressing m)
 
 -- a part found by the walk stands for a value that is given
 unfoldable pub isGiven : Part → Bool
