@@ -39,8 +39,9 @@ use Rattle.station.specs.Station.{resent, awaiting}
 use Rattle.acknowledge.specs.Acknowledge.{sessionAfter, stationAfter}
 use Rattle.station.specs.Station.{answersWith}
 use Rattle.inform.specs.Inform.{heeded}
-use Rattle.params.specs.Field.{opened, triplesAfter, before, checked, allRight, rightLength, identityLong, identifiers}
-use Rattle.params.specs.Field.{noneTwice, paramsOf, valueOf, valuesOf, given, octetsIn}
+use Rattle.params.specs.Field.{opened, triplesAfter, before, checked, allRight, rightLength, identifiers}
+use Rattle.params.specs.Field.{noneTwice, paramsOf, valueFor, given, octetsIn}
+use Rattle.xid.specs.Addressing.{valuesOf}
 use Rattle.xid.specs.Match.{isScan, scanShape, assignmentShape, scanMatches, identityMatches, kindMatches}
 use Rattle.xid.specs.Match.{vendorMatches, assignmentMatches, assigned as assignedIn, judged as judgedXid, judgedParams}
 use Rattle.xid.specs.Match.{readOf}
@@ -55,7 +56,7 @@ use Rattle.poll.specs.Poll.{indicates, toTell, idlePoll, waitingPoll, pollOf}
 use Rattle.report.specs.Reports.{indicationOf}
 use Rattle.antenna.specs.Alarms.{changesAmong, anyDiffer}
 use Rattle.xid_answer.specs.Answer.{scanParams, assignmentParams, scanAnswer, assignmentAnswer}
-use Rattle.params.specs.Field.{tripleOf, fieldOf, payloadOf as xidPayload}
+use Rattle.params.specs.Field.{tripleOf, fieldOf, xidPayload}
 use Rattle.inform.specs.Inform.{repliedBy, carriedBy, informOf}
 use Rattle.states.specs.States.{informedBy, polledBy, pausedBy, rnrBy}
 use Rattle.states.specs.States.{begun, released, rejected, infoBy, rrBy, connectedBy, isSnrm, assignedBy, linkedBy}
@@ -226,7 +227,7 @@ unfolding All Holds heard scan.driven scan.fresh scan.ended scan.over scan.repor
     answered allowedDevice owedAllowed stationAllowed linkAllowed addressed sessionAllowed pendingFits numbersAllowed
     platesAllowed identityAllowed allowedIdentity allPrintable printable lastOf holds _atStartOf_ inRange busyOf runs
     owesOf waitingOf unowedOf moves started restedOf at canStop atMost sameAs readOf judgedParams judgedXid paramsOf
-    opened triplesAfter before checked allRight rightLength identityLong identifiers noneTwice valuesOf valueOf given
+    opened triplesAfter before checked allRight rightLength identifiers noneTwice valuesOf valueFor given
     octetsIn isScan scanShape assignmentShape scanMatches answersScan padded masked same identityMatches kindMatches
     vendorMatches assignmentMatches assignedIn messageOf successOf failureOf resultOf payloadOf tiltOctets angleOf
     driveChecks checks inTable takenBy carriedOf outcome doneBy replies unanswered pendingOctets linkOctets isSilent

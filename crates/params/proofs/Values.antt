@@ -51,7 +51,7 @@ value-none m (suc k) zero = refl
 value-none m (suc k) (suc i) = value-none m k i
 
 module _ (m : List ℕ) (t : List Identifier) (n : ℕ) (h : placeIn n t < length t) where
-  pub value-found : (ps : List Param) (at : ℕ) → drop at m ≡ fieldOf ps
+  value-found : (ps : List Param) (at : ℕ) → drop at m ≡ fieldOf ps
       → valueAt m (partIn (partsAt t at ps) (placeIn n t)) ≡ valueFor n ps
   unfolding partsAt valueAt valueFor fieldOf tripleOf
   value-found [] at e = value-none m (length t) (placeIn n t)
@@ -83,6 +83,18 @@ module _ (m : List ℕ) (t : List Identifier) (n : ℕ) (h : placeIn n t < lengt
           let other = getD-set-other more (placeIn k t) (placeIn n t) x (slot Absent) (λ i. apart (sym i)) in
           ap (λ (y : Slot). valueAt m (y .part)) other ∙ less
 
+-- the values of the group's identifiers, each at its place
+abbrev pub ValuesAt : Group → List ℕ → List Param → List Slot → Type 0
+ValuesAt g m ps f =
+    (n : ℕ) → placeIn n (g .table) < length (g .table) → valueAt m (partIn f (placeIn n (g .table))) ≡ valueFor n ps
+
+pub values-found : (g : Group) (m : List ℕ) (ps : List Param) → paramsOf g m ≡ some ps
+    → ValuesAt g m ps (partsAt (g .table) 3 ps)
+unfolding xidPayload
+values-found g m ps e n h =
+    let field : drop 3 m ≡ fieldOf ps = ap (drop 3) (params-exactly g m ps .0 e .octets) in
+    value-found m (g .table) n h ps 3 field
+
 -- what the walk tells of a payload
 module _ (g : Group) (m : List ℕ) {r : Found} (e : r ≡ foundIn g m) where
   pub walk-malformed : r .formed ≡ false → paramsOf g m ≡ none
@@ -94,22 +106,12 @@ module _ (g : Group) (m : List ℕ) {r : Found} (e : r ≡ foundIn g m) where
       go (some ps) h = absurd (true-not-false h)
 
   pub walk-formed : r .formed ≡ true
-      → (ps : List Param) × (paramsOf g m ≡ some ps)
-      × ((n : ℕ) → placeIn n (g .table) < length (g .table)
-      → valueAt m (partIn (r .parts) (placeIn n (g .table))) ≡ valueFor n ps)
-  unfolding foundIn foundFrom xidPayload
+      → (ps : List Param) × (paramsOf g m ≡ some ps) × ValuesAt g m ps (r .parts)
+  unfolding foundIn foundFrom
   walk-formed f = go (paramsOf g m) refl (ap (λ (x : Found). x .parts) e) (sym (ap (λ (x : Found). x .formed) e) ∙ f)
     where
       go : (x : Option (List Param)) → paramsOf g m ≡ x → r .parts ≡ foundFrom 3 (g .table) x .parts
           → foundFrom 3 (g .table) x .formed ≡ true
-          → (ps : List Param) × (paramsOf g m ≡ some ps)
-          × ((n : ℕ) → placeIn n (g .table) < length (g .table)
-          → valueAt m (partIn (r .parts) (placeIn n (g .table))) ≡ valueFor n ps)
+          → (ps : List Param) × (paramsOf g m ≡ some ps) × ValuesAt g m ps (r .parts)
       go none h i j = absurd (false≢true j)
-      go (some ps) h i j =
-          let field : drop 3 m ≡ fieldOf ps = ap (drop 3) (params-exactly g m ps .0 h .octets) in (
-            ps,
-            h,
-            λ (n : ℕ) (k : placeIn n (g .table) < length (g .table)).
-                rw i (value-found m (g .table) n k ps 3 field),
-          )
+      go (some ps) h i j = (ps, h, λ n k. rw i (values-found g m ps h n k))

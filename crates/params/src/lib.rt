@@ -61,12 +61,12 @@ pub fn value_at(s: &[u8], from: usize, len: usize) -> &[u8]
     &s[from..end]
 }
 
-// The part at a place of the table; past it there is none.
-pub fn part_at(parts: [Slot; ROWS], place: usize) -> Part
-    ensures { λ r. ⌜ r ≡ partIn parts place ⌝ }
+// The part of a row of the table; past it there is none.
+pub fn part_at(parts: [Slot; ROWS], row: usize) -> Part
+    ensures { λ r. ⌜ r ≡ partIn parts row ⌝ }
 {
-    if place < ROWS {
-        let slot = parts[place];
+    if row < ROWS {
+        let slot = parts[row];
         return slot.part;
     }
     Part::Absent

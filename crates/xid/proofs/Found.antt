@@ -11,10 +11,10 @@ use Rattle.params.specs.Walk.{placeIn, foundIn}
 use Rattle.params.proofs.Values.{walk-formed}
 use Rattle.xid.specs.Addressing.{addressing, valuesOf, partsBy, valuesAt}
 
-pub values-found : (m : List ℕ) {r : Found} → r ≡ foundIn addressing m → r .formed ≡ true
+pub values-named : (m : List ℕ) {r : Found} → r ≡ foundIn addressing m → r .formed ≡ true
     → (ps : List Param) × (paramsOf addressing m ≡ some ps) × (valuesAt m (partsBy (r .parts)) ≡ valuesOf ps)
 unfolding placeIn valuesOf partsBy valuesAt
-values-found m {r} e f =
+values-named m {r} e f =
     let (ps, formed, at) = walk-formed addressing m e f in
     let identity = at 1 (lit< tt) in
     let address = at 2 (lit< tt) in

@@ -4,7 +4,7 @@ use Rattle.params.specs.declared.Group.{Group}
 use Rattle.params.specs.Walk.{foundIn}
 use Rattle.params.proofs.Values.{walk-malformed}
 use Rattle.xid.specs.Addressing.{addressing, valuesAt}
-use Rattle.xid.proofs.Found.{values-found}
+use Rattle.xid.proofs.Found.{values-named}
 use Rattle.xid.proofs.Judging.{read-formed, read-malformed}
 use borrow.Author.Needs.{needs}
 use Rattle.xid.proofs.read.Statement.{statement}
@@ -27,7 +27,7 @@ returns c =
     let walk = c .before .before .before .before in
     let m = walk .before .before .before .before .before .args .payload .now in
     let found = walk .walk .ensures ∙ ap (λ (g : Group). foundIn g m) (walk .before .addressing .ensures) in
-    let (ps, formed, values) = values-found m found (c .before .before .if1 .taken) in
+    let (ps, formed, values) = values-named m found (c .before .before .if1 .taken) in
     let named = ap (valuesAt m) (c .before .parts-by .ensures) ∙ values in
     read-formed _ m (c .before .parts-by .result) (ps, formed, named) (c .judge .ensures)
 
