@@ -2,7 +2,7 @@
 -- 01, "XID: scan and assignment".
 --   n is v            == a parameter: its identifier n, and the octets v of its value
 --   tripleOf p        == identifier, length, value; fieldOf ps == the triples of ps, one behind the other
---   format            == 0x81, the first octet of every payload
+--   format            == 0x81, the first octet of every payload; tableRows == 5, the most identifiers that a group has
 --   xidPayload g ps   == 0x81, the octet of g, a length equal to all that follows, then the triples of ps
 --   n has a to b      == a row of a table: the identifier n, and a to b octets for its value
 --   rightLength t n k == the table t has the identifier n, and its value may have k octets
@@ -44,7 +44,10 @@ fieldOf (p ∷ ps) = tripleOf p ++ fieldOf ps
 abbrev pub format : ℕ
 format = 0x81
 
--- "Payload: 0x81, 0xF0, a length equal to all that follows, then triples .. that fill it exactly"
+abbrev pub tableRows : ℕ
+tableRows = 5
+
+-- "Payload: 0x81, 0xF0, a length equal to all that follows, then triples .. that fill it exactly"; 0xF0 is a group's octet
 unfoldable pub xidPayload : Group → List Param → List ℕ
 xidPayload g ps = format ∷ g .octet ∷ length (fieldOf ps) ∷ fieldOf ps
 
@@ -52,7 +55,7 @@ xidPayload g ps = format ∷ g .octet ∷ length (fieldOf ps) ∷ fieldOf ps
 abbrev pub _has_to_ : ℕ → ℕ → ℕ → Identifier
 n has a to b = record { id = n; least = a; most = b }
 
--- the row of the identifier says how many octets; without a row none are right
+-- the row of the identifier says how many octets; without a row no length is right
 unfoldable pub rightLength : List Identifier → ℕ → ℕ → Bool
 rightLength [] n k = false
 rightLength (r ∷ t) n k = cond (eqb (r .id) n) (leb (r .least) k && leb k (r .most)) (rightLength t n k)

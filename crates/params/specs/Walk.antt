@@ -15,7 +15,7 @@ use mathlib.Core.Option.{Option, none, some}
 use Prim.Native.Nat.{ℕ, suc, _+_}
 use lib.Dec.{eqb}
 use lib.ListN.{length, getD, set, take, drop, replicate}
-use Rattle.params.specs.Field.{Param, _is_, paramsOf}
+use Rattle.params.specs.Field.{Param, _is_, tableRows, paramsOf}
 use Rattle.params.specs.declared.Identifier.{Identifier}
 use Rattle.params.specs.declared.Group.{Group}
 use Rattle.params.specs.declared.Part.{Part}
@@ -45,7 +45,7 @@ isAbsent Absent = true
 isAbsent (At from len) = false
 
 abbrev pub unformed : Found
-unformed = record { formed = false; parts = noParts 5 }
+unformed = record { formed = false; parts = noParts tableRows }
 
 unfoldable pub foundFrom : ℕ → List Identifier → Option (List Param) → Found
 foundFrom at t none = unformed

@@ -5,7 +5,7 @@ ghost use mathlib.Core.Path.{_≡_};
 ghost use mathlib.Core.Bool.{cond, _&&_};
 ghost use lib.Dec.{leb};
 ghost use lib.ListN.{take, drop};
-ghost use Rattle.params.specs.Field.{rightLength, opened, triplesOf, checked};
+ghost use Rattle.params.specs.Field.{tableRows, rightLength, opened, triplesOf, checked};
 ghost use Rattle.params.specs.Walk.{placeIn, partIn, isAbsent, unformed, foundFrom, foundIn};
 use reader::Stands;
 
@@ -34,7 +34,7 @@ pub enum Part {
     At { from: usize, len: usize },
 }
 
-// A part as an array's element: one of a struct's field holds no enum itself.
+// A part as an array's element: an array in a struct cannot hold enums themselves.
 pub struct Slot {
     pub part: Part,
 }
@@ -109,7 +109,7 @@ fn is_absent(part: Part) -> bool
 // The place for the part of a triple that is taken: its length is right, and it repeats none. ROWS for any other.
 fn room_for(table: [Identifier; ROWS], parts: [Slot; ROWS], id: u8, len: usize) -> usize
     ensures { λ r. ⌜ r ≡ cond (rightLength table id len && isAbsent (partIn parts (placeIn id table)))
-        (placeIn id table) 5 ⌝ }
+        (placeIn id table) tableRows ⌝ }
 {
     let place = place_of(table, id);
     if place < ROWS {

@@ -1,5 +1,5 @@
 -- What the walk finds of a scan or an assignment: the values of its parameters, by name. Assumes nothing.
-use mathlib.Core.Path.{_≡_, refl}
+use mathlib.Core.Path.{_≡_}
 use mathlib.Core.Bool.{true}
 use mathlib.Core.List.{List}
 use mathlib.Core.Option.{some}

@@ -8,10 +8,10 @@ use native.Mathlib.Omega.{arith}
 use lib.ListN.{length, length-append}
 use Rattle.octets.specs.Octets.{holds}
 use Rattle.identity.specs.Identity.{width, answersScan}
-use Rattle.params.specs.Field.{_is_, tripleOf, fieldOf, format, xidPayload, rightLength, identifiers}
+use Rattle.params.specs.Field.{_is_, tripleOf, fieldOf, xidPayload, rightLength, identifiers}
 use Rattle.params.specs.Field.{noneTwice, valueFor}
 use Rattle.params.proofs.Exact.{once-different}
-use Rattle.xid.specs.Addressing.{addressing, valuesOf}
+use Rattle.xid.specs.Addressing.{valuesOf}
 use Rattle.xid.specs.Match.{readOf}
 use Rattle.xid.specs.Meaning.{ScanOf}
 use Rattle.xid.specs.declared.Xid.the-variants.{Silence, Scan}
@@ -19,7 +19,7 @@ use Rattle.xid.proofs.Exactly.{scan-read}
 
 -- 01: "the XID scan from 0xFF with 19-octet values: a beginning in 1, ones over it in 3 ..; length field 0x2A"
 abbrev pub probePayload : List ℕ → List ℕ → List ℕ
-probePayload v k = (format ∷ addressing .octet ∷ 0x2A ∷ 1 ∷ width ∷ []) ++ (v ++ ((3 ∷ width ∷ []) ++ k))
+probePayload v k = (0x81 ∷ 0xF0 ∷ 0x2A ∷ 1 ∷ width ∷ []) ++ (v ++ ((3 ∷ width ∷ []) ++ k))
 
 pub probe-scan : (v k : List ℕ) → length v ≡ width → length k ≡ width → ScanOf (probePayload v k) v k
 unfolding xidPayload fieldOf tripleOf rightLength identifiers noneTwice holds valuesOf valueFor
@@ -30,7 +30,7 @@ probe-scan v k e f =
     record {
       params = 1 is v ∷ 3 is k ∷ [];
       formed = record {
-        octets = ap (λ (s : List ℕ). format ∷ addressing .octet ∷ s)
+        octets = ap (λ (s : List ℕ). 0x81 ∷ 0xF0 ∷ s)
             (ap₂ (λ (n : ℕ) (s : List ℕ). n ∷ s) (sym (ap length field ∙ long)) (sym field));
         right = (rw e, (rw f, tt));
         once = once-different (1 ∷ 3 ∷ []) refl;

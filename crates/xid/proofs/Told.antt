@@ -9,7 +9,6 @@ use borrow.Author.Tests.{eqb-true, leb-true, not-true}
 use lib.Dec.{eqb, leb}
 use lib.ListN.{length, getD}
 use Rattle.octets.proofs.Words.{true-not-false}
-use Rattle.identity.specs.Identity.{same}
 use Rattle.params.specs.Field.{Param, rightLength, AllRight, WellFormed, paramsOf, valueFor, given, octetsIn}
 use Rattle.params.proofs.Exact.{params-exactly}
 use Rattle.params.proofs.Values.{value-right}

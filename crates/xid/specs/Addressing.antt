@@ -1,7 +1,7 @@
 -- The group of scans and assignments: its octet and its five identifiers, and what is given of them, by name. 01, "XID:
 -- scan and assignment".
 --   addressing   == the group: 0xF0, and the table of its identifiers with their lengths
---   valuesOf ps  == what the parameters ps give, by name
+--   valuesOf ps  == what the parameters ps give, by name: the five `Values`
 --   partFor n s  == the part of the identifier n among the parts s that a walk found; partsBy s == of all five, by name
 --   valuesAt m f == the octets of the parts f, by name
 -- Assumes nothing.

@@ -71,7 +71,7 @@ fn addressing() -> Group
 }
 
 // The parts that the walk found, by name.
-fn parts_by(found: [Slot; 5]) -> Parts
+fn parts_by(found: [Slot; params::ROWS]) -> Parts
     ensures { λ r. ⌜ r ≡ partsBy found ⌝ }
 {
     Parts {

@@ -1,7 +1,6 @@
 -- `params::part_at` meets its promise: inside the table, or past it. Assumes nothing.
 use mathlib.Core.Path.{sym, ap}
-use native.Mathlib.Omega.{arith}
-use lib.ListN.{length, List·getD-eq-default}
+use lib.ListN.{List·getD-eq-default}
 use Rattle.params.specs.Walk.{slot}
 use Rattle.params.specs.declared.Part.the-variants.{Absent}
 use Rattle.params.specs.declared.Slot.{Slot}

@@ -1,7 +1,7 @@
 -- `params::walk_from` meets its promise: what is left from the place on comes to the same as all. The measure is what
 -- is left of the length. Assumes nothing.
 use borrow.Author.Needs.{needs}
-use mathlib.Core.Path.{_≡_, sym, _∙_}
+use mathlib.Core.Path.{_≡_, _∙_}
 use Prim.Native.Nat.{_-_}
 use native.Mathlib.Omega.{arith}
 use lib.ListN.{length, drop}

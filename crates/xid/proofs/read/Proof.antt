@@ -6,7 +6,6 @@ use Rattle.params.proofs.Values.{walk-malformed}
 use Rattle.xid.specs.Addressing.{addressing, valuesAt}
 use Rattle.xid.proofs.Found.{values-named}
 use Rattle.xid.proofs.Judging.{read-formed, read-malformed}
-use borrow.Author.Needs.{needs}
 use Rattle.xid.proofs.read.Statement.{statement}
 use Rattle.xid.proofs.read.Tie as tie
 
