@@ -20,10 +20,10 @@ use Rattle.record.specs.declared.Device.{Device}
 use Rattle.record.specs.declared.Link.the-variants.{AddressAssigned}
 use Rattle.record.specs.Allowed.{addressed, allowedDevice}
 use Rattle.record.specs.Changes.{endedAs}
-use Rattle.params.specs.Field.{_is_, tripleOf, fieldOf, payloadOf, rightLength, identityLong, identifiers, noneTwice}
-use Rattle.params.specs.Field.{valueOf, valuesOf}
+use Rattle.params.specs.Field.{_is_, tripleOf, fieldOf, xidPayload, rightLength, identifiers, noneTwice, valueFor}
 use Rattle.params.proofs.Exact.{once-different}
 use Rattle.params.proofs.Kept.{of-both}
+use Rattle.xid.specs.Addressing.{addressing, valuesOf}
 use Rattle.xid.specs.Match.{readOf, identityMatches, kindMatches, vendorMatches}
 use Rattle.xid.specs.Meaning.{AssignmentOf, EndOf}
 use Rattle.xid.specs.declared.Xid.{Xid}
@@ -53,14 +53,14 @@ ends-exactly i v = (
 
 module _ (v : List ℕ) (a : ℕ) (whole : allowedIdentity v ≡ true) (least : 1 ≤ a) (most : a ≤ 254) where
   abbrev payload : List ℕ
-  payload = payloadOf (1 is v ∷ 2 is (a ∷ []) ∷ [])
+  payload = xidPayload addressing (1 is v ∷ 2 is (a ∷ []) ∷ [])
 
   payload-long : length payload ≡ length v + 8
-  unfolding payloadOf fieldOf tripleOf
+  unfolding xidPayload fieldOf tripleOf
   payload-long = omega (arith, length-append v (2 ∷ 1 ∷ a ∷ []))
 
   frame-octets : Octets (0xFF ∷ 0xBF ∷ payload)
-  unfolding payloadOf fieldOf tripleOf
+  unfolding xidPayload fieldOf tripleOf
   frame-octets =
       let parts = allowed-parts v whole in
       let short = parts .most in
@@ -70,7 +70,7 @@ module _ (v : List ℕ) (a : ℕ) (whole : allowedIdentity v ≡ true) (least : 
       (octets-append v (2 ∷ 1 ∷ a ∷ []) (printable-octets v (parts .plain)) (omega arith))
 
   assignment-formed : AssignmentOf payload a (some v) none none
-  unfolding rightLength identityLong identifiers noneTwice holds valuesOf valueOf
+  unfolding rightLength identifiers noneTwice holds valuesOf valueFor
   assignment-formed =
       let parts = allowed-parts v whole in
       record {

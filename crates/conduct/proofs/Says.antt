@@ -27,7 +27,7 @@ use Rattle.session.specs.Session.{pends, acknowledges, goodNumber, taken, vsOf,
 use Rattle.session.proofs.Numbers.{acknowledges-exactly}
 use Rattle.payload.specs.Payloads.{payloadOf, messageOf, resultOf}
 use Rattle.payload.proofs.Laws.{payload-says, success-is, result-reached, result-missed}
-use Rattle.params.specs.Field.{tripleOf, fieldOf, payloadOf as xidPayload}
+use Rattle.params.specs.Field.{tripleOf, fieldOf, xidPayload}
 use Rattle.report.specs.Reports.{indicationOf}
 use Rattle.xid_answer.specs.Answer.{scanParams, assignmentParams, scanAnswer, assignmentAnswer}
 use Rattle.xid_answer.proofs.Lengths.{scan-field, assignment-field}

@@ -39,8 +39,9 @@ use Rattle.station.specs.Station.{resent, awaiting}
 use Rattle.acknowledge.specs.Acknowledge.{sessionAfter, stationAfter}
 use Rattle.station.specs.Station.{answersWith}
 use Rattle.inform.specs.Inform.{heeded}
-use Rattle.params.specs.Field.{opened, triplesAfter, before, checked, allRight, rightLength, identityLong, identifiers}
-use Rattle.params.specs.Field.{noneTwice, paramsOf, valueOf, valuesOf, given, octetsIn}
+use Rattle.params.specs.Field.{opened, triplesAfter, before, checked, allRight, rightLength, identifiers}
+use Rattle.params.specs.Field.{noneTwice, paramsOf, valueFor, given, octetsIn}
+use Rattle.xid.specs.Addressing.{valuesOf}
 use Rattle.xid.specs.Match.{isScan, scanShape, assignmentShape, scanMatches, identityMatches, kindMatches}
 use Rattle.xid.specs.Match.{vendorMatches, noParams, malformed, valuesIn, neither, badAddress, otherIdentity, otherType}
 use Rattle.xid.specs.Match.{otherVendor, otherScan, valueRows, payloadRows, meaningOf, orSilence, payloadAnswer, readOf}
@@ -55,7 +56,7 @@ use Rattle.poll.specs.Poll.{indicates, toTell, idlePoll, waitingPoll, pollOf}
 use Rattle.report.specs.Reports.{indicationOf}
 use Rattle.antenna.specs.Alarms.{changesAmong, anyDiffer}
 use Rattle.xid_answer.specs.Answer.{scanParams, assignmentParams, scanAnswer, assignmentAnswer}
-use Rattle.params.specs.Field.{tripleOf, fieldOf, payloadOf as xidPayload}
+use Rattle.params.specs.Field.{tripleOf, fieldOf, xidPayload}
 use Rattle.inform.specs.Inform.{repliedBy, carriedBy, informOf}
 use Rattle.states.specs.States.{informedBy, polledBy, pausedBy, rnrBy}
 use Rattle.states.specs.States.{begun, renewed, released, rejected, infoBy, rrBy, connectedBy, isSnrm, assignedBy, linkedBy}
@@ -231,7 +232,7 @@ unfolding All Holds heard scan.driven scan.fresh scan.ended scan.over scan.repor
     owesOf waitingOf unowedOf moves started restedOf at canStop atMost sameAs readOf payloadAnswer payloadRows
     valueRows orSilence meaningOf malformed noParams valuesIn neither badAddress otherIdentity otherType otherVendor
     otherScan paramsOf
-    opened triplesAfter before checked allRight rightLength identityLong identifiers noneTwice valuesOf valueOf given
+    opened triplesAfter before checked allRight rightLength identifiers noneTwice valuesOf valueFor given
     octetsIn isScan scanShape assignmentShape scanMatches answersScan padded masked same identityMatches kindMatches
     vendorMatches messageOf successOf failureOf resultOf payloadOf tiltOctets angleOf
     driveChecks checks inTable takenBy carriedOf outcome doneBy replies unanswered pendingOctets linkOctets isSilent

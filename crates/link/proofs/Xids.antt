@@ -13,7 +13,7 @@ use Rattle.octets.specs.Octets.{holds}
 use Rattle.refusal.specs.Answer.{Answer, gives, refuses, answered, Clear, numbersOf}
 use Rattle.refusal.proofs.Exactly.{TestsFor, exactly-tests, exactly-given, answered-all}
 use Rattle.control.specs.Control.{askedBy}
-use Rattle.params.specs.Field.{Values}
+use Rattle.xid.specs.Addressing.{Values}
 use Rattle.record.specs.declared.Device.{Device}
 use Rattle.record.specs.Allowed.{identityOf}
 use Rattle.xid.specs.Match.{isScan, addressOf, malformed, valuesIn, neither, badAddress, otherIdentity, otherType}

@@ -1,13 +1,13 @@
--- `paramsOf` computes what `WellFormed` says, for octets of any content: a payload has the parameters ps exactly if it
--- is 0x81, 0xF0, the length of all that follows and the triples of ps, each with a right length and none twice.
--- So no payload has two readings. Assumes nothing.
+-- `paramsOf` computes what `WellFormed` says, for every group and octets of any content: a payload has the parameters
+-- ps exactly if it is 0x81, the group's octet, the length of all that follows and the triples of ps, each with a right
+-- length and none twice. So no payload has two readings. Assumes nothing.
 use mathlib.Core.Path.{_≡_, refl, sym, ap, _∙_}
 use mathlib.Core.Bool.{Bool, true, false, cond, not, _&&_, false≢true}
 use mathlib.Core.Logic.{_↔_, ⊎-elim}
 use mathlib.Core.List.{List, [], _∷_, _++_, List·Memᴰ, List·Memᴰ·head, List·Memᴰ·tail, List·Memᴰ·cases-cons}
 use mathlib.Core.List.{List·Memᴰ·not-nil}
 use mathlib.Core.Option.{Option, none, some}
-use Prim.Native.Nat.{ℕ, zero, suc, _+_, _-_, _≤_}
+use Prim.Native.Nat.{ℕ, zero, suc, _-_, _≤_}
 use native.Mathlib.Omega.{arith}
 use borrow.Author.Tests.{eqb-true, eq-eqb, le-leb, not-true}
 use lib.Dec.{eqb, leb}
@@ -16,9 +16,11 @@ use lib.Seq.{take-append-seam, drop-append-seam, length-take-le}
 use Rattle.octets.specs.Octets.{holds}
 use Rattle.octets.proofs.Words.{holds-head, holds-tail, holds-not}
 use Rattle.identity.specs.Order.{Different}
-use Rattle.params.specs.Field.{Param, _is_, tripleOf, fieldOf, payloadOf, rightLength, identifiers, AllRight}
-use Rattle.params.specs.Field.{WellFormed, before, triplesAfter, triplesOf, allRight, noneTwice, checked, opened}
-use Rattle.params.specs.Field.{paramsOf}
+use Rattle.params.specs.Field.{Param, _is_, tripleOf, fieldOf, format, xidPayload, rightLength, identifiers}
+use Rattle.params.specs.Field.{AllRight, WellFormed, before, triplesAfter, triplesOf, allRight, noneTwice}
+use Rattle.params.specs.Field.{checked, opened, paramsOf}
+use Rattle.params.specs.declared.Identifier.{Identifier}
+use Rattle.params.specs.declared.Group.{Group}
 use Rattle.params.proofs.Turns.{skip}
 use Rattle.params.proofs.Kept.{both-of, of-both}
 
@@ -73,16 +75,16 @@ triples-exactly s ps = (
 
 -- ---- right lengths, and none twice
 
-right-all : (ps : List Param) → allRight ps ≡ true → AllRight ps
+right-all : (t : List Identifier) (ps : List Param) → allRight t ps ≡ true → AllRight t ps
 unfolding allRight
-right-all [] e = tt
-right-all (n is v ∷ ps) e =
-    let (a, b) = both-of (rightLength n (length v)) (allRight ps) e in (a, right-all ps b)
+right-all t [] e = tt
+right-all t (n is v ∷ ps) e =
+    let (a, b) = both-of (rightLength t n (length v)) (allRight t ps) e in (a, right-all t ps b)
 
-all-right : (ps : List Param) → AllRight ps → allRight ps ≡ true
+all-right : (t : List Identifier) (ps : List Param) → AllRight t ps → allRight t ps ≡ true
 unfolding allRight
-all-right [] r = refl
-all-right (n is v ∷ ps) r = of-both (r .0) (all-right ps (r .1))
+all-right t [] r = refl
+all-right t (n is v ∷ ps) r = of-both (r .0) (all-right t ps (r .1))
 
 holds-member : (n : ℕ) (ns : List ℕ) → holds n ns ≡ false → List·Memᴰ n ns → ⊥
 holds-member n [] h m = List·Memᴰ·not-nil m
@@ -111,72 +113,75 @@ different-once (n ∷ ns) d = of-both (ap not (member-holds n ns (d .0))) (diffe
 
 -- ---- the three octets before them
 
-opened-is : (m : List ℕ) → opened m ≡ true → m ≡ 0x81 ∷ 0xF0 ∷ length (drop 3 m) ∷ drop 3 m
+opened-is : (o : ℕ) (m : List ℕ) → opened o m ≡ true → m ≡ format ∷ o ∷ length (drop 3 m) ∷ drop 3 m
 unfolding opened
-opened-is [] e = absurd (false≢true e)
-opened-is (a ∷ []) e = absurd (false≢true e)
-opened-is (a ∷ b ∷ []) e = absurd (false≢true e)
-opened-is (a ∷ b ∷ k ∷ s) e =
+opened-is o [] e = absurd (false≢true e)
+opened-is o (a ∷ []) e = absurd (false≢true e)
+opened-is o (a ∷ b ∷ []) e = absurd (false≢true e)
+opened-is o (a ∷ b ∷ k ∷ s) e =
     let n = length (a ∷ b ∷ k ∷ s) - 3 in
-    let (l, e₀) = both-of (leb 3 (length (a ∷ b ∷ k ∷ s))) (eqb a 0x81 && (eqb b 0xF0 && eqb k n)) e in
-    let (x, e₁) = both-of (eqb a 0x81) (eqb b 0xF0 && eqb k n) e₀ in
-    let (y, z) = both-of (eqb b 0xF0) (eqb k n) e₁ in
+    let (l, e₀) = both-of (leb 3 (length (a ∷ b ∷ k ∷ s))) (eqb a format && (eqb b o && eqb k n)) e in
+    let (x, e₁) = both-of (eqb a format) (eqb b o && eqb k n) e₀ in
+    let (y, z) = both-of (eqb b o) (eqb k n) e₁ in
     let long : k ≡ length s = eqb-true k n z ∙ omega arith in
-    rw (eqb-true a 0x81 x, eqb-true b 0xF0 y, long)
+    rw (eqb-true a format x, eqb-true b o y, long)
 
-opened-payload : (ps : List Param) → opened (payloadOf ps) ≡ true
-unfolding opened payloadOf
-opened-payload ps =
+opened-payload : (g : Group) (ps : List Param) → opened (g .octet) (xidPayload g ps) ≡ true
+unfolding opened xidPayload
+opened-payload g ps =
     let n = length (fieldOf ps) in
-    of-both (le-leb 3 (suc (suc (suc n))) (omega arith)) (eq-eqb n (suc (suc (suc n)) - 3) (omega arith))
+    of-both (le-leb 3 (suc (suc (suc n))) (omega arith))
+    (of-both (eq-eqb (g .octet) (g .octet) refl) (eq-eqb n (suc (suc (suc n)) - 3) (omega arith)))
 
 -- ---- the payload
 
-checked-some : (x : Option (List Param)) (ps : List Param) → checked x ≡ some ps
-    → (x ≡ some ps) × (allRight ps ≡ true) × (noneTwice (identifiers ps) ≡ true)
+checked-some : (t : List Identifier) (x : Option (List Param)) (ps : List Param) → checked t x ≡ some ps
+    → (x ≡ some ps) × (allRight t ps ≡ true) × (noneTwice (identifiers ps) ≡ true)
 unfolding checked
-checked-some none ps e = let z : _≡_ {A = ℕ} 0 1 = cc in let no : ⊥ = omega arith in absurd no
-checked-some (some qs) ps e = go (allRight qs && noneTwice (identifiers qs)) refl e
+checked-some t none ps e = let z : _≡_ {A = ℕ} 0 1 = cc in let no : ⊥ = omega arith in absurd no
+checked-some t (some qs) ps e = go (allRight t qs && noneTwice (identifiers qs)) refl e
   where
-    go : (t : Bool) → allRight qs && noneTwice (identifiers qs) ≡ t → cond t (some qs) none ≡ some ps
-        → (some qs ≡ some ps) × (allRight ps ≡ true) × (noneTwice (identifiers ps) ≡ true)
+    go : (b : Bool) → allRight t qs && noneTwice (identifiers qs) ≡ b → cond b (some qs) none ≡ some ps
+        → (some qs ≡ some ps) × (allRight t ps ≡ true) × (noneTwice (identifiers ps) ≡ true)
     go true d f =
         let all : qs ≡ ps = cc in
-        let (r, o) = both-of (allRight qs) (noneTwice (identifiers qs)) d in
+        let (r, o) = both-of (allRight t qs) (noneTwice (identifiers qs)) d in
         (f, rw all at r, rw all at o)
     go false d f = let z : _≡_ {A = ℕ} 0 1 = cc in let no : ⊥ = omega arith in absurd no
 
-formed : (m : List ℕ) (ps : List Param) → paramsOf m ≡ some ps → WellFormed m ps
-unfolding paramsOf payloadOf
-formed m ps e = go (opened m) refl e
-  where
-    go : (t : Bool) → opened m ≡ t → cond t (checked (triplesOf (drop 3 m))) none ≡ some ps → WellFormed m ps
-    go true o f =
-        let (x, r, d) = checked-some (triplesOf (drop 3 m)) ps f in
-        let field : drop 3 m ≡ fieldOf ps = triples-exactly (drop 3 m) ps .0 x in
-        record {
-          octets = rw field at (opened-is m o);
-          right = right-all ps r;
-          once = once-different (identifiers ps) d;
-        }
-    go false o f = let z : _≡_ {A = ℕ} 0 1 = cc in let no : ⊥ = omega arith in absurd no
+module _ (g : Group) where
+  formed : (m : List ℕ) (ps : List Param) → paramsOf g m ≡ some ps → WellFormed g m ps
+  unfolding paramsOf xidPayload
+  formed m ps e = go (opened (g .octet) m) refl e
+    where
+      go : (b : Bool) → opened (g .octet) m ≡ b → cond b (checked (g .table) (triplesOf (drop 3 m))) none ≡ some ps
+          → WellFormed g m ps
+      go true o f =
+          let (x, r, d) = checked-some (g .table) (triplesOf (drop 3 m)) ps f in
+          let field : drop 3 m ≡ fieldOf ps = triples-exactly (drop 3 m) ps .0 x in
+          record {
+            octets = rw field at (opened-is (g .octet) m o);
+            right = right-all (g .table) ps r;
+            once = once-different (identifiers ps) d;
+          }
+      go false o f = let z : _≡_ {A = ℕ} 0 1 = cc in let no : ⊥ = omega arith in absurd no
 
-well-formed : (m : List ℕ) (ps : List Param) → WellFormed m ps → paramsOf m ≡ some ps
-unfolding paramsOf checked payloadOf
-well-formed m ps w =
-    rw (w .octets) (rw (
-      opened-payload ps,
-      triples-field ps,
-      all-right ps (w .right),
-      different-once (identifiers ps) (w .once),
-    ))
+  well-formed : (m : List ℕ) (ps : List Param) → WellFormed g m ps → paramsOf g m ≡ some ps
+  unfolding paramsOf checked xidPayload
+  well-formed m ps w =
+      rw (w .octets) (rw (
+        opened-payload g ps,
+        triples-field ps,
+        all-right (g .table) ps (w .right),
+        different-once (identifiers ps) (w .once),
+      ))
 
-pub params-exactly : (m : List ℕ) (ps : List Param) → paramsOf m ≡ some ps ↔ WellFormed m ps
-params-exactly m ps = (formed m ps, well-formed m ps)
+  pub params-exactly : (m : List ℕ) (ps : List Param) → paramsOf g m ≡ some ps ↔ WellFormed g m ps
+  params-exactly m ps = (formed m ps, well-formed m ps)
 
--- one reading only
-pub one-reading : (m : List ℕ) (ps qs : List Param) → WellFormed m ps → WellFormed m qs → ps ≡ qs
-one-reading m ps qs v w =
-    let e = well-formed m ps v in
-    let f = well-formed m qs w in
-    cc
+  -- one reading only
+  pub one-reading : (m : List ℕ) (ps qs : List Param) → WellFormed g m ps → WellFormed g m qs → ps ≡ qs
+  one-reading m ps qs v w =
+      let e = well-formed m ps v in
+      let f = well-formed m qs w in
+      cc

@@ -1,23 +1,25 @@
--- Where the walk's parts end up: taken one after the other, the triples of a payload leave the parts of all of them
--- exactly if each has a right length and none comes twice. Assumes nothing.
-use mathlib.Core.Path.{_≡_, refl, sym, ap, _∙_, subst}
+-- Where the walk's parts end up: kept one after the other, the triples of a payload leave the parts of all of them
+-- exactly if each has a right length and none comes twice. For every table of identifiers. Assumes nothing.
+use mathlib.Core.Path.{_≡_, refl, sym, ap, _∙_}
 use mathlib.Core.Bool.{Bool, true, false, cond, not, _&&_, false≢true}
 use mathlib.Core.List.{List, [], _∷_}
 use mathlib.Core.Option.{Option, none, some}
-use Prim.Native.Nat.{ℕ, _+_}
-use borrow.Author.Tests.{eqb-true, ne-eqb, not-true}
-use lib.Dec.{eqb}
-use lib.ListN.{length}
+use Prim.Native.Nat.{ℕ, zero, suc, _+_, _<_, _≤_}
+use native.Mathlib.Omega.{arith}
+use borrow.Author.Tests.{ne-eqb, not-true}
+use lib.Dec.{leb}
+use lib.ListN.{length, getD, set, length-set, length-replicate}
+use lib.Seq.{getD-set-same, getD-set-other, set-comm}
 use Rattle.octets.specs.Octets.{holds}
 use Rattle.octets.proofs.Words.{holds-head, holds-tail, true-not-false}
-use Rattle.params.specs.Field.{Param, _is_, identityLong, rightLength, identifiers, allRight, noneTwice, checked}
-use Rattle.params.specs.Walk.{isAbsent, partOf, withPart, takesPart, noParts, taken, takenFrom, partAt, partsAt}
-use Rattle.params.specs.Walk.{walked}
+use Rattle.params.specs.Field.{Param, _is_, rightLength, identifiers, allRight, noneTwice, checked}
+use Rattle.params.specs.Walk.{placeIn, slot, noParts, partsAt, partIn, isAbsent, unformed, foundFrom}
 use Rattle.params.specs.declared.Part.{Part}
 use Rattle.params.specs.declared.Part.the-variants.{Absent, At}
-use Rattle.params.specs.declared.Parts.{Parts}
+use Rattle.params.specs.declared.Identifier.{Identifier}
+use Rattle.params.specs.declared.Slot.{Slot}
 use Rattle.params.specs.declared.Found.{Found}
-use Rattle.params.specs.declared.Found.the-variants.{Malformed, Formed}
+use Rattle.params.proofs.Tables.{right-at, right-past, right-inside, places-apart}
 
 -- both halves of a test
 pub both-of : (a b : Bool) → a && b ≡ true → (a ≡ true) × (b ≡ true)
@@ -27,172 +29,208 @@ both-of false b e = absurd (false≢true e)
 pub of-both : {a b : Bool} → a ≡ true → b ≡ true → a && b ≡ true
 of-both e f = rw (e, f)
 
-pub absent-is : (p : Part) → isAbsent p ≡ true → p ≡ Absent
-unfolding isAbsent
-absent-is Absent e = refl
-absent-is (At from len) e = absurd (false≢true e)
+-- ---- the loop's own state: the parts so far, and the triples that are left
 
--- what holds of each identifier that there is, holds of one whose length is right
-pub by-identifier : (P : ℕ → Type 0) → P 1 → P 2 → P 3 → P 4 → P 6 → (n k : ℕ) → rightLength n k ≡ true → P n
-unfolding rightLength
-by-identifier P p1 p2 p3 p4 p6 n k e =
-    go (eqb n 1) refl (eqb n 2) refl (eqb n 3) refl (eqb n 4) refl (eqb n 6) refl e
-  where
-    at : (j : ℕ) → eqb n j ≡ true → P j → P n
-    at j t p = subst P (sym (eqb-true n j t)) p
+-- with the parts f so far a triple n of k octets is taken: its length is right, and it repeats none
+abbrev pub fits : List Identifier → List Slot → ℕ → ℕ → Bool
+fits t f n k = rightLength t n k && isAbsent (partIn f (placeIn n t))
 
-    go : (a : Bool) → eqb n 1 ≡ a → (b : Bool) → eqb n 2 ≡ b → (c : Bool) → eqb n 3 ≡ c → (d : Bool) → eqb n 4 ≡ d
-        → (f : Bool) → eqb n 6 ≡ f
-        → cond a (identityLong k)
-        (cond b (eqb k 1)
-        (cond c (identityLong k) (cond d (eqb k 1) (cond f (eqb k 2) false)))) ≡ true
-        → P n
-    go true t b u c v d w f x y = at 1 t p1
-    go false t true u c v d w f x y = at 2 u p2
-    go false t false u true v d w f x y = at 3 v p3
-    go false t false u false v true w f x y = at 4 w p4
-    go false t false u false v false w true x y = at 6 x p6
-    go false t false u false v false w false x y = absurd (false≢true y)
+abbrev pub formed : List Slot → Found
+formed f = record { formed = true; parts = f }
 
--- a part put down is there, and the others are as they were
-module _ (f : Parts) (p : Part) where
-  pub part-same : (n k : ℕ) → rightLength n k ≡ true → partOf (withPart f n p) n ≡ p
-  unfolding partOf withPart
-  part-same = by-identifier (λ (n : ℕ). partOf (withPart f n p) n ≡ p) refl refl refl refl refl
+unfoldable pub kept : List Identifier → List Slot → ℕ → List Param → Found
+kept t f at [] = formed f
+kept t f at (n is v ∷ ps) =
+    cond (fits t f n (length v))
+    (kept t (set f (placeIn n t) (slot (At (at + 2) (length v)))) (at + 2 + length v) ps) unformed
 
-  pub part-other : (m n k : ℕ) → rightLength n k ≡ true → eqb m n ≡ false → partOf (withPart f n p) m ≡ partOf f m
-  unfolding partOf withPart
-  part-other m =
-      by-identifier (λ (n : ℕ). eqb m n ≡ false → partOf (withPart f n p) m ≡ partOf f m)
-      (λ (e : eqb m 1 ≡ false). rw e) (λ (e : eqb m 2 ≡ false). rw e) (λ (e : eqb m 3 ≡ false). rw e)
-      (λ (e : eqb m 4 ≡ false). rw e) (λ (e : eqb m 6 ≡ false). rw e)
+unfoldable pub keptFrom : List Identifier → List Slot → ℕ → Option (List Param) → Found
+keptFrom t f at none = unformed
+keptFrom t f at (some ps) = kept t f at ps
 
--- an identifier that has its part already is not taken again
-taken-repeat : (n : ℕ) (ps : List Param) (f : Parts) (at : ℕ) → isAbsent (partOf f n) ≡ false
-    → holds n (identifiers ps) ≡ true → taken f at ps ≡ Malformed
-unfolding holds identifiers taken takesPart
-taken-repeat n [] f at a h = absurd (false≢true h)
-taken-repeat n (k is v ∷ ps) f at a h =
-    go (λ (g : Parts) (q : ℕ). taken-repeat n ps g q) (takesPart f k (length v)) refl
-  where
-    go : ((g : Parts) (q : ℕ) → isAbsent (partOf g n) ≡ false → holds n (identifiers ps) ≡ true
-        → taken g q ps ≡ Malformed) → (t : Bool) → takesPart f k (length v) ≡ t
-        → cond t (taken (withPart f k (At (at + 2) (length v))) (at + 2 + length v) ps) Malformed ≡ Malformed
-    go more false e = refl
-    go more true e =
-        let (r, b) = both-of (rightLength k (length v)) (isAbsent (partOf f k)) e in
-        let other : eqb k n ≡ false = ne-eqb k n (λ (i : k ≡ n). true-not-false (sym b ∙ (rw (← i) at a))) in
-        let other' : eqb n k ≡ false = ne-eqb n k (λ (i : n ≡ k). true-not-false (sym b ∙ (rw i at a))) in
-        let a' : isAbsent (partOf (withPart f k (At (at + 2) (length v))) n) ≡ false =
-        rw (part-other f (At (at + 2) (length v)) n k (length v) r other') a in
-        more (withPart f k (At (at + 2) (length v))) (at + 2 + length v) a' (rw other at h)
+-- the place for a triple's part, by the row at the place p of its identifier
+module _ (t : List Identifier) (f : List Slot) (n k : ℕ) (d : Identifier) (p : ℕ) (e : p ≡ placeIn n t)
+    (five : length t ≡ 5) where
+  fits-at : p < 5
+      → fits t f n k ≡ ((leb (getD t p d .least) k && leb k (getD t p d .most)) && isAbsent (partIn f p))
+  fits-at h =
+      let inside : placeIn n t < length t = omega (arith, h, e, five) in
+      rw e (ap (λ (b : Bool). b && isAbsent (partIn f (placeIn n t))) (right-at t n k d inside))
 
--- a wrong length or a repeat among them: malformed
-taken-bad : (ps : List Param) (f : Parts) (at : ℕ) → allRight ps && noneTwice (identifiers ps) ≡ false
-    → taken f at ps ≡ Malformed
-unfolding allRight noneTwice identifiers taken takesPart isAbsent
-taken-bad [] f at h = absurd (false≢true (sym h))
-taken-bad (n is v ∷ ps) f at h =
-    go
-    (λ (k : allRight ps && noneTwice (identifiers ps) ≡ false).
-    taken-bad ps (withPart f n (At (at + 2) (length v))) (at + 2 + length v) k)
-    (takesPart f n (length v)) refl (holds n (identifiers ps)) refl
-  where
-    next : Found
-    next = taken (withPart f n (At (at + 2) (length v))) (at + 2 + length v) ps
+  pub room-there : p < 5 → leb (getD t p d .least) k && leb k (getD t p d .most) ≡ true
+      → isAbsent (partIn f p) ≡ true → p ≡ cond (fits t f n k) (placeIn n t) 5
+  room-there h a b = e ∙ sym (ap (λ (x : Bool). cond x (placeIn n t) 5) (fits-at h ∙ of-both a b))
 
-    go : (allRight ps && noneTwice (identifiers ps) ≡ false → next ≡ Malformed)
-        → (t : Bool) → takesPart f n (length v) ≡ t → (u : Bool) → holds n (identifiers ps) ≡ u
-        → cond t next Malformed ≡ Malformed
-    go more false e u d = refl
-    go more true e true d =
-        let (r, b) = both-of (rightLength n (length v)) (isAbsent (partOf f n)) e in
-        let there = ap isAbsent (part-same f (At (at + 2) (length v)) n (length v) r) in
-        taken-repeat n ps (withPart f n (At (at + 2) (length v))) (at + 2 + length v) there d
-    go more true e false d =
-        let (r, b) = both-of (rightLength n (length v)) (isAbsent (partOf f n)) e in
-        more (rw (r, d) at h)
+  pub room-repeat : p < 5 → leb (getD t p d .least) k && leb k (getD t p d .most) ≡ true
+      → isAbsent (partIn f p) ≡ false → 5 ≡ cond (fits t f n k) (placeIn n t) 5
+  room-repeat h a b =
+      let no : fits t f n k ≡ false = fits-at h ∙ rw (a, b) in sym (ap (λ (x : Bool). cond x (placeIn n t) 5) no)
 
--- the parts of f, and behind them those of the triples
-abbrev first : Part → Part → Part
-first Absent q = q
-first (At from len) q = At from len
+  pub room-length : p < 5 → leb (getD t p d .least) k && leb k (getD t p d .most) ≡ false
+      → 5 ≡ cond (fits t f n k) (placeIn n t) 5
+  room-length h a =
+      let no : fits t f n k ≡ false = fits-at h ∙ rw a in sym (ap (λ (x : Bool). cond x (placeIn n t) 5) no)
 
-unfoldable merged : Parts → ℕ → List Param → Parts
-merged f at ps =
-    record {
-      identity = first (f .identity) (partAt 1 at ps);
-      address = first (f .address) (partAt 2 at ps);
-      mask = first (f .mask) (partAt 3 at ps);
-      kind = first (f .kind) (partAt 4 at ps);
-      vendor = first (f .vendor) (partAt 6 at ps);
-    }
+  pub room-none : 5 ≤ p → 5 ≡ cond (fits t f n k) (placeIn n t) 5
+  room-none h =
+      let past : length t ≤ placeIn n t = omega (arith, h, e, five) in
+      rw (right-past t n k past)
 
-first-absent : (p : Part) → first p Absent ≡ p
-first-absent Absent = refl
-first-absent (At from len) = refl
+-- and back: a place inside the table is that of a triple that is taken
+module _ (t : List Identifier) (f : List Slot) (n k p : ℕ) (e : p ≡ cond (fits t f n k) (placeIn n t) 5) where
+  pub room-taken : p < 5 → (fits t f n k ≡ true) × (p ≡ placeIn n t)
+  room-taken h = go (fits t f n k) refl e
+    where
+      go : (b : Bool) → fits t f n k ≡ b → p ≡ cond b (placeIn n t) 5 → (fits t f n k ≡ true) × (p ≡ placeIn n t)
+      go true d i = (d, i)
+      go false d i = let no : ⊥ = omega arith in absurd no
 
-merged-none : (f : Parts) (at : ℕ) → merged f at [] ≡ f
-unfolding merged partAt
-merged-none f at = simp first-absent
+  pub room-left : length t ≡ 5 → 5 ≤ p → fits t f n k ≡ false
+  room-left five h = go (fits t f n k) refl e
+    where
+      go : (b : Bool) → fits t f n k ≡ b → p ≡ cond b (placeIn n t) 5 → fits t f n k ≡ false
+      go true d i =
+          let (r, a) = both-of (rightLength t n k) (isAbsent (partIn f (placeIn n t))) d in
+          let inside = right-inside t n k r in
+          let no : ⊥ = omega arith in
+          absurd no
+      go false d i = d
 
-merged-one : (f : Parts) (at n : ℕ) (v : List ℕ) (ps : List Param) → rightLength n (length v) ≡ true
-    → isAbsent (partOf f n) ≡ true
-    → merged (withPart f n (At (at + 2) (length v))) (at + 2 + length v) ps ≡ merged f at (n is v ∷ ps)
-unfolding merged partOf withPart partAt
-merged-one f at n v ps r a =
-    by-identifier
-    (λ (j : ℕ).
-    partOf f j ≡ Absent
-    → merged (withPart f j (At (at + 2) (length v))) (at + 2 + length v) ps ≡ merged f at (j is v ∷ ps))
-    (λ (e : f .identity ≡ Absent). rw e) (λ (e : f .address ≡ Absent). rw e) (λ (e : f .mask ≡ Absent). rw e)
-    (λ (e : f .kind ≡ Absent). rw e) (λ (e : f .vendor ≡ Absent). rw e) n (length v) r (absent-is (partOf f n) a)
+-- ---- a part put down is there, and the others are as they were
 
--- none of these identifiers has a part yet
-abbrev Fresh : Parts → List ℕ → Type 0
-Fresh f [] = Unit {0}
-Fresh f (n ∷ ns) = (isAbsent (partOf f n) ≡ true) × Fresh f ns
+abbrev partOf : Slot → Part
+partOf s = s .part
 
-fresh-more : (f : Parts) (p : Part) (n k : ℕ) (ns : List ℕ) → rightLength n k ≡ true → holds n ns ≡ false → Fresh f ns
-    → Fresh (withPart f n p) ns
-fresh-more f p n k [] r h fs = tt
-fresh-more f p n k (m ∷ ns) r h fs =
-    let other = ne-eqb m n (holds-head n m ns h) in
-    (rw (part-other f p m n k r other) (fs .0), fresh-more f p n k ns r (holds-tail n m ns h) (fs .1))
+module _ (t : List Identifier) (f : List Slot) (x : Slot) (n : ℕ) (h : placeIn n t < length t) where
+  pub part-same : length f ≡ length t → partIn (set f (placeIn n t) x) (placeIn n t) ≡ x .part
+  part-same e = ap partOf (getD-set-same f (placeIn n t) x (slot Absent) (rw e h))
 
-taken-good : (ps : List Param) (f : Parts) (at : ℕ) → allRight ps ≡ true → noneTwice (identifiers ps) ≡ true
-    → Fresh f (identifiers ps) → taken f at ps ≡ Formed (merged f at ps)
-unfolding allRight noneTwice identifiers taken takesPart
-taken-good [] f at r t fs = ap Formed (sym (merged-none f at))
-taken-good (n is v ∷ ps) f at r t fs =
-    let (here, more) = both-of (rightLength n (length v)) (allRight ps) r in
-    let (new, rest) = both-of (not (holds n (identifiers ps))) (noneTwice (identifiers ps)) t in
-    let fresh = fresh-more f (At (at + 2) (length v)) n (length v) (identifiers ps) here (not-true _ new) (fs .1) in
-    rw (here, fs .0)
-    (taken-good ps _ (at + 2 + length v) more rest fresh ∙ ap Formed (merged-one f at n v ps here (fs .0)))
+  part-other : (k : ℕ) → (k ≡ n → ⊥) → partIn (set f (placeIn n t) x) (placeIn k t) ≡ partIn f (placeIn k t)
+  part-other k apart =
+      ap partOf (getD-set-other f (placeIn n t) (placeIn k t) x (slot Absent) (places-apart t n k h apart))
 
-absent-always : (b : Bool) → cond b Absent Absent ≡ Absent
-absent-always true = refl
-absent-always false = refl
+-- ---- a wrong length or a repeat
 
-fresh-none : (ns : List ℕ) → Fresh noParts ns
-unfolding partOf isAbsent
-fresh-none [] = tt
-fresh-none (n ∷ ns) = (simp absent-always, fresh-none ns)
+module _ (t : List Identifier) where
+  -- an identifier that has its part already is not taken again
+  kept-repeat : (n : ℕ) (ps : List Param) (f : List Slot) (at : ℕ) → isAbsent (partIn f (placeIn n t)) ≡ false
+      → holds n (identifiers ps) ≡ true → kept t f at ps ≡ unformed
+  unfolding holds identifiers kept
+  kept-repeat n [] f at a h = absurd (false≢true h)
+  kept-repeat n (k is v ∷ ps) f at a h =
+      go (λ (g : List Slot) (q : ℕ). kept-repeat n ps g q) (fits t f k (length v)) refl
+    where
+      x : Slot
+      x = slot (At (at + 2) (length v))
 
-merged-all : (ps : List Param) → merged noParts 3 ps ≡ partsAt 3 ps
-unfolding merged partsAt
-merged-all ps = refl
+      go : ((g : List Slot) (q : ℕ) → isAbsent (partIn g (placeIn n t)) ≡ false → holds n (identifiers ps) ≡ true
+          → kept t g q ps ≡ unformed) → (b : Bool) → fits t f k (length v) ≡ b
+          → cond b (kept t (set f (placeIn k t) x) (at + 2 + length v) ps) unformed ≡ unformed
+      go more false e = refl
+      go more true e =
+          let (r, b) = both-of (rightLength t k (length v)) (isAbsent (partIn f (placeIn k t))) e in
+          let apart : k ≡ n → ⊥ = λ (i : k ≡ n). true-not-false (sym b ∙ (rw (← i) at a)) in
+          let other = part-other t f x k (right-inside t k (length v) r) n (λ (i : n ≡ k). apart (sym i)) in
+          more (set f (placeIn k t) x) (at + 2 + length v) (rw other a) (rw (ne-eqb k n apart) at h)
 
--- all triples, from the first: the definition's parts, or malformed
-pub taken-all : (x : Option (List Param)) → takenFrom noParts 3 x ≡ walked (checked x)
-unfolding takenFrom walked checked
-taken-all none = refl
-taken-all (some ps) = go (allRight ps && noneTwice (identifiers ps)) refl
-  where
-    go : (t : Bool) → allRight ps && noneTwice (identifiers ps) ≡ t
-        → taken noParts 3 ps ≡ walked (cond t (some ps) none)
-    go true e =
-        let (r, o) = both-of (allRight ps) (noneTwice (identifiers ps)) e in
-        taken-good ps noParts 3 r o (fresh-none (identifiers ps)) ∙ ap Formed (merged-all ps)
-    go false e = taken-bad ps noParts 3 e
+  kept-bad : (ps : List Param) (f : List Slot) (at : ℕ) → length f ≡ length t
+      → allRight t ps && noneTwice (identifiers ps) ≡ false → kept t f at ps ≡ unformed
+  unfolding allRight noneTwice identifiers kept isAbsent
+  kept-bad [] f at l h = absurd (false≢true (sym h))
+  kept-bad (n is v ∷ ps) f at l h =
+      go (kept-bad ps (set f (placeIn n t) x) (at + 2 + length v) (length-set f (placeIn n t) x ∙ l))
+      (fits t f n (length v)) refl (holds n (identifiers ps)) refl
+    where
+      x : Slot
+      x = slot (At (at + 2) (length v))
+
+      next : Found
+      next = kept t (set f (placeIn n t) x) (at + 2 + length v) ps
+
+      go : (allRight t ps && noneTwice (identifiers ps) ≡ false → next ≡ unformed)
+          → (b : Bool) → fits t f n (length v) ≡ b → (u : Bool) → holds n (identifiers ps) ≡ u
+          → cond b next unformed ≡ unformed
+      go more false e u d = refl
+      go more true e true d =
+          let (r, b) = both-of (rightLength t n (length v)) (isAbsent (partIn f (placeIn n t))) e in
+          let there = ap isAbsent (part-same t f x n (right-inside t n (length v) r) l) in
+          kept-repeat n ps (set f (placeIn n t) x) (at + 2 + length v) there d
+      go more true e false d =
+          let (r, b) = both-of (rightLength t n (length v)) (isAbsent (partIn f (placeIn n t))) e in
+          more (rw (r, d) at h)
+
+  -- ---- right lengths, and none twice
+
+  -- the parts of f, and over them those of the triples
+  unfoldable laid : List Slot → ℕ → List Param → List Slot
+  laid f at [] = f
+  laid f at (n is v ∷ ps) = set (laid f (at + 2 + length v) ps) (placeIn n t) (slot (At (at + 2) (length v)))
+
+  laid-set : (f : List Slot) (x : Slot) (n : ℕ) → placeIn n t < length t → (ps : List Param) (at : ℕ)
+      → holds n (identifiers ps) ≡ false → laid (set f (placeIn n t) x) at ps ≡ set (laid f at ps) (placeIn n t) x
+  unfolding laid identifiers
+  laid-set f x n h [] at e = refl
+  laid-set f x n h (k is v ∷ ps) at e =
+      let y = slot (At (at + 2) (length v)) in
+      let apart = places-apart t n k h (holds-head n k (identifiers ps) e) in
+      ap (λ (l : List Slot). set l (placeIn k t) y)
+      (laid-set f x n h ps (at + 2 + length v) (holds-tail n k (identifiers ps) e))
+      ∙ set-comm (laid f (at + 2 + length v) ps) (placeIn n t) (placeIn k t) x y
+      (λ (i : placeIn n t ≡ placeIn k t). apart (sym i))
+
+  -- none of these identifiers has a part yet
+  abbrev Fresh : List Slot → List ℕ → Type 0
+  Fresh f [] = Unit {0}
+  Fresh f (n ∷ ns) = (isAbsent (partIn f (placeIn n t)) ≡ true) × Fresh f ns
+
+  fresh-more : (f : List Slot) (x : Slot) (n : ℕ) → placeIn n t < length t → (ns : List ℕ) → holds n ns ≡ false
+      → Fresh f ns → Fresh (set f (placeIn n t) x) ns
+  fresh-more f x n h [] e fs = tt
+  fresh-more f x n h (k ∷ ns) e fs =
+      (rw (part-other t f x n h k (holds-head n k ns e)) (fs .0), fresh-more f x n h ns (holds-tail n k ns e) (fs .1))
+
+  kept-good : (ps : List Param) (f : List Slot) (at : ℕ) → allRight t ps ≡ true → noneTwice (identifiers ps) ≡ true
+      → Fresh f (identifiers ps) → kept t f at ps ≡ formed (laid f at ps)
+  unfolding allRight noneTwice identifiers kept laid
+  kept-good [] f at r o fs = refl
+  kept-good (n is v ∷ ps) f at r o fs =
+      let x = slot (At (at + 2) (length v)) in
+      let (here, more) = both-of (rightLength t n (length v)) (allRight t ps) r in
+      let (new, rest) = both-of (not (holds n (identifiers ps))) (noneTwice (identifiers ps)) o in
+      let once = not-true (holds n (identifiers ps)) new in
+      let h = right-inside t n (length v) here in
+      let fresh = fresh-more f x n h (identifiers ps) once (fs .1) in
+      rw (here, fs .0)
+      (kept-good ps (set f (placeIn n t) x) (at + 2 + length v) more rest fresh
+      ∙ ap formed (laid-set f x n h ps (at + 2 + length v) once))
+
+  absent-none : (k i : ℕ) → isAbsent (partIn (noParts k) i) ≡ true
+  unfolding isAbsent
+  absent-none zero i = refl
+  absent-none (suc k) zero = refl
+  absent-none (suc k) (suc i) = absent-none k i
+
+  fresh-none : (k : ℕ) (ns : List ℕ) → Fresh (noParts k) ns
+  fresh-none k [] = tt
+  fresh-none k (n ∷ ns) = (absent-none k (placeIn n t), fresh-none k ns)
+
+  laid-all : (at : ℕ) (ps : List Param) → laid (noParts (length t)) at ps ≡ partsAt t at ps
+  unfolding laid partsAt
+  laid-all at [] = refl
+  laid-all at (n is v ∷ ps) =
+      ap (λ (l : List Slot). set l (placeIn n t) (slot (At (at + 2) (length v)))) (laid-all (at + 2 + length v) ps)
+
+  -- all triples, from the first: the definition's parts, or malformed
+  pub kept-all : (k : ℕ) → k ≡ length t → (at : ℕ) (x : Option (List Param))
+      → keptFrom t (noParts k) at x ≡ foundFrom at t (checked t x)
+  unfolding keptFrom foundFrom checked
+  kept-all k l at none = refl
+  kept-all k l at (some ps) = go (allRight t ps && noneTwice (identifiers ps)) refl
+    where
+      go : (b : Bool) → allRight t ps && noneTwice (identifiers ps) ≡ b
+          → kept t (noParts k) at ps ≡ foundFrom at t (cond b (some ps) none)
+      go true e =
+          let (r, o) = both-of (allRight t ps) (noneTwice (identifiers ps)) e in
+          kept-good ps (noParts k) at r o (fresh-none k (identifiers ps))
+          ∙ ap (λ (j : ℕ). formed (laid (noParts j) at ps)) l ∙ ap formed (laid-all at ps)
+      go false e = kept-bad ps (noParts k) at (length-replicate k (slot Absent) ∙ l) e

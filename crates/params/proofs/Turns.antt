@@ -9,18 +9,19 @@ use native.Mathlib.Nat.{not-suc-le-zero, le-of-suc-le-suc}
 use native.Mathlib.Omega.{arith}
 use borrow.Author.Tests.{le-leb, eq-eqb}
 use lib.Dec.{eqb}
-use lib.ListN.{length, getD, take, drop, drop-of-length-le, length-drop}
+use lib.ListN.{length, getD, set, take, drop, drop-of-length-le, length-drop}
 use lib.Seq.{take-all, take-nil, drop-drop, length-take-le}
 use Rattle.octets.proofs.Takes.{take-rest}
 use Rattle.octets.proofs.Rest.{rest}
 use Rattle.reader.specs.declared.Stands.the-variants.{End, Broken, Triple}
 use Rattle.reader.proofs.Steps.{Means}
-use Rattle.params.specs.Field.{Param, _is_, before, triplesAfter, triplesOf, opened}
-use Rattle.params.specs.Walk.{takesPart, withPart, taken, takenFrom}
+use Rattle.params.specs.Field.{Param, _is_, before, triplesAfter, triplesOf, opened, format}
+use Rattle.params.specs.Walk.{placeIn, slot, unformed}
 use Rattle.params.specs.declared.Part.the-variants.{At}
-use Rattle.params.specs.declared.Parts.{Parts}
+use Rattle.params.specs.declared.Identifier.{Identifier}
+use Rattle.params.specs.declared.Slot.{Slot}
 use Rattle.params.specs.declared.Found.{Found}
-use Rattle.params.specs.declared.Found.the-variants.{Malformed, Formed}
+use Rattle.params.proofs.Kept.{fits, formed, kept, keptFrom}
 
 -- a part of a slice: past its end, as far as it goes, whole
 module _ (s : List ℕ) (from len : ℕ) where
@@ -37,11 +38,11 @@ module _ (s : List ℕ) (from len : ℕ) where
   pub part-whole : take (from + len - from) (drop from s) ≡ take len (drop from s)
   part-whole = let n : from + len - from ≡ len = omega arith in rw n
 
-pub opens-right : (m : List ℕ) (x : ℕ) → 3 ≤ length m → getD m 0 0 ≡ 0x81 → getD m 1 0 ≡ 0xF0 → x ≡ getD m 2 0
-    → eqb x (length m - 3) ≡ opened m
+pub opens-right : (o : ℕ) (m : List ℕ) (x : ℕ) → 3 ≤ length m → getD m 0 0 ≡ format → getD m 1 0 ≡ o → x ≡ getD m 2 0
+    → eqb x (length m - 3) ≡ opened o m
 unfolding opened
-opens-right m x h a b e =
-    simp (le-leb 3 (length m) h, eq-eqb (getD m 0 0) 0x81 a, eq-eqb (getD m 1 0) 0xF0 b, sym e)
+opens-right o m x h a b e =
+    simp (le-leb 3 (length m) h, eq-eqb (getD m 0 0) format a, eq-eqb (getD m 1 0) o b, sym e)
 
 -- the octets of a value passed over: they are there, or they are not
 pub skip : (k : ℕ) (xs : List ℕ) → k ≤ length xs → triplesAfter k xs ≡ triplesOf (drop k xs)
@@ -89,41 +90,42 @@ module _ (m : List ℕ) (at : ℕ) where
   value-whole {n} {from} {len} h = length-take-le len (drop from m) (rw length-drop (omega (arith, h .0, h .2)))
 
 -- what becomes of a triple: it is taken, or the payload is malformed
-module _ (f : Parts) (at n : ℕ) (v : List ℕ) where
-  taken-one : (x : Option (List Param)) → takesPart f n (length v) ≡ true
-      → takenFrom f at (before (n is v) x)
-      ≡ takenFrom (withPart f n (At (at + 2) (length v))) (at + 2 + length v) x
-  unfolding takenFrom before taken
-  taken-one none e = refl
-  taken-one (some ps) e = rw e
+module _ (t : List Identifier) (f : List Slot) (at n : ℕ) (v : List ℕ) where
+  kept-one : (x : Option (List Param)) → fits t f n (length v) ≡ true
+      → keptFrom t f at (before (n is v) x)
+      ≡ keptFrom t (set f (placeIn n t) (slot (At (at + 2) (length v)))) (at + 2 + length v) x
+  unfolding keptFrom before kept
+  kept-one none e = refl
+  kept-one (some ps) e = rw e
 
-  taken-not : (x : Option (List Param)) → takesPart f n (length v) ≡ false
-      → takenFrom f at (before (n is v) x) ≡ Malformed
-  unfolding takenFrom before taken
-  taken-not none e = refl
-  taken-not (some ps) e = rw e
+  kept-not : (x : Option (List Param)) → fits t f n (length v) ≡ false
+      → keptFrom t f at (before (n is v) x) ≡ unformed
+  unfolding keptFrom before kept
+  kept-not none e = refl
+  kept-not (some ps) e = rw e
 
 -- a turn of the loop, where what is left comes to w
-module _ (f : Parts) (m : List ℕ) (at : ℕ) {w : Found} (v : takenFrom f at (triplesOf (drop at m)) ≡ w) where
-  pub turn-end : Means m at End → Formed f ≡ w
-  unfolding takenFrom taken
+module _ (t : List Identifier) (f : List Slot) (m : List ℕ) (at : ℕ) {w : Found}
+    (v : keptFrom t f at (triplesOf (drop at m)) ≡ w) where
+  pub turn-end : Means m at End → formed f ≡ w
+  unfolding keptFrom kept
   turn-end h = rw (triples-end m at h) at v
 
-  pub turn-broken : Means m at Broken → Malformed ≡ w
-  unfolding takenFrom
+  pub turn-broken : Means m at Broken → unformed ≡ w
+  unfolding keptFrom
   turn-broken h = rw (triples-broken m at h) at v
 
   module _ {n from len : ℕ} (h : Means m at (Triple n from len)) where
-    pub turn-not : takesPart f n len ≡ false → Malformed ≡ w
+    pub turn-not : fits t f n len ≡ false → unformed ≡ w
     turn-not e =
         let x = triplesOf (drop (from + len) m) in
-        let e' : takesPart f n (length (take len (drop from m))) ≡ false = rw (value-whole m at h) e in
-        sym (taken-not f at n (take len (drop from m)) x e') ∙ (rw (triples-whole m at h) at v)
+        let e' : fits t f n (length (take len (drop from m))) ≡ false = rw (value-whole m at h) e in
+        sym (kept-not t f at n (take len (drop from m)) x e') ∙ (rw (triples-whole m at h) at v)
 
-    pub turn-more : {g : Parts} → takesPart f n len ≡ true → g ≡ withPart f n (At from len)
-        → takenFrom g (from + len) (triplesOf (drop (from + len) m)) ≡ w
-    turn-more e s =
+    pub turn-more : fits t f n len ≡ true
+        → keptFrom t (set f (placeIn n t) (slot (At from len))) (from + len) (triplesOf (drop (from + len) m)) ≡ w
+    turn-more e =
         let x = triplesOf (drop (from + len) m) in
-        let e' : takesPart f n (length (take len (drop from m))) ≡ true = rw (value-whole m at h) e in
-        let one = taken-one f at n (take len (drop from m)) x e' in
-        rw (s, h .2) (sym (rw (value-whole m at h, h .2) at one) ∙ (rw (triples-whole m at h, h .2) at v))
+        let e' : fits t f n (length (take len (drop from m))) ≡ true = rw (value-whole m at h) e in
+        let one = kept-one t f at n (take len (drop from m)) x e' in
+        rw (h .2) (sym (rw (value-whole m at h, h .2) at one) ∙ (rw (triples-whole m at h, h .2) at v))

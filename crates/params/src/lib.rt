@@ -1,12 +1,32 @@
-// The parameter field of an XID payload, read where it lies by the reader of crate reader.
-// Headline: the walk finds exactly the parameters whose triples make up the payload, for octets of any content
-// (proofs/Exact.antt, proofs/Values.antt). Assumes nothing of its caller.
+// The parameter field of an XID payload, over its group, read where it lies by the reader of crate reader.
+// Headline: for every group the walk finds exactly the parameters whose triples make up the payload, for octets of any
+// content (proofs/Exact.antt, proofs/Values.antt). Assumes nothing of its caller.
 ghost use mathlib.Core.Path.{_≡_};
+ghost use mathlib.Core.Bool.{cond, _&&_};
+ghost use lib.Dec.{leb};
 ghost use lib.ListN.{take, drop};
-ghost use Rattle.params.specs.Field.{identityLong, rightLength, opened, triplesOf};
-ghost use Rattle.params.specs.Walk.{isAbsent, partOf, partsOf, withPart, takesPart, noParts};
-ghost use Rattle.params.specs.Walk.{takenFrom, walkOf};
+ghost use Rattle.params.specs.Field.{tableRows, rightLength, opened, triplesOf, checked};
+ghost use Rattle.params.specs.Walk.{placeIn, partIn, isAbsent, unformed, foundFrom, foundIn};
 use reader::Stands;
+
+// The most identifiers that a group has.
+pub const ROWS: usize = 5;
+
+// The octet that every payload begins with.
+const FORMAT: u8 = 0x81;
+
+// An identifier of a group, and how many octets its value may have.
+pub struct Identifier {
+    pub id: u8,
+    pub least: usize,
+    pub most: usize,
+}
+
+// A group of parameters. Where it has fewer identifiers, its last rows have a least above their most: none is right.
+pub struct Group {
+    pub octet: u8,
+    pub table: [Identifier; ROWS],
+}
 
 // Where the value of a parameter stands, if it is given.
 pub enum Part {
@@ -14,18 +34,15 @@ pub enum Part {
     At { from: usize, len: usize },
 }
 
-// One part for each identifier that there is.
-pub struct Parts {
-    pub identity: Part,
-    pub address: Part,
-    pub mask: Part,
-    pub kind: Part,
-    pub vendor: Part,
+// A part as an array's element: an array in a struct cannot hold enums themselves.
+pub struct Slot {
+    pub part: Part,
 }
 
-pub enum Found {
-    Malformed,
-    Formed(Parts),
+// Whether the payload is well formed; the part of each identifier, at its place in the table.
+pub struct Found {
+    pub formed: bool,
+    pub parts: [Slot; ROWS],
 }
 
 // The octets of a part of a slice, as far as it goes.
@@ -44,33 +61,38 @@ pub fn value_at(s: &[u8], from: usize, len: usize) -> &[u8]
     &s[from..end]
 }
 
-fn identity_long(len: usize) -> bool
-    ensures { λ r. ⌜ r ≡ identityLong len ⌝ }
+// The part of a row of the table; past it there is none.
+pub fn part_at(parts: [Slot; ROWS], row: usize) -> Part
+    ensures { λ r. ⌜ r ≡ partIn parts row ⌝ }
 {
-    if len < 1 {
-        return false;
+    if row < ROWS {
+        let slot = parts[row];
+        return slot.part;
     }
-    len <= identity::OCTETS
+    Part::Absent
 }
 
-// Whether a parameter of this identifier may be so long.
-fn right_length(id: u8, len: usize) -> bool
-    ensures { λ r. ⌜ r ≡ rightLength id len ⌝ }
+// The first row of an identifier.
+fn place_of(table: [Identifier; ROWS], id: u8) -> usize
+    ensures { λ r. ⌜ r ≡ placeIn id table ⌝ }
 {
-    if id == 1 {
-        return identity_long(len);
+    let mut i = 0;
+    while i < ROWS {
+        let row = table[i];
+        if row.id == id {
+            return i;
+        }
+        i += 1;
     }
-    if id == 2 {
-        return len == 1;
-    }
-    if id == 3 {
-        return identity_long(len);
-    }
-    if id == 4 {
-        return len == 1;
-    }
-    if id == 6 {
-        return len == 2;
+    i
+}
+
+// Whether a row allows so many octets.
+fn allows(row: Identifier, len: usize) -> bool
+    ensures { λ r. ⌜ r ≡ (leb (row .least) len && leb len (row .most)) ⌝ }
+{
+    if row.least <= len {
+        return len <= row.most;
     }
     false
 }
@@ -84,87 +106,38 @@ fn is_absent(part: Part) -> bool
     }
 }
 
-fn part_of(parts: Parts, id: u8) -> Part
-    ensures { λ r. ⌜ r ≡ partOf parts id ⌝ }
+// The place for the part of a triple that is taken: its length is right, and it repeats none. ROWS for any other.
+fn room_for(table: [Identifier; ROWS], parts: [Slot; ROWS], id: u8, len: usize) -> usize
+    ensures { λ r. ⌜ r ≡ cond (rightLength table id len && isAbsent (partIn parts (placeIn id table)))
+        (placeIn id table) tableRows ⌝ }
 {
-    if id == 1 {
-        return parts.identity;
+    let place = place_of(table, id);
+    if place < ROWS {
+        let row = table[place];
+        if allows(row, len) {
+            if is_absent(part_at(parts, place)) {
+                return place;
+            }
+        }
     }
-    if id == 2 {
-        return parts.address;
-    }
-    if id == 3 {
-        return parts.mask;
-    }
-    if id == 4 {
-        return parts.kind;
-    }
-    if id == 6 {
-        return parts.vendor;
-    }
-    Part::Absent
+    ROWS
 }
 
-fn parts_of(identity: Part, address: Part, mask: Part, kind: Part, vendor: Part) -> Parts
-    ensures { λ r. ⌜ r ≡ partsOf identity address mask kind vendor ⌝ }
+// Nothing found: no part is given.
+fn malformed() -> Found
+    ensures { λ r. ⌜ r ≡ unformed ⌝ }
 {
-    Parts {
-        identity,
-        address,
-        mask,
-        kind,
-        vendor,
+    Found {
+        formed: false,
+        parts: [Slot { part: Part::Absent }; ROWS],
     }
-}
-
-fn with_part(parts: Parts, id: u8, part: Part) -> Parts
-    ensures { λ r. ⌜ r ≡ withPart parts id part ⌝ }
-{
-    let identity = parts.identity;
-    let address = parts.address;
-    let mask = parts.mask;
-    let kind = parts.kind;
-    let vendor = parts.vendor;
-    if id == 1 {
-        return parts_of(part, address, mask, kind, vendor);
-    }
-    if id == 2 {
-        return parts_of(identity, part, mask, kind, vendor);
-    }
-    if id == 3 {
-        return parts_of(identity, address, part, kind, vendor);
-    }
-    if id == 4 {
-        return parts_of(identity, address, mask, part, vendor);
-    }
-    if id == 6 {
-        return parts_of(identity, address, mask, kind, part);
-    }
-    parts
-}
-
-// Whether a triple is taken: its length is right, and it repeats none.
-fn takes(parts: Parts, id: u8, len: usize) -> bool
-    ensures { λ r. ⌜ r ≡ takesPart parts id len ⌝ }
-{
-    if right_length(id, len) {
-        let there = part_of(parts, id);
-        return is_absent(there);
-    }
-    false
 }
 
 // The triples from a place on, to the end.
-fn walk_from(s: &[u8], start: usize) -> Found
-    ensures { λ r. ⌜ r ≡ takenFrom noParts start (triplesOf (drop start (now (s .entry)))) ⌝ }
+fn walk_from(s: &[u8], start: usize, table: [Identifier; ROWS]) -> Found
+    ensures { λ r. ⌜ r ≡ foundFrom start table (checked table (triplesOf (drop start (now (s .entry))))) ⌝ }
 {
-    let mut parts = Parts {
-        identity: Part::Absent,
-        address: Part::Absent,
-        mask: Part::Absent,
-        kind: Part::Absent,
-        vendor: Part::Absent,
-    };
+    let mut parts = [Slot { part: Part::Absent }; ROWS];
     let mut at = start;
     loop {
         let step = reader::next_at(s, at);
@@ -172,17 +145,23 @@ fn walk_from(s: &[u8], start: usize) -> Found
         let found = step.found;
         match found {
             Stands::End => {
-                return Found::Formed(parts);
+                return Found {
+                    formed: true,
+                    parts,
+                };
             }
             Stands::Broken => {
-                return Found::Malformed;
+                return malformed();
             }
             Stands::Triple { id, from, len } => {
-                if takes(parts, id, len) {
-                    parts = with_part(parts, id, Part::At { from, len });
+                let place = room_for(table, parts, id, len);
+                if place < ROWS {
+                    parts[place] = Slot {
+                        part: Part::At { from, len },
+                    };
                     at = cursor;
                 } else {
-                    return Found::Malformed;
+                    return malformed();
                 }
             }
         }
@@ -196,29 +175,31 @@ fn wide(x: u8) -> usize
     x as usize
 }
 
-// Whether the payload opens as it must: 0x81, 0xF0, a length equal to all that follows.
-fn opens(payload: &[u8]) -> bool
-    ensures { λ r. ⌜ r ≡ opened (now (payload .entry)) ⌝ }
+// Whether the payload opens as it must: 0x81, the group's octet, a length equal to all that follows.
+fn opens(payload: &[u8], octet: u8) -> bool
+    ensures { λ r. ⌜ r ≡ opened octet (now (payload .entry)) ⌝ }
 {
     let n = payload.len();
     if n < 3 {
         return false;
     }
-    if payload[0] != 0x81 {
+    if payload[0] != FORMAT {
         return false;
     }
-    if payload[1] != 0xF0 {
+    if payload[1] != octet {
         return false;
     }
     wide(payload[2]) == n - 3
 }
 
-// The parameters of a payload, if it is well formed.
-pub fn walk(payload: &[u8]) -> Found
-    ensures { λ r. ⌜ r ≡ walkOf (now (payload .entry)) ⌝ }
+// The parameters of a payload of this group, if it is well formed.
+pub fn walk(payload: &[u8], group: Group) -> Found
+    ensures { λ r. ⌜ r ≡ foundIn group (now (payload .entry)) ⌝ }
 {
-    if opens(payload) {
-        return walk_from(payload, 3);
+    let octet = group.octet;
+    let table = group.table;
+    if opens(payload, octet) {
+        return walk_from(payload, 3, table);
     }
-    Found::Malformed
+    malformed()
 }

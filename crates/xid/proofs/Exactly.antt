@@ -18,9 +18,9 @@ use Rattle.identity.proofs.Scans.{same-is, is-same}
 use Rattle.compare.specs.Rows.{rightmost, endsWith}
 use Rattle.record.specs.Allowed.{addressed}
 use Rattle.params.specs.Field.{given, octetsIn}
-use Rattle.params.specs.Field.{Values, valuesOf}
 use Rattle.params.proofs.Exact.{one-reading}
 use Rattle.params.proofs.Kept.{both-of, of-both}
+use Rattle.xid.specs.Addressing.{addressing, Values, valuesOf}
 use Rattle.xid.specs.Match.{deviceType, isScan, scanShape, isAssignment, assignmentShape, scanMatches, addressOf}
 use Rattle.xid.specs.Match.{identityMatches, kindMatches, vendorMatches, badAddress, otherIdentity, otherType}
 use Rattle.xid.specs.Match.{otherVendor, otherScan, readOf}
@@ -212,7 +212,7 @@ module _ (w : Values) where
 
 pub never-both : (m v k : List ℕ) (a : ℕ) (x y z : Option (List ℕ)) → ScanOf m v k → AssignmentOf m a x y z → ⊥
 never-both m v k a x y z s t =
-    let one = one-reading m (s .params) (t .params) (s .formed) (t .formed) in
+    let one = one-reading addressing m (s .params) (t .params) (s .formed) (t .formed) in
     let e = ap (λ (w : Values). w .mask) (sym (s .values) ∙ ap valuesOf one ∙ t .values) in
     let n : _≡_ {A = ℕ} 0 1 = cc in
     omega arith

@@ -9,9 +9,10 @@ use Rattle.identity.specs.Bits.{masked}
 use Rattle.identity.specs.Identity.{padded, same, answersScan}
 use Rattle.compare.specs.Rows.{endsWith}
 use Rattle.record.specs.Allowed.{addressed}
-use Rattle.params.specs.Field.{opened, triplesAfter, before, checked, allRight, rightLength, identityLong, identifiers}
-use Rattle.params.specs.Field.{noneTwice, paramsOf, valueOf, valuesOf, given, octetsIn}
+use Rattle.params.specs.Field.{opened, triplesAfter, before, checked, allRight, rightLength, identifiers}
+use Rattle.params.specs.Field.{noneTwice, paramsOf, valueFor, given, octetsIn}
 use Rattle.refusal.specs.Answer.{Answer, gives, refuses, answered}
+use Rattle.xid.specs.Addressing.{valuesOf}
 use Rattle.xid.specs.Match.{isScan, scanShape, assignmentShape, scanMatches, identityMatches, kindMatches}
 use Rattle.xid.specs.Match.{vendorMatches, noParams, malformed, valuesIn, neither, badAddress, otherIdentity}
 use Rattle.xid.specs.Match.{otherType, otherVendor, otherScan, valueRows, payloadRows, meaningOf}
@@ -94,7 +95,7 @@ others =
 pub computed : All right × All unpadded × All named × All left × All padding × All edges × All misformed × All others
 unfolding payloadAnswer payloadRows valueRows answered meaningOf malformed noParams valuesIn neither
     badAddress otherIdentity otherType otherVendor otherScan paramsOf opened triplesAfter before checked allRight
-    rightLength identityLong identifiers noneTwice holds valuesOf valueOf given octetsIn isScan scanShape assignmentShape
+    rightLength identifiers noneTwice holds valuesOf valueFor given octetsIn isScan scanShape assignmentShape
     scanMatches answersScan padded masked same endsWith identityMatches kindMatches vendorMatches addressed
 computed = (
   (refl, (refl, tt)),

@@ -11,11 +11,12 @@ use Rattle.identity.specs.Bits.{masked}
 use Rattle.identity.specs.Identity.{padded, same, answersScan}
 use Rattle.compare.specs.Rows.{endsWith}
 use Rattle.record.specs.Allowed.{addressed}
-use Rattle.params.specs.Field.{Param, paramsOf, valuesOf, octetsIn}
-use Rattle.params.specs.Walk.{valueAt, valuesAt}
+use Rattle.params.specs.Field.{Param, paramsOf, octetsIn}
+use Rattle.params.specs.Walk.{valueAt}
 use Rattle.params.specs.declared.Part.{Part}
 use Rattle.params.specs.declared.Part.the-variants.{Absent, At}
-use Rattle.params.specs.declared.Parts.{Parts}
+use Rattle.xid.specs.declared.Parts.{Parts}
+use Rattle.xid.specs.Addressing.{addressing, valuesOf, valuesAt}
 use Rattle.xid.specs.Match.{isScan, isAssignment, scanMatches, identityMatches, kindMatches}
 use Rattle.xid.specs.Match.{vendorMatches, meantTo, readOf}
 use Rattle.xid.specs.declared.Xid.{Xid}
@@ -103,9 +104,9 @@ module _ (i m : List ℕ) (f : Parts) where
       → Silence ≡ meantTo i (valuesAt m f)
   meant-neither s t = sym (neither-meant i (valuesAt m f) s t)
 
-  pub read-formed : {r : Xid} → (ps : List Param) × (paramsOf m ≡ some ps) × (valuesAt m f ≡ valuesOf ps)
+  pub read-formed : {r : Xid} → (ps : List Param) × (paramsOf addressing m ≡ some ps) × (valuesAt m f ≡ valuesOf ps)
       → r ≡ meantTo i (valuesAt m f) → r ≡ readOf i m
   read-formed w g = g ∙ ap (meantTo i) (w .2) ∙ sym (formed-read i m (w .0) (w .1))
 
-pub read-malformed : (i m : List ℕ) → paramsOf m ≡ none → Silence ≡ readOf i m
+pub read-malformed : (i m : List ℕ) → paramsOf addressing m ≡ none → Silence ≡ readOf i m
 read-malformed i m e = sym (malformed-read i m e)

@@ -1,4 +1,5 @@
 -- The laws of scan and assignment that the layers above cite.
+pub mod Found
 pub mod Shapes
 pub mod Rows
 pub mod Judging

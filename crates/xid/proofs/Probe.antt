@@ -8,9 +8,10 @@ use native.Mathlib.Omega.{arith}
 use lib.ListN.{length, length-append}
 use Rattle.octets.specs.Octets.{holds}
 use Rattle.identity.specs.Identity.{width, answersScan}
-use Rattle.params.specs.Field.{_is_, tripleOf, fieldOf, payloadOf, rightLength, identityLong, identifiers}
-use Rattle.params.specs.Field.{noneTwice, valueOf, valuesOf}
+use Rattle.params.specs.Field.{_is_, tripleOf, fieldOf, xidPayload, rightLength, identifiers}
+use Rattle.params.specs.Field.{noneTwice, valueFor}
 use Rattle.params.proofs.Exact.{once-different}
+use Rattle.xid.specs.Addressing.{valuesOf}
 use Rattle.xid.specs.Match.{readOf}
 use Rattle.xid.specs.Meaning.{ScanOf}
 use Rattle.xid.specs.declared.Xid.the-variants.{Silence, Scan}
@@ -21,7 +22,7 @@ abbrev pub probePayload : List ℕ → List ℕ → List ℕ
 probePayload v k = (0x81 ∷ 0xF0 ∷ 0x2A ∷ 1 ∷ width ∷ []) ++ (v ++ ((3 ∷ width ∷ []) ++ k))
 
 pub probe-scan : (v k : List ℕ) → length v ≡ width → length k ≡ width → ScanOf (probePayload v k) v k
-unfolding payloadOf fieldOf tripleOf rightLength identityLong identifiers noneTwice holds valuesOf valueOf
+unfolding xidPayload fieldOf tripleOf rightLength identifiers noneTwice holds valuesOf valueFor
 probe-scan v k e f =
     let field : fieldOf (1 is v ∷ 3 is k ∷ []) ≡ 1 ∷ width ∷ (v ++ 3 ∷ width ∷ k) = rw (e, f, append-nil k) in
     let long : length (1 ∷ width ∷ (v ++ 3 ∷ width ∷ k)) ≡ 0x2A =

@@ -11,7 +11,8 @@ use lib.ListN.{length}
 use Rattle.refusal.specs.Answer.{_when_, answered}
 use Rattle.octets.proofs.Words.{true-not-false}
 use Rattle.record.specs.Allowed.{addressed}
-use Rattle.params.specs.Field.{Param, WellFormed, paramsOf, Values, valuesOf, given, octetsIn}
+use Rattle.params.specs.Field.{Param, WellFormed, paramsOf, given, octetsIn}
+use Rattle.xid.specs.Addressing.{addressing, Values, valuesOf}
 use Rattle.params.proofs.Exact.{params-exactly}
 use Rattle.params.proofs.Kept.{both-of}
 use Rattle.xid.specs.Match.{isScan, scanShape, isAssignment, assignmentShape, scanMatches, addressOf}
@@ -85,23 +86,23 @@ module _ (i : List ℕ) (w : Values) where
 
 -- a malformed payload is silence, and any other means what its values do
 module _ (i m : List ℕ) where
-  pub malformed-read : paramsOf m ≡ none → readOf i m ≡ Silence
+  pub malformed-read : paramsOf addressing m ≡ none → readOf i m ≡ Silence
   unfolding readOf payloadAnswer payloadRows malformed noParams answered orSilence
   malformed-read e = rw e
 
-  pub formed-read : (ps : List Param) → paramsOf m ≡ some ps → readOf i m ≡ meantTo i (valuesOf ps)
+  pub formed-read : (ps : List Param) → paramsOf addressing m ≡ some ps → readOf i m ≡ meantTo i (valuesOf ps)
   unfolding readOf payloadAnswer payloadRows malformed noParams valuesIn answered meantTo
   formed-read ps e = rw e
 
 -- ---- the rows 4 and 5, both ways
 
-pub malformed-exactly : (m : List ℕ) → malformed m ≡ false ↔ ((ps : List Param) × WellFormed m ps)
+pub malformed-exactly : (m : List ℕ) → malformed m ≡ false ↔ ((ps : List Param) × WellFormed addressing m ps)
 unfolding malformed noParams
-malformed-exactly m = (go (paramsOf m) refl, λ (ps, f). rw (params-exactly m ps .1 f))
+malformed-exactly m = (go (paramsOf addressing m) refl, λ (ps, f). rw (params-exactly addressing m ps .1 f))
   where
-    go : (o : Option (List Param)) → paramsOf m ≡ o → noParams o ≡ false → (ps : List Param) × WellFormed m ps
+    go : (o : Option (List Param)) → paramsOf addressing m ≡ o → noParams o ≡ false → (ps : List Param) × WellFormed addressing m ps
     go none p e = absurd (true-not-false e)
-    go (some ps) p e = (ps, params-exactly m ps .0 p)
+    go (some ps) p e = (ps, params-exactly addressing m ps .0 p)
 
 pub neither-exactly : (w : Values) → neither w ≡ true ↔ (isScan w ≡ false) × (isAssignment w ≡ false)
 unfolding neither

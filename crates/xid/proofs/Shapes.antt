@@ -6,10 +6,11 @@ use Prim.Native.Nat.{ℕ}
 use lib.Dec.{eqb}
 use lib.ListN.{length}
 use Rattle.params.specs.Field.{given, octetsIn}
-use Rattle.params.specs.Walk.{valueAt, valuesAt}
+use Rattle.params.specs.Walk.{valueAt}
 use Rattle.params.specs.declared.Part.{Part}
 use Rattle.params.specs.declared.Part.the-variants.{Absent, At}
-use Rattle.params.specs.declared.Parts.{Parts}
+use Rattle.xid.specs.declared.Parts.{Parts}
+use Rattle.xid.specs.Addressing.{valuesAt}
 use Rattle.xid.specs.Match.{isGiven, scanShape, assignmentShape, isScan, isAssignment}
 
 pub given-at : (m : List ℕ) (p : Part) → given (valueAt m p) ≡ isGiven p

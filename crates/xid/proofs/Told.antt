@@ -6,16 +6,16 @@ use mathlib.Core.List.{List, [], _∷_}
 use mathlib.Core.Option.{Option, none, some}
 use Prim.Native.Nat.{ℕ}
 use native.Mathlib.Omega.{arith}
-use borrow.Author.Tests.{eqb-true, not-true}
-use lib.Dec.{eqb}
+use borrow.Author.Tests.{eqb-true, leb-true, not-true}
+use lib.Dec.{eqb, leb}
 use lib.ListN.{length, getD}
 use Rattle.octets.proofs.Words.{true-not-false}
-use Rattle.identity.specs.Identity.{same}
-use Rattle.params.specs.Field.{Param, _is_, rightLength, AllRight, WellFormed, paramsOf, valueOf, given, octetsIn}
-use Rattle.params.specs.Field.{Values, valuesOf}
+use Rattle.params.specs.Field.{Param, rightLength, AllRight, WellFormed, paramsOf, valueFor, given, octetsIn}
 use Rattle.params.proofs.Exact.{params-exactly}
 use Rattle.params.proofs.Kept.{both-of, of-both}
+use Rattle.params.proofs.Values.{value-right}
 use Rattle.record.specs.Allowed.{addressed}
+use Rattle.xid.specs.Addressing.{addressing, Values, valuesOf}
 use Rattle.refusal.specs.Answer.{Answer, gives, refuses, Given, Clear}
 use Rattle.refusal.proofs.Exactly.{exactly, exactly-given, answered-all}
 use Rattle.xid.specs.Match.{isScan, scanShape, isAssignment, scanMatches, addressOf, identityMatches, kindMatches}
@@ -78,33 +78,21 @@ scan-values w e =
       eqb-true _ _ long,
     )
 
--- a given value has a right length
-pub value-right : (n : ℕ) (ps : List Param) {v : List ℕ} → AllRight ps → valueOf n ps ≡ some v
-    → rightLength n (length v) ≡ true
-unfolding valueOf
-value-right n [] {v} r e = let z : _≡_ {A = ℕ} 0 1 = cc in let no : ⊥ = omega arith in absurd no
-value-right n (k is u ∷ ps) {v} r e = go (value-right n ps {v = v} (r .1)) (eqb k n) refl e
-  where
-    go : (valueOf n ps ≡ some v → rightLength n (length v) ≡ true) → (t : Bool) → eqb k n ≡ t
-        → cond t (some u) (valueOf n ps) ≡ some v → rightLength n (length v) ≡ true
-    go more true t f =
-        let same : u ≡ v = cc in
-        rw (sym (eqb-true k n t)) (rw same at (r .0))
-    go more false t f = more f
-
 pub one-octet : (v : List ℕ) → length v ≡ 1 → v ≡ getD v 0 0 ∷ []
 one-octet [] e = let no : ⊥ = omega (arith, e) in absurd no
 one-octet (x ∷ []) e = refl
 one-octet (x ∷ y ∷ v) e = let no : ⊥ = omega (arith, e) in absurd no
 
 -- the address is one octet
-pub address-one : (ps : List Param) → AllRight ps → given (valueOf 2 ps) ≡ true
-    → valueOf 2 ps ≡ some (getD (octetsIn (valueOf 2 ps)) 0 0 ∷ [])
+pub address-one : (ps : List Param) → AllRight (addressing .table) ps → given (valueFor 2 ps) ≡ true
+    → valueFor 2 ps ≡ some (getD (octetsIn (valueFor 2 ps)) 0 0 ∷ [])
 unfolding rightLength
 address-one ps r g =
-    let e = given-some (valueOf 2 ps) g in
-    let l = value-right 2 ps r e in
-    e ∙ ap some (one-octet (octetsIn (valueOf 2 ps)) (eqb-true _ 1 l))
+    let e = given-some (valueFor 2 ps) g in
+    let k = length (octetsIn (valueFor 2 ps)) in
+    let (least, most) = both-of (leb 1 k) (leb k 1) (value-right (addressing .table) 2 ps r e) in
+    let one : k ≡ 1 = omega (arith, leb-true 1 k least, leb-true k 1 most) in
+    e ∙ ap some (one-octet (octetsIn (valueFor 2 ps)) one)
 
 -- ---- what is judged so
 
@@ -173,16 +161,16 @@ module _ (i : List ℕ) (w : Values) where
 
 -- a payload that is not silent is well formed
 pub formed-of : (i m : List ℕ) {x : Xid} → readOf i m ≡ x → (x ≡ Silence → ⊥)
-    → (ps : List Param) × WellFormed m ps × (meantTo i (valuesOf ps) ≡ x)
-formed-of i m {x} e n = go (paramsOf m) refl
+    → (ps : List Param) × WellFormed addressing m ps × (meantTo i (valuesOf ps) ≡ x)
+formed-of i m {x} e n = go (paramsOf addressing m) refl
   where
-    go : (o : Option (List Param)) → paramsOf m ≡ o
-        → (ps : List Param) × WellFormed m ps × (meantTo i (valuesOf ps) ≡ x)
+    go : (o : Option (List Param)) → paramsOf addressing m ≡ o
+        → (ps : List Param) × WellFormed addressing m ps × (meantTo i (valuesOf ps) ≡ x)
     go none p = absurd (n (sym e ∙ malformed-read i m p))
-    go (some ps) p = (ps, params-exactly m ps .0 p, sym (formed-read i m ps p) ∙ e)
+    go (some ps) p = (ps, params-exactly addressing m ps .0 p, sym (formed-read i m ps p) ∙ e)
 
-pub read-is : (i m : List ℕ) (ps : List Param) → WellFormed m ps → readOf i m ≡ meantTo i (valuesOf ps)
-read-is i m ps f = formed-read i m ps (params-exactly m ps .1 f)
+pub read-is : (i m : List ℕ) (ps : List Param) → WellFormed addressing m ps → readOf i m ≡ meantTo i (valuesOf ps)
+read-is i m ps f = formed-read i m ps (params-exactly addressing m ps .1 f)
 
 -- silence is for a payload with a number, and for nothing else
 pub silence-numbered : (i m : List ℕ) → readOf i m ≡ Silence ↔ ((k : ℕ) × Given k (payloadRows i m))

@@ -37,7 +37,8 @@ use Rattle.compare.specs.Rows.{endsWith}
 use Rattle.record.specs.Allowed.{addressed}
 use Rattle.params.specs.declared.Part.{Part}
 use Rattle.params.specs.declared.Part.the-variants.{Absent, At}
-use Rattle.params.specs.Field.{Param, paramsOf, Values, valuesOf, given, octetsIn}
+use Rattle.params.specs.Field.{Param, paramsOf, given, octetsIn}
+use Rattle.xid.specs.Addressing.{addressing, Values, valuesOf}
 use Rattle.xid.specs.declared.Xid.{Xid}
 use Rattle.xid.specs.declared.Xid.the-variants.{Silence, Scan, Assignment}
 
@@ -97,10 +98,10 @@ noParams (some ps) = false
 
 -- "triples of identifier, length, value that fill it exactly"; "A repeat, another identifier, another length: silence"
 unfoldable pub malformed : List ℕ → Bool
-malformed m = noParams (paramsOf m)
+malformed m = noParams (paramsOf addressing m)
 
 unfoldable pub valuesIn : List ℕ → Values
-valuesIn m = valuesOf (Option·getD (paramsOf m) [])
+valuesIn m = valuesOf (Option·getD (paramsOf addressing m) [])
 
 -- "silence; so is a frame that is neither of the two below"
 unfoldable pub neither : Values → Bool

@@ -17,19 +17,20 @@ use lib.ListN.{length, take}
 use Rattle.identity.specs.Bits.{masked}
 use Rattle.identity.specs.Identity.{vendor, padded}
 use Rattle.compare.specs.Rows.{rightmost}
-use Rattle.params.specs.Field.{Param, WellFormed, valuesOf}
+use Rattle.params.specs.Field.{Param, WellFormed}
+use Rattle.xid.specs.Addressing.{addressing, valuesOf}
 use Rattle.xid.specs.Match.{deviceType}
 
 pub record ScanOf (m v k : List ℕ) : Type 0 where
   pub params : List Param
-  pub formed : WellFormed m params
+  pub formed : WellFormed addressing m params
   pub values : valuesOf params
       ≡ record { identity = some v; address = none; mask = some k; kind = none; vendor = none }
   pub equal : length v ≡ length k
 
 pub record AssignmentOf (m : List ℕ) (a : ℕ) (x y z : Option (List ℕ)) : Type 0 where
   pub params : List Param
-  pub formed : WellFormed m params
+  pub formed : WellFormed addressing m params
   pub values : valuesOf params ≡ record { identity = x; address = some (a ∷ []); mask = none; kind = y; vendor = z }
 
 abbrev pub IfGiven : Option (List ℕ) → (List ℕ → Type 0) → Type 0

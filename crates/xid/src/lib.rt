@@ -6,16 +6,27 @@ ghost use mathlib.Core.Bool.{true};
 ghost use lib.ListN.{take, getD};
 ghost use Rattle.record.specs.Allowed.{addressed, identityOf};
 ghost use Rattle.params.specs.Field.{octetsIn};
-ghost use Rattle.params.specs.Walk.{valueAt, valuesAt};
+ghost use Rattle.params.specs.Walk.{valueAt};
+ghost use Rattle.xid.specs.Addressing.{addressing, partsBy, valuesAt};
 ghost use Rattle.xid.specs.Match.{isGiven, scanShape, assignmentShape, isScan, isAssignment, scanMatches};
 ghost use Rattle.xid.specs.Match.{identityMatches, kindMatches, vendorMatches, meantTo, readOf};
-use params::Found;
+use params::Group;
+use params::Identifier;
 use params::Part;
-use params::Parts;
+use params::Slot;
 use record::Plate;
 
 // The device's type: a single-antenna tilt device.
 pub const KIND: u8 = 0x01;
+
+// One part for each identifier of the group.
+struct Parts {
+    identity: Part,
+    address: Part,
+    mask: Part,
+    kind: Part,
+    vendor: Part,
+}
 
 // What a payload means: nothing to answer; a scan that is answered; an assignment that is taken.
 pub enum Xid {
@@ -25,6 +36,53 @@ pub enum Xid {
 }
 
 // ---- what is given
+
+// The group of scans and assignments: its identifiers, and how many octets each may have.
+fn addressing() -> Group
+    ensures { λ r. ⌜ r ≡ addressing ⌝ }
+{
+    let table = [
+        Identifier {
+            id: 1,
+            least: 1,
+            most: identity::OCTETS,
+        },
+        Identifier {
+            id: 2,
+            least: 1,
+            most: 1,
+        },
+        Identifier {
+            id: 3,
+            least: 1,
+            most: identity::OCTETS,
+        },
+        Identifier {
+            id: 4,
+            least: 1,
+            most: 1,
+        },
+        Identifier {
+            id: 6,
+            least: 2,
+            most: 2,
+        },
+    ];
+    Group { octet: 0xF0, table }
+}
+
+// The parts that the walk found, by name.
+fn parts_by(found: [Slot; params::ROWS]) -> Parts
+    ensures { λ r. ⌜ r ≡ partsBy found ⌝ }
+{
+    Parts {
+        identity: params::part_at(found, 0),
+        address: params::part_at(found, 1),
+        mask: params::part_at(found, 2),
+        kind: params::part_at(found, 3),
+        vendor: params::part_at(found, 4),
+    }
+}
 
 fn is_given(part: Part) -> bool
     ensures { λ r. ⌜ r ≡ isGiven part ⌝ }
@@ -205,9 +263,10 @@ pub fn read(plate: Plate, payload: &[u8]) -> Xid
 {
     let identity = plate.identity;
     let octets = identity.octets;
-    let found = params::walk(payload);
-    match found {
-        Found::Malformed => Xid::Silence,
-        Found::Formed(parts) => judge(octets, identity.len, payload, parts),
+    let found = params::walk(payload, addressing());
+    let parts = found.parts;
+    if found.formed {
+        return judge(octets, identity.len, payload, parts_by(parts));
     }
+    Xid::Silence
 }

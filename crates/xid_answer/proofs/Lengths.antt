@@ -1,32 +1,34 @@
 -- The answers' lengths: n+8 and n+5 in the length field for an identity of n octets, and at most 74 octets for an
 -- allowed one. They are well formed themselves, and the payload's first octets are theirs. Assumes nothing.
 use mathlib.Core.Path.{_≡_, refl}
-use mathlib.Core.Bool.{true}
+use mathlib.Core.Bool.{true, _&&_}
 use mathlib.Core.List.{List, [], _∷_}
 use Prim.Native.Nat.{ℕ, _+_, _≤_}
 use native.Mathlib.Omega.{arith}
 use borrow.Author.Tests.{le-leb}
+use lib.Dec.{leb}
 use lib.ListN.{length, getD, take, replicate}
 use Rattle.octets.specs.Octets.{holds}
 use Rattle.octets.proofs.Stores.{take-start}
 use Rattle.identity.specs.Identity.{width, allowedIdentity}
 use Rattle.identity.proofs.Identities.{allowed-parts}
 use Rattle.record.specs.Allowed.{replyMost}
-use Rattle.params.specs.Field.{payloadOf, rightLength, identityLong, identifiers, WellFormed, noneTwice}
+use Rattle.params.specs.Field.{xidPayload, rightLength, identifiers, WellFormed, noneTwice}
 use Rattle.params.proofs.Exact.{once-different}
 use Rattle.params.proofs.Kept.{of-both}
+use Rattle.xid.specs.Addressing.{addressing}
 use Rattle.xid_answer.specs.Answer.{scanParams, assignmentParams, scanAnswer, assignmentAnswer}
 use Rattle.payload.specs.Payloads.{payloadOf as held}
 use Rattle.xid_answer.proofs.Stored.{scan-length, assignment-length, length-scan, length-assignment}
 
 -- "length field n+8"
 pub scan-field : (i : List ℕ) (a : ℕ) → getD (scanAnswer i a) 2 0 ≡ length i + 8
-unfolding scanAnswer payloadOf
+unfolding scanAnswer xidPayload
 scan-field i a = scan-length i a
 
 -- "length field n+5"
 pub assignment-field : (i : List ℕ) → getD (assignmentAnswer i) 2 0 ≡ length i + 5
-unfolding assignmentAnswer payloadOf
+unfolding assignmentAnswer xidPayload
 assignment-field i = assignment-length i
 
 module _ (i : List ℕ) (ok : allowedIdentity i ≡ true) where
@@ -36,18 +38,17 @@ module _ (i : List ℕ) (ok : allowedIdentity i ≡ true) where
   pub assignment-short : length (assignmentAnswer i) ≤ replyMost
   assignment-short = omega (arith, length-assignment i, allowed-parts i ok .most)
 
-  long : identityLong (length i) ≡ true
-  unfolding identityLong
+  long : leb 1 (length i) && leb (length i) width ≡ true
   long =
       of-both (le-leb 1 (length i) (omega (arith, allowed-parts i ok .least)))
       (le-leb (length i) width (allowed-parts i ok .most))
 
-  pub scan-formed : (a : ℕ) → WellFormed (scanAnswer i a) (scanParams i a)
+  pub scan-formed : (a : ℕ) → WellFormed addressing (scanAnswer i a) (scanParams i a)
   unfolding scanAnswer scanParams rightLength identifiers noneTwice holds
   scan-formed a =
       record { octets = refl; right = (long, (refl, (refl, tt))); once = once-different (1 ∷ 2 ∷ 4 ∷ []) refl }
 
-  pub assignment-formed : WellFormed (assignmentAnswer i) (assignmentParams i)
+  pub assignment-formed : WellFormed addressing (assignmentAnswer i) (assignmentParams i)
   unfolding assignmentAnswer assignmentParams rightLength identifiers noneTwice holds
   assignment-formed = record { octets = refl; right = (long, (refl, tt)); once = once-different (1 ∷ 4 ∷ []) refl }
 

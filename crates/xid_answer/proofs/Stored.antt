@@ -8,7 +8,7 @@ use lib.ListN.{length, take, set, replicate, length-append, length-take}
 use lib.Seq.{sets}
 use Rattle.octets.proofs.Runs.{Run, run-all, run-two, run-some, run-put, run-done}
 use Rattle.octets.proofs.Stores.{sets-start}
-use Rattle.params.specs.Field.{_is_, tripleOf, fieldOf, payloadOf}
+use Rattle.params.specs.Field.{_is_, tripleOf, fieldOf, xidPayload}
 use Rattle.xid.specs.Match.{deviceType}
 use Rattle.octets.proofs.Takes.{take-within}
 use Rattle.xid_answer.specs.Answer.{opening, scanParams, assignmentParams, scanAnswer, assignmentAnswer}
@@ -47,7 +47,7 @@ module _ (i o : List ℕ) {o₁ o₂ o₃ : List ℕ} {a : ℕ} where
   pub scan-stored : (address : ℕ) {o₄ : List ℕ} {b n : ℕ} → o₁ ≡ sets o 0 (opening (length i + 8))
       → Puts o₁ 3 (tripleOf (1 is i)) a o₂ → Puts o₂ a (tripleOf (2 is (address ∷ []))) b o₃
       → Puts o₃ b (tripleOf (4 is (deviceType ∷ []))) n o₄ → Puts o 0 (scanAnswer i address) n o₄
-  unfolding scanAnswer payloadOf scanParams fieldOf
+  unfolding scanAnswer xidPayload scanParams fieldOf
   scan-stored address {o₄} {b} {n} s p q r =
       let own = tripleOf (1 is i) in
       let from = tripleOf (2 is (address ∷ [])) in
@@ -63,7 +63,7 @@ module _ (i o : List ℕ) {o₁ o₂ o₃ : List ℕ} {a : ℕ} where
 
   pub assignment-stored : {n : ℕ} → o₁ ≡ sets o 0 (opening (length i + 5)) → Puts o₁ 3 (tripleOf (1 is i)) a o₂
       → Puts o₂ a (tripleOf (4 is (deviceType ∷ []))) n o₃ → Puts o 0 (assignmentAnswer i) n o₃
-  unfolding assignmentAnswer payloadOf assignmentParams fieldOf
+  unfolding assignmentAnswer xidPayload assignmentParams fieldOf
   assignment-stored {n} s p r =
       let own = tripleOf (1 is i) in
       let kind = tripleOf (4 is (deviceType ∷ [])) in
@@ -77,11 +77,11 @@ module _ (i o : List ℕ) {o₁ o₂ o₃ : List ℕ} {a : ℕ} where
 -- ---- at the start of a payload of zeros
 
 pub length-scan : (i : List ℕ) (a : ℕ) → length (scanAnswer i a) ≡ length i + 11
-unfolding scanAnswer payloadOf
+unfolding scanAnswer xidPayload
 length-scan i a = omega (arith, scan-length i a)
 
 pub length-assignment : (i : List ℕ) → length (assignmentAnswer i) ≡ length i + 8
-unfolding assignmentAnswer payloadOf
+unfolding assignmentAnswer xidPayload
 length-assignment i = omega (arith, assignment-length i)
 
 held-is : (b : List ℕ) {n : ℕ} {o : List ℕ} → Puts (replicate 74 0) 0 b n o → length b ≤ 74

@@ -5,7 +5,8 @@
 -- Assumes nothing.
 use mathlib.Core.List.{List, [], _∷_}
 use Prim.Native.Nat.{ℕ}
-use Rattle.params.specs.Field.{Param, _is_, payloadOf}
+use Rattle.params.specs.Field.{Param, _is_, format, xidPayload}
+use Rattle.xid.specs.Addressing.{addressing}
 use Rattle.xid.specs.Match.{deviceType}
 
 -- "Answer, in any state: 1 (unpadded, n octets), 2, 4 in that order"
@@ -18,10 +19,10 @@ assignmentParams i = 1 is i ∷ 4 is (deviceType ∷ []) ∷ []
 
 -- "Answers .. begin 0x81, 0xF0, length"
 unfoldable pub scanAnswer : List ℕ → ℕ → List ℕ
-scanAnswer i a = payloadOf (scanParams i a)
+scanAnswer i a = xidPayload addressing (scanParams i a)
 
 unfoldable pub assignmentAnswer : List ℕ → List ℕ
-assignmentAnswer i = payloadOf (assignmentParams i)
+assignmentAnswer i = xidPayload addressing (assignmentParams i)
 
 abbrev pub opening : ℕ → List ℕ
-opening k = 0x81 ∷ 0xF0 ∷ k ∷ []
+opening k = format ∷ addressing .octet ∷ k ∷ []

@@ -34,7 +34,7 @@ returns-4 : tie.Need-returns-4
 returns-4 c =
     let late = c .before .before in
     let early = late .before .before in
-    opens-right _ _ (early .before .before .if1 .left) (early .if2 .left) (late .if3 .left) (c .wide .ensures)
+    opens-right _ _ _ (early .before .before .if1 .left) (early .if2 .left) (late .if3 .left) (c .wide .ensures)
 
 pub opens-spec : {M : Type 1} → statement M
 opens-spec =

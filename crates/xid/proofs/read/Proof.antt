@@ -1,40 +1,43 @@
 -- `xid::read` meets its promise: the walk reads what the definition says. Assumes nothing.
+use mathlib.Core.Path.{ap, _∙_}
+use Rattle.params.specs.declared.Group.{Group}
+use Rattle.params.specs.Walk.{foundIn}
+use Rattle.params.proofs.Values.{walk-malformed}
+use Rattle.xid.specs.Addressing.{addressing, valuesAt}
+use Rattle.xid.proofs.Found.{values-named}
 use Rattle.xid.proofs.Judging.{read-formed, read-malformed}
-use Rattle.params.proofs.Values.{walk-malformed, walk-formed}
-use borrow.Author.Needs.{needs}
 use Rattle.xid.proofs.read.Statement.{statement}
 use Rattle.xid.proofs.read.Tie as tie
-use Rattle.xid.proofs.read.Reads as reads
-use Rattle.xid.proofs.read.Lts as lts
-use Rattle.params.proofs.walk.Reads as walk-reads
-use Rattle.xid.proofs.judge.Reads as judge-reads
+
+addressing-requires : tie.Need-addressing-requires
+addressing-requires c κs = tt
 
 walk-requires : tie.Need-walk-requires
 walk-requires c κs = tt
 
-enum-told : tie.Need-enum-told
-enum-told c = search needs
-
-enum-known-found : tie.Need-enum-known-found
-enum-known-found c = search needs
+parts-by-requires : tie.Need-parts-by-requires
+parts-by-requires c κs = tt
 
 judge-requires : tie.Need-judge-requires
 judge-requires c κs = tt
 
 returns : tie.Need-returns
 returns c =
-    let walk = c .before .before in
-    let a = walk .before .before .before .before .args in
-    read-malformed _ (a .payload .now) (walk-malformed _ (walk .walk .ensures) (c .enum-told .given .1))
+    let walk = c .before .before .before .before in
+    let m = walk .before .before .before .before .before .args .payload .now in
+    let found = walk .walk .ensures ∙ ap (λ (g : Group). foundIn g m) (walk .before .addressing .ensures) in
+    let (ps, formed, values) = values-named m found (c .before .before .if1 .taken) in
+    let named = ap (valuesAt m) (c .before .parts-by .ensures) ∙ values in
+    read-formed _ m (c .before .parts-by .result) (ps, formed, named) (c .judge .ensures)
 
 returns-2 : tie.Need-returns-2
 returns-2 c =
-    let found = c .before .before in
-    let walk = found .before .before in
-    let a = walk .before .before .before .before .args in
-    read-formed _ (a .payload .now) _ (walk-formed _ (walk .walk .ensures) (found .found .given .1))
-    (c .judge .ensures)
+    let walk = c .before .before in
+    let m = walk .before .before .before .before .before .args .payload .now in
+    let found = walk .walk .ensures ∙ ap (λ (g : Group). foundIn g m) (walk .before .addressing .ensures) in
+    read-malformed _ m (walk-malformed addressing m found (c .if1 .left))
 
 pub read-spec : {M : Type 1} → statement M
 read-spec =
-    tie.close (tie.spec walk-requires enum-told enum-known-found judge-requires returns returns-2)
+    tie.close
+    (tie.spec addressing-requires walk-requires parts-by-requires judge-requires returns returns-2)
