@@ -17,6 +17,8 @@ use Rattle.identity.proofs.Identities.{and-parts}
 use Rattle.identity.proofs.Lists.{map-out}
 use Rattle.control.specs.Control.{polled}
 use Rattle.record.specs.declared.Device.{Device}
+use Rattle.record.specs.declared.Link.{Link}
+use Rattle.record.specs.declared.Link.the-variants.{AddressAssigned}
 use Rattle.record.specs.Allowed.{addressed, stationAllowed, allowedDevice}
 use Rattle.record.specs.Changes.{unsaidAt, endedAs}
 use Rattle.record.proofs.Stays.{sound}
