@@ -13,7 +13,7 @@ use Rattle.antenna.specs.declared.Antenna.{Antenna}
 use Rattle.antenna.specs.Alarms.{alarmCodes}
 use Rattle.antenna.specs.Motions.{inRange, runs}
 use Rattle.antenna.specs.declared.Motion.{Motion}
-use Rattle.antenna.specs.Events.{restedOf, at, canStop, stoppedAt, withAlarm, isAlarm, alarmedOf}
+use Rattle.antenna.specs.Events.{restedOf, restedAt, canStop, stoppedAt, withAlarm, isAlarm, alarmedOf}
 use Rattle.antenna.specs.Events.{tilted, marked}
 
 and-false : (a : Bool) → (a && false) ≡ false
@@ -24,7 +24,7 @@ module _ (n : Antenna) (t : Angle) where
   pub stops : {m : Motion} → runs (n .motion) ≡ true → inRange n t ≡ true → m ≡ restedOf (n .motion) t
       → stoppedAt n t
       ≡ gives (record { motion = m; drive = tilted (n .drive) t })
-  unfolding stoppedAt canStop answered at
+  unfolding stoppedAt canStop answered restedAt
   stops r h e = rw (r, h, e)
 
   pub no-movement : runs (n .motion) ≡ false → stoppedAt n t ≡ refuses 8

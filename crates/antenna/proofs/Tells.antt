@@ -11,7 +11,7 @@ use lib.Dec.{eqb}
 use lib.ListN.{length, getD, set}
 use Rattle.octets.specs.Octets.{holds, placeOf}
 use Rattle.octets.proofs.Words.{true-not-false, holds-head, holds-tail}
-use Rattle.antenna.specs.Alarms.{alarmCodes, stateOf, differs, changesAmong, changesOf, Ascending}
+use Rattle.antenna.specs.Alarms.{alarmCodes, flagOctet, differs, changesAmong, changesOf, Ascending}
 use Rattle.antenna.specs.Alarms.{codesAmong, flagAmong, flagOf, codesIn, appliedAmong, applied}
 use Rattle.antenna.proofs.Codes.{below-not, codes-ascend, codes-exactly, codes-ascending}
 
@@ -36,16 +36,16 @@ beyond c cs (d ∷ ds) (p ∷ ps) (t ∷ ts) f fs h =
     go : (b : Bool)
         → ((gs : List Bool) → appliedAmong (c ∷ cs) (changesAmong ds ps ts) (f ∷ gs)
         ≡ f ∷ appliedAmong cs (changesAmong ds ps ts) gs)
-        → appliedAmong (c ∷ cs) (cond b (d ∷ stateOf p ∷ changesAmong ds ps ts) (changesAmong ds ps ts)) (f ∷ fs)
-        ≡ f ∷ appliedAmong cs (cond b (d ∷ stateOf p ∷ changesAmong ds ps ts) (changesAmong ds ps ts)) fs
+        → appliedAmong (c ∷ cs) (cond b (d ∷ flagOctet p ∷ changesAmong ds ps ts) (changesAmong ds ps ts)) (f ∷ fs)
+        ≡ f ∷ appliedAmong cs (cond b (d ∷ flagOctet p ∷ changesAmong ds ps ts) (changesAmong ds ps ts)) fs
     go true less =
         ap
-        (λ (i : ℕ). appliedAmong (c ∷ cs) (changesAmong ds ps ts) (set (f ∷ fs) i (eqb (stateOf p) 1)))
+        (λ (i : ℕ). appliedAmong (c ∷ cs) (changesAmong ds ps ts) (set (f ∷ fs) i (eqb (flagOctet p) 1)))
         (place-later c d cs (λ e. holds-head c d ds h (sym e)))
-        ∙ less (set fs (placeOf d cs) (eqb (stateOf p) 1))
+        ∙ less (set fs (placeOf d cs) (eqb (flagOctet p) 1))
     go false less = less fs
 
-state-back : (p : Bool) → eqb (stateOf p) 1 ≡ p
+state-back : (p : Bool) → eqb (flagOctet p) 1 ≡ p
 state-back true = refl
 state-back false = refl
 
@@ -70,11 +70,11 @@ among-tell (c ∷ cs) (p ∷ ps) (t ∷ ts) a m n =
     rest f less = beyond c cs cs ps ts f ts (below-not c cs (a .0)) ∙ ap (λ (fs : List Bool). f ∷ fs) less
 
     go : (b : Bool) → differs p t ≡ b → appliedAmong cs (changesAmong cs ps ts) ts ≡ ps
-        → appliedAmong (c ∷ cs) (cond b (c ∷ stateOf p ∷ changesAmong cs ps ts) (changesAmong cs ps ts)) (t ∷ ts)
+        → appliedAmong (c ∷ cs) (cond b (c ∷ flagOctet p ∷ changesAmong cs ps ts) (changesAmong cs ps ts)) (t ∷ ts)
         ≡ p ∷ ps
     go true e less =
         ap
-        (λ (i : ℕ). appliedAmong (c ∷ cs) (changesAmong cs ps ts) (set (t ∷ ts) i (eqb (stateOf p) 1)))
+        (λ (i : ℕ). appliedAmong (c ∷ cs) (changesAmong cs ps ts) (set (t ∷ ts) i (eqb (flagOctet p) 1)))
         (place-first c cs)
         ∙ ap (λ (f : Bool). appliedAmong (c ∷ cs) (changesAmong cs ps ts) (f ∷ ts)) (state-back p)
         ∙ rest p less
@@ -100,7 +100,7 @@ codes-differing (c ∷ cs) (p ∷ ps) [] = refl
 codes-differing (c ∷ cs) (p ∷ ps) (t ∷ ts) = go (differs p t) (codes-differing cs ps ts)
   where
     go : (b : Bool) → codesIn (changesAmong cs ps ts) ≡ codesAmong cs (differing ps ts)
-        → codesIn (cond b (c ∷ stateOf p ∷ changesAmong cs ps ts) (changesAmong cs ps ts))
+        → codesIn (cond b (c ∷ flagOctet p ∷ changesAmong cs ps ts) (changesAmong cs ps ts))
         ≡ cond b (c ∷ codesAmong cs (differing ps ts)) (codesAmong cs (differing ps ts))
     go true less = ap (λ (ks : List ℕ). c ∷ ks) less
     go false less = less
@@ -150,8 +150,8 @@ pairs-whole (c ∷ cs) (p ∷ ps) [] = refl
 pairs-whole (c ∷ cs) (p ∷ ps) (t ∷ ts) = go (differs p t) (pairs-whole cs ps ts)
   where
     go : (b : Bool) → length (changesAmong cs ps ts) ≡ 2 * length (codesIn (changesAmong cs ps ts))
-        → length (cond b (c ∷ stateOf p ∷ changesAmong cs ps ts) (changesAmong cs ps ts))
-        ≡ 2 * length (codesIn (cond b (c ∷ stateOf p ∷ changesAmong cs ps ts) (changesAmong cs ps ts)))
+        → length (cond b (c ∷ flagOctet p ∷ changesAmong cs ps ts) (changesAmong cs ps ts))
+        ≡ 2 * length (codesIn (cond b (c ∷ flagOctet p ∷ changesAmong cs ps ts) (changesAmong cs ps ts)))
     go true less = omega (arith, less)
     go false less = less
 

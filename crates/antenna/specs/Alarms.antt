@@ -32,9 +32,9 @@ abbrev pub codesOf : List Bool → List ℕ
 codesOf flags = codesAmong alarmCodes flags
 
 -- a flag as an octet: "1 (raised) or 0"
-abbrev pub stateOf : Bool → ℕ
-stateOf true = 1
-stateOf false = 0
+abbrev pub flagOctet : Bool → ℕ
+flagOctet true = 1
+flagOctet false = 0
 
 abbrev pub differs : Bool → Bool → Bool
 differs a b = cond a (not b) b
@@ -51,7 +51,7 @@ changesAmong [] ps ts = []
 changesAmong (c ∷ cs) [] ts = []
 changesAmong (c ∷ cs) (p ∷ ps) [] = []
 changesAmong (c ∷ cs) (p ∷ ps) (t ∷ ts) =
-    cond (differs p t) (c ∷ stateOf p ∷ changesAmong cs ps ts) (changesAmong cs ps ts)
+    cond (differs p t) (c ∷ flagOctet p ∷ changesAmong cs ps ts) (changesAmong cs ps ts)
 
 abbrev pub changesOf : List Bool → List Bool → List ℕ
 changesOf present told = changesAmong alarmCodes present told

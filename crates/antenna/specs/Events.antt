@@ -1,7 +1,7 @@
 -- What happens to a drive: the motor stops, an alarm rises or falls.
 --   restedOf m t     == the motion after a stop at t
 --   tilted v t, marked v a == the drive v at the tilt t; with the alarms a raised
---   canStop n t      == the motor can stop at t; at n t == the antenna then
+--   canStop n t      == the motor can stop at t; restedAt n t == the antenna then
 --   Runs m           == a movement runs, owed or not
 --   isAlarm k        == k is the code of an alarm; withAlarm n k on == the antenna with that alarm raised or cleared
 --   stoppedAt n t    == the event "stopped at t"
@@ -40,8 +40,8 @@ abbrev pub marked : Drive → Alarms → Drive
 marked v a = record { lowest = v .lowest; highest = v .highest; tilt = v .tilt; raised = a }
 
 -- "the tilt is t"
-unfoldable pub at : Antenna → Angle → Antenna
-at n t = record { motion = restedOf (n .motion) t; drive = tilted (n .drive) t }
+unfoldable pub restedAt : Antenna → Angle → Antenna
+restedAt n t = record { motion = restedOf (n .motion) t; drive = tilted (n .drive) t }
 
 -- "Refusal 8: a stop with no movement, t outside lowest to highest"
 unfoldable pub canStop : Antenna → Angle → Bool
@@ -52,7 +52,7 @@ abbrev pub Runs : Motion → Type 0
 Runs m = (m ≡ Moving) ⊎ ((asked : Angle) × (m ≡ Owing asked))
 
 unfoldable pub stoppedAt : Antenna → Angle → Answer Antenna
-stoppedAt n t = answered (8 when not (canStop n t) ∷ []) (at n t)
+stoppedAt n t = answered (8 when not (canStop n t) ∷ []) (restedAt n t)
 
 -- "Alarm events raise or clear one"
 unfoldable pub withAlarm : Antenna → ℕ → Bool → Antenna

@@ -31,7 +31,7 @@ use Rattle.drives.specs.Drives.{After, Obeys, obeyed}
 use Rattle.mast.specs.Mast.{swept}
 use Rattle.bench.specs.Bench.{hexIn, valueIn, lentOf, rowDriven, rowAfter, scanAfter, handsOut}
 use Rattle.bench.specs.Written.{digitOf, hexed}
-use Rattle.bench.specs.Input.{restOf, takenTo, taken, refilled, anew, Run, afterRuns, Arrives, withoutReturn}
+use Rattle.bench.specs.Input.{restOf, takenTo, lineTaken, refilled, anew, Run, afterRuns, Arrives, withoutReturn}
 use Rattle.bench.specs.declared.input.Input.{Input}
 
 -- ---- HEX
@@ -87,28 +87,28 @@ module _ (s : List ℕ) where
 pub taken-is : (i : Input) {rest line : List ℕ} {n at from len : ℕ} → rest ≡ restOf i → n ≡ placeOf 0x0A rest
     → line ≡ sets (i .line) (i .len) (take n rest) → at ≡ min (i .from + n) 4096 → from ≡ min (at + 1) 4096
     → len ≡ min (i .len + n) 2002
-    → record { whole = ltb n (length rest); run = i .run; from = from; end = i .end; line = line; len = len } ≡ taken i
-unfolding taken takenTo
+    → record { whole = ltb n (length rest); run = i .run; from = from; end = i .end; line = line; len = len } ≡ lineTaken i
+unfolding lineTaken takenTo
 taken-is i e f g h k l = rw (k, h, l, g, f, e)
 
 -- so far: the runs that were read, and where they led
 abbrev pub Reads : Input → Input → Type 0
 Reads i next = (runs : List Run) × (next ≡ afterRuns i runs)
 
-module _ (i : Input) {next t r : Input} (reads : Reads i next) (e : t ≡ taken next) where
+module _ (i : Input) {next t r : Input} (reads : Reads i next) (e : t ≡ lineTaken next) where
   pub run-more : r ≡ refilled t (r .run) (r .end) → Reads i r
   unfolding afterRuns
   run-more f = (
     record { octets = r .run; count = r .end } ∷ reads .0,
-    f ∙ ap (λ (x : Input). refilled x (r .run) (r .end)) (e ∙ ap taken (reads .1)),
+    f ∙ ap (λ (x : Input). refilled x (r .run) (r .end)) (e ∙ ap lineTaken (reads .1)),
   )
 
 module _ (i : Input) {next : Input} (reads : Reads (anew i) next) where
   pub comes-ended : Arrives i next
   comes-ended = record { runs = reads .0; came = inr (reads .1) }
 
-  pub comes-whole : {t : Input} → t ≡ taken next → t .whole ≡ true → Arrives i t
-  comes-whole e w = record { runs = reads .0; came = inl (w, e ∙ ap taken (reads .1)) }
+  pub comes-whole : {t : Input} → t ≡ lineTaken next → t .whole ≡ true → Arrives i t
+  comes-whole e w = record { runs = reads .0; came = inl (w, e ∙ ap lineTaken (reads .1)) }
 
 -- ---- what is handed out
 

@@ -1,7 +1,7 @@
 -- Standard input, cut into lines, in the code's own words; what is read is whatever the system gives.
 --   unread               == nothing has been read
 --   restOf i             == the octets of the run that are still to be read
---   taken i              == what the run has of a line has gone behind what has come
+--   lineTaken i              == what the run has of a line has gone behind what has come
 --   refilled i run end   == another run, of which so many octets are there
 --   anew i               == nothing of the next line has come
 --   afterRuns i runs     == i after the runs, the last of them first: each was read once the one before it was taken
@@ -20,8 +20,8 @@ use Rattle.octets.specs.Octets.{placeOf, lastOf}
 use Rattle.bench.specs.declared.input.Input.{Input}
 
 -- one octet more than a line and its 0x0D have: "more than 2,000 octets, without the 0x0A and the dropped 0x0D"
-abbrev pub kept : ℕ
-kept = 2002
+abbrev pub lineKept : ℕ
+lineKept = 2002
 
 abbrev pub runMost : ℕ
 runMost = 4096
@@ -33,7 +33,7 @@ unread =
       run = replicate runMost 0;
       from = 0;
       end = 0;
-      line = replicate kept 0;
+      line = replicate lineKept 0;
       len = 0;
     }
 
@@ -49,11 +49,11 @@ takenTo i n =
       from = min (min (i .from + n) runMost + 1) runMost;
       end = i .end;
       line = sets (i .line) (i .len) (take n (restOf i));
-      len = min (i .len + n) kept;
+      len = min (i .len + n) lineKept;
     }
 
-unfoldable pub taken : Input → Input
-taken i = takenTo i (placeOf 0x0A (restOf i))
+unfoldable pub lineTaken : Input → Input
+lineTaken i = takenTo i (placeOf 0x0A (restOf i))
 
 unfoldable pub refilled : Input → List ℕ → ℕ → Input
 refilled i run end =
@@ -68,12 +68,12 @@ pub record Run : Type 0 where
 
 unfoldable pub afterRuns : Input → List Run → Input
 afterRuns i [] = i
-afterRuns i (x ∷ earlier) = refilled (taken (afterRuns i earlier)) (x .octets) (x .count)
+afterRuns i (x ∷ earlier) = refilled (lineTaken (afterRuns i earlier)) (x .octets) (x .count)
 
 -- "Octets after the last 0x0A are a line of their own."
 pub record Arrives (i r : Input) : Type 0 where
   pub runs : List Run
-  pub came : ((r .whole ≡ true) × (r ≡ taken (afterRuns (anew i) runs))) ⊎ (r ≡ afterRuns (anew i) runs)
+  pub came : ((r .whole ≡ true) × (r ≡ lineTaken (afterRuns (anew i) runs))) ⊎ (r ≡ afterRuns (anew i) runs)
 
 -- "a 0x0D before it is dropped"; "Only one 0x0D is dropped."
 unfoldable pub withoutReturn : Bool → List ℕ → List ℕ

@@ -3,7 +3,7 @@ ghost use mathlib.Core.Path.{_≡_};
 ghost use Prim.Native.Nat.{_%_};
 ghost use lib.ListN.{take};
 ghost use Rattle.script.specs.Script.{readLine};
-ghost use Rattle.bench.specs.Input.{unread, taken, refilled, Arrives, withoutReturn};
+ghost use Rattle.bench.specs.Input.{unread, lineTaken, refilled, Arrives, withoutReturn};
 use crate::rows;
 use libc::STDIN_FILENO;
 use script::Asked;
@@ -40,7 +40,7 @@ pub fn unread() -> Input
 
 // What the run has of a line goes behind what has come.
 fn take(input: Input) -> Input
-    ensures { λ r. ⌜ r ≡ taken input ⌝ }
+    ensures { λ r. ⌜ r ≡ lineTaken input ⌝ }
 {
     let run = input.run;
     let mut line = input.line;

@@ -11,7 +11,7 @@ use lib.ListN.{length, length-append}
 use Rattle.octets.specs.Octets.{Octets}
 use Rattle.octets.proofs.Bounds.{octets-append}
 use Rattle.refusal.specs.Answer.{gives}
-use Rattle.identity.specs.Bits.{Bits, Begins, bitsOf, ones}
+use Rattle.identity.specs.Bits.{Bits, BeginningOf, bitsOf, ones}
 use Rattle.identity.specs.Identity.{width, depth, allowedIdentity, octetsOf, maskOf, answersScan}
 use Rattle.identity.proofs.Words.{length-packed, packed-octets}
 use Rattle.identity.proofs.Identities.{and-parts}
@@ -29,7 +29,7 @@ use Rattle.link.proofs.Cases.{everyone-is}
 use Rattle.speech.specs.Speech.{isSilent, frameBy}
 use Rattle.device.specs.Judge.{reacts, reactionOf, deviceAfter}
 use Rattle.scan.specs.Scan.{probeOf}
-use Rattle.bus.specs.Cable.{identityIn, paddedIn, lineFor, hears, isFrame, withFrame, replies, afterLine}
+use Rattle.bus.specs.Cable.{identityIn, paddedIn, lineFor, hears, isFrame, withFrame, repliesTo, afterLine}
 use Rattle.bus.specs.Cable.{allAfter, heardOn}
 use Rattle.bus.proofs.Hears.{hears-written, any-exactly, row-stays}
 
@@ -89,7 +89,7 @@ module _ (d : Device) (p : Bits) where
         ∙ ap (λ (t : Turn). gives (reactionOf t)) probe-judged
 
     -- it answers exactly if its identity does, and stays as it was
-    pub probe-replies : replies d (lineFor (probeOf p)) ≡ asks
+    pub probe-replies : repliesTo d (lineFor (probeOf p)) ≡ asks
     unfolding withFrame isFrame reacts frameBy isSilent
     probe-replies = ap withFrame probe-heard ∙ go asks
       where
@@ -102,7 +102,7 @@ module _ (d : Device) (p : Bits) where
     probe-stays = rw probe-heard
 
     pub probe-exactly : length p ≤ depth
-        → (replies d (lineFor (probeOf p)) ≡ true) ↔ Begins p (bitsOf (paddedIn d))
+        → (repliesTo d (lineFor (probeOf p)) ≡ true) ↔ BeginningOf p (bitsOf (paddedIn d))
     probe-exactly h =
         rw probe-replies (answers-begins (identityIn d) width p (identity-allowed d allowed) (omega arith) h)
 
@@ -111,7 +111,7 @@ module _ (d : Device) (p : Bits) where
 module _ (ds : List Device) (allowed : (d : Device) → List·Memᴰ d ds → allowedDevice d ≡ true) (p : Bits) where
   -- "heard exactly if some device's padded identity begins with the probe's beginning"
   pub heard-exactly : length p ≤ depth
-      → (heardOn ds p ≡ true) ↔ ((d : Device) × List·Memᴰ d ds × Begins p (bitsOf (paddedIn d)))
+      → (heardOn ds p ≡ true) ↔ ((d : Device) × List·Memᴰ d ds × BeginningOf p (bitsOf (paddedIn d)))
   heard-exactly h = (
     λ e.
         let (d, m, f) = any-exactly ds (lineFor (probeOf p)) .0 e in

@@ -21,7 +21,7 @@ use Rattle.record.specs.declared.Device.{Device}
 use Rattle.record.specs.Allowed.{allowedDevice}
 use Rattle.link.specs.Link.{judgedFrame}
 use Rattle.device.specs.Judge.{reactionOf, judgeRows, judged, heardBy, heard}
-use Rattle.bus.specs.Cable.{octetsGiven, lineFor, hears, replies, afterLine, anyReplies, allAfter, afterLines}
+use Rattle.bus.specs.Cable.{octetsGiven, lineFor, hears, repliesTo, afterLine, anyReplies, allAfter, afterLines}
 use Rattle.bus.specs.Cable.{allAfterLines}
 
 -- the writer never refuses a frame with a payload that may be written, and the longest line has room for it
@@ -47,17 +47,17 @@ hears-written d a c p allowed os h =
 
 -- at least one answers: there is one that does
 pub any-exactly : (ds : List Device) (l : List ℕ)
-    → (anyReplies ds l ≡ true) ↔ ((d : Device) × List·Memᴰ d ds × (replies d l ≡ true))
+    → (anyReplies ds l ≡ true) ↔ ((d : Device) × List·Memᴰ d ds × (repliesTo d l ≡ true))
 unfolding anyReplies
 any-exactly ds l = (there ds, λ (d, m, e). back ds d m e)
   where
-    there : (ds : List Device) → anyReplies ds l ≡ true → (d : Device) × List·Memᴰ d ds × (replies d l ≡ true)
+    there : (ds : List Device) → anyReplies ds l ≡ true → (d : Device) × List·Memᴰ d ds × (repliesTo d l ≡ true)
     there [] e = absurd (true-not-false (sym e))
-    there (d ∷ ds) e = go (there ds) (or-parts (replies d l) (anyReplies ds l) e)
+    there (d ∷ ds) e = go (there ds) (or-parts (repliesTo d l) (anyReplies ds l) e)
       where
-        go : (anyReplies ds l ≡ true → (b : Device) × List·Memᴰ b ds × (replies b l ≡ true))
-            → (replies d l ≡ true) ⊎ (anyReplies ds l ≡ true)
-            → (b : Device) × List·Memᴰ b (d ∷ ds) × (replies b l ≡ true)
+        go : (anyReplies ds l ≡ true → (b : Device) × List·Memᴰ b ds × (repliesTo b l ≡ true))
+            → (repliesTo d l ≡ true) ⊎ (anyReplies ds l ≡ true)
+            → (b : Device) × List·Memᴰ b (d ∷ ds) × (repliesTo b l ≡ true)
         go more (inl f) = (d, List·Memᴰ·head refl, f)
         go more (inr f) = let (b, m, g) = more f in (b, List·Memᴰ·tail m, g)
 
@@ -66,12 +66,12 @@ any-exactly ds l = (there ds, λ (d, m, e). back ds d m e)
     one false b (inl e) = absurd (true-not-false (sym e))
     one false b (inr e) = e
 
-    back : (ds : List Device) (d : Device) → List·Memᴰ d ds → replies d l ≡ true → anyReplies ds l ≡ true
+    back : (ds : List Device) (d : Device) → List·Memᴰ d ds → repliesTo d l ≡ true → anyReplies ds l ≡ true
     back [] d m e = absurd (List·Memᴰ·not-nil m)
     back (b ∷ ds) d m e =
-        one (replies b l) (anyReplies ds l)
+        one (repliesTo b l) (anyReplies ds l)
         (elim (List·Memᴰ·cases-cons m)
-        [ inl f ↦ inl (ap (λ (x : Device). replies x l) (sym f) ∙ e) | inr t ↦ inr (back ds d t e) ])
+        [ inl f ↦ inl (ap (λ (x : Device). repliesTo x l) (sym f) ∙ e) | inr t ↦ inr (back ds d t e) ])
 
 -- a row goes device by device
 pub row-lines : (ls : List (List ℕ)) (ds : List Device) → allAfterLines ls ds ≡ map (afterLines ls) ds

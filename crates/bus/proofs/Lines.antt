@@ -16,7 +16,7 @@ use Rattle.scan.specs.Record.{listMost}
 use Rattle.scan.specs.Scan.{probeLength, probeOf, probed}
 use Rattle.scan.proofs.Probes.{length-probe}
 use Rattle.bus.specs.Cable.{Cabled, lineFor, heardOn}
-use Rattle.bus.specs.Scanning.{Bus, oneProbe, probesAsked, linesBy, linesSent, started, scanned}
+use Rattle.bus.specs.Scanning.{Bus, oneProbe, probesAsked, linesBy, linesSent, scanBegun, scanned}
 use Rattle.bus.proofs.Scans.{scan-any}
 
 abbrev probeLine : Bits → List ℕ
@@ -50,12 +50,12 @@ module _ (ds : List Device) (c : Cabled ds) (limit : ℕ) where
 
   -- a turn gives a probe exactly if fewer than `count` went before it, and then the one of the next beginning
   pub turn-gives : (i : ℕ) → i < count
-      → probed (probesAsked i (started limit ds) .scan) probeLength ≡ gives (probeOf (getD asks i []))
+      → probed (probesAsked i (scanBegun limit ds) .scan) probeLength ≡ gives (probeOf (getD asks i []))
   turn-gives i h =
       scan-any ds c limit .sent i h probeLength
       ∙ in-room (probeOf (getD asks i [])) probeLength (omega (arith, length-probe (getD asks i [])))
 
-  pub turn-refused : (i : ℕ) → count ≤ i → probed (probesAsked i (started limit ds) .scan) probeLength ≡ refuses 7
+  pub turn-refused : (i : ℕ) → count ≤ i → probed (probesAsked i (scanBegun limit ds) .scan) probeLength ≡ refuses 7
   turn-refused i h = scan-any ds c limit .exactly .refused i h probeLength
 
   count-asks : count ≤ length asks
@@ -64,13 +64,13 @@ module _ (ds : List Device) (c : Cabled ds) (limit : ℕ) where
       omega (arith, scan-any ds c limit .count, place-bound listMost ms, length-map ms asked)
 
   -- the lines sent are those of the first `count` beginnings of the order
-  pub scan-lines : (n : ℕ) → limit ≤ n → linesSent n (started limit ds) ≡ map probeLine (take count asks)
+  pub scan-lines : (n : ℕ) → limit ≤ n → linesSent n (scanBegun limit ds) ≡ map probeLine (take count asks)
   scan-lines n h =
-      lines-are n count asks (started limit ds) (omega (arith, scan-any ds c limit .count)) count-asks turn-gives
+      lines-are n count asks (scanBegun limit ds) (omega (arith, scan-any ds c limit .count)) count-asks turn-gives
       turn-refused
 
   -- and so they are exactly as many as the scan counts
-  pub scan-lines-number : (n : ℕ) → limit ≤ n → length (linesSent n (started limit ds)) ≡ count
+  pub scan-lines-number : (n : ℕ) → limit ≤ n → length (linesSent n (scanBegun limit ds)) ≡ count
   scan-lines-number n h =
       ap length (scan-lines n h)
       ∙ omega (arith, length-map (take count asks) probeLine, length-take count asks, count-asks)

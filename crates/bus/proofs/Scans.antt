@@ -29,7 +29,7 @@ use Rattle.scan.proofs.Reports.{report-stays}
 use Rattle.whole_scan.proofs.AnyScans.{any-scans}
 use Rattle.whole_scan.proofs.Demand.{demand3-octets}
 use Rattle.bus.specs.Cable.{identityIn, paddedIn, Cabled, lineFor, heardOn}
-use Rattle.bus.specs.Scanning.{Bus, oneProbeBy, oneProbe, probesAsked, started, scanned}
+use Rattle.bus.specs.Scanning.{Bus, oneProbeBy, oneProbe, probesAsked, scanBegun, scanned}
 use Rattle.bus.proofs.Hears.{any-exactly}
 use Rattle.bus.proofs.Heard.{identity-allowed, probe-replies, heard-unchanged}
 
@@ -114,11 +114,11 @@ module _ (ds : List Device) (c : Cabled ds) where
 
     -- and what holds by any answers at all: exactly as many probes as it counts, their order, and none twice
     pub scan-any : AnyScan limit (heardOn ds) (scanned limit ds .scan)
-        (λ i. probesAsked i (started limit ds) .scan) (order (heardOn ds) depth [])
+        (λ i. probesAsked i (scanBegun limit ds) .scan) (order (heardOn ds) depth [])
     scan-any =
         let ms : List Mark = order (heardOn ds) depth [] in
         let told : (ℕ → Scan) = λ i. driven (heardOn ds) i (fresh limit) in
-        let asks : (ℕ → Scan) = λ i. probesAsked i (started limit ds) .scan in
+        let asks : (ℕ → Scan) = λ i. probesAsked i (scanBegun limit ds) .scan in
         let same : told ≡ asks = fun-ext (λ i. sym (ap (λ (b : Bus). b .scan) (asks-are i (fresh limit)))) in
         subst (λ (t : ℕ → Scan). AnyScan limit (heardOn ds) (scanned limit ds .scan) t ms) same
         (subst (λ (s : Scan). AnyScan limit (heardOn ds) s told ms) scan-is (any-scans limit (heardOn ds)))

@@ -7,7 +7,7 @@
 --   lineFor f       == the line that the master writes for the frame f of address, control and payload
 --   octetsGiven x   == the octets of an answer of the writer; none for a number
 --   hears d l       == what comes of the line l at the device d; withFrame x == an answer with a frame comes of it
---   replies d l     == d answers the line l with a frame; afterLine d l == d afterwards
+--   repliesTo d l     == d answers the line l with a frame; afterLine d l == d afterwards
 --   anyReplies ds l == at least one of ds answers the line l; allAfter ds l == ds afterwards
 --   afterLines ls d == d after the lines ls, one after the other; allAfterLines ls ds == the row after them
 --   heardOn ds p    == the probe of the beginning p, written as a line, is heard
@@ -66,8 +66,8 @@ unfoldable pub withFrame : Answer Reaction → Bool
 withFrame (gives x) = isFrame (x .frame)
 withFrame (refuses k) = false
 
-abbrev pub replies : Device → List ℕ → Bool
-replies d l = withFrame (hears d l)
+abbrev pub repliesTo : Device → List ℕ → Bool
+repliesTo d l = withFrame (hears d l)
 
 abbrev pub afterLine : Device → List ℕ → Device
 afterLine d l = deviceAfter (hears d l) d
@@ -75,7 +75,7 @@ afterLine d l = deviceAfter (hears d l) d
 -- "at least one device answered with a frame"
 unfoldable pub anyReplies : List Device → List ℕ → Bool
 anyReplies [] l = false
-anyReplies (d ∷ ds) l = replies d l || anyReplies ds l
+anyReplies (d ∷ ds) l = repliesTo d l || anyReplies ds l
 
 unfoldable pub allAfter : List Device → List ℕ → List Device
 allAfter [] l = []

@@ -5,7 +5,7 @@
 --                       answered is reported to the scan; a scan that gives no probe asks none
 --   probesAsked n b  == n probes, one after the other
 --   linesSent n b    == the lines that go out in these n turns; linesBy x == the line of the probe that x gives
---   started limit ds == a new scan with the limit, on the cable of ds; scanned limit ds == the same, run to its end
+--   scanBegun limit ds == a new scan with the limit, on the cable of ds; scanned limit ds == the same, run to its end
 -- Assumes nothing.
 use mathlib.Core.List.{List, [], _∷_, _++_}
 use Prim.Native.Nat.{ℕ, zero, suc}
@@ -44,9 +44,9 @@ unfoldable pub linesSent : ℕ → Bus → List (List ℕ)
 linesSent zero b = []
 linesSent (suc n) b = linesBy (probed (b .scan) probeLength) ++ linesSent n (oneProbe b)
 
-abbrev pub started : ℕ → List Device → Bus
-started limit ds = record { scan = fresh limit; devices = ds }
+abbrev pub scanBegun : ℕ → List Device → Bus
+scanBegun limit ds = record { scan = fresh limit; devices = ds }
 
 -- the limit is reached after so many probes, and a scan that has ended asks no more
 unfoldable pub scanned : ℕ → List Device → Bus
-scanned limit ds = probesAsked limit (started limit ds)
+scanned limit ds = probesAsked limit (scanBegun limit ds)

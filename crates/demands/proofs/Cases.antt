@@ -18,14 +18,14 @@ use Rattle.identity.specs.Identity.{printable, allPrintable, allowedIdentity, p
 use Rattle.identity.specs.Identity.{answersScan}
 use Rattle.walk.specs.Machine.{step, stepIn, noted, listing, goOn, next, carry, zeroHalf, named}
 use Rattle.scan.specs.Record.{rowsOf, flat, phaseOf, stateOf}
-use Rattle.scan.specs.Steps.{standsAt}
+use Rattle.scan.specs.Steps.{stateAt}
 use Rattle.scan.specs.Scan as scan
 use Rattle.scan.specs.declared.State.{State}
 use Rattle.scan.specs.declared.State.the-variants.{Complete, Limit}
 use Rattle.control.specs.Control.{polled, nextOf, infoOf, rrOf, numberedBy, askedBy}
 use Rattle.antenna.specs.declared.Angle.{Angle}
 use Rattle.antenna.specs.Angles.{atMost, sameAs}
-use Rattle.antenna.specs.Events.{restedOf, at, canStop, withAlarm, isAlarm}
+use Rattle.antenna.specs.Events.{restedOf, restedAt, canStop, withAlarm, isAlarm}
 use Rattle.antenna.specs.Motions.{inRange, busyOf, runs, owesOf, waitingOf, unowedOf, moves, started}
 use Rattle.record.specs.declared.Device.{Device}
 use Rattle.record.specs.declared.Event.the-variants.{Stopped, Raised}
@@ -220,7 +220,7 @@ _also_ a b = (a, b)
 
 -- antt computes each row
 computed : All starred × All further
-unfolding All Holds heard scan.driven scan.fresh scan.ended scan.over scan.reported standsAt step stepIn noted listing
+unfolding All Holds heard scan.driven scan.fresh scan.ended scan.over scan.reported stateAt step stepIn noted listing
     goOn next carry zeroHalf named word packed rowsOf flat phaseOf stateOf fresh assigned run meets judged
     judgeRows wrongSize judgedFrame controlledBy addressedBy isOwn everyoneBy xidBy ownBy quiet linkedBy isSnrm assignedBy connectedBy
     rrBy infoBy rejected released begun renewed pollOf waitingPoll informedBy informOf carriedBy repliedBy polledBy saying
@@ -229,7 +229,7 @@ unfolding All Holds heard scan.driven scan.fresh scan.ended scan.over scan.repor
     happened freshOf freshFrom plateFrom identityFrom productFrom versionFrom textsAllowed dataAllowed stateAfter
     answered allowedDevice owedAllowed stationAllowed linkAllowed addressed sessionAllowed pendingFits numbersAllowed
     platesAllowed identityAllowed allowedIdentity allPrintable printable lastOf holds _atStartOf_ inRange busyOf runs
-    owesOf waitingOf unowedOf moves started restedOf at canStop atMost sameAs readOf payloadAnswer payloadRows
+    owesOf waitingOf unowedOf moves started restedOf restedAt canStop atMost sameAs readOf payloadAnswer payloadRows
     valueRows orSilence meaningOf malformed noParams valuesIn neither badAddress otherIdentity otherType otherVendor
     otherScan paramsOf
     opened triplesAfter before checked allRight rightLength identifiers noneTwice valuesOf valueFor given

@@ -10,7 +10,7 @@ use lib.Bits.{bitAnd, and-step}
 use lib.ListN.{length, take, drop, getD, take-append-drop}
 use lib.Seq.{take-append-seam, length-take-le}
 use Rattle.octets.specs.Octets.{Octets}
-use Rattle.identity.specs.Bits.{Bits, Begins, digit, word, packed, bitsOf, ones, masked}
+use Rattle.identity.specs.Bits.{Bits, BeginningOf, digit, word, packed, bitsOf, ones, masked}
 use Rattle.identity.proofs.Words.{digit-small, word-zero, word-suc}
 use Rattle.identity.proofs.Packed.{packed-bits, packed-apart, length-bits}
 
@@ -86,10 +86,10 @@ masked-ones s k o =
     ∙ ap (packed n) (both-ones (bitsOf s) k)
 
 pub masked-begins : (s : List ℕ) (p : Bits) → Octets s → length p ≤ 8 * length s
-    → masked s (packed (length s) (ones (length p))) ≡ packed (length s) p ↔ Begins p (bitsOf s)
+    → masked s (packed (length s) (ones (length p))) ≡ packed (length s) p ↔ BeginningOf p (bitsOf s)
 masked-begins s p o h = (there, back)
   where
-    there : masked s (packed (length s) (ones (length p))) ≡ packed (length s) p → Begins p (bitsOf s)
+    there : masked s (packed (length s) (ones (length p))) ≡ packed (length s) p → BeginningOf p (bitsOf s)
     there a =
         let n : length (take (length p) (bitsOf s)) ≡ length p =
         length-take-le (length p) (bitsOf s) (omega (arith, length-bits s)) in
@@ -99,7 +99,7 @@ masked-begins s p o h = (there, back)
           ap (λ (x : Bits). x ++ drop (length p) (bitsOf s)) (sym e) ∙ take-append-drop (length p) (bitsOf s),
         )
 
-    back : Begins p (bitsOf s) → masked s (packed (length s) (ones (length p))) ≡ packed (length s) p
+    back : BeginningOf p (bitsOf s) → masked s (packed (length s) (ones (length p))) ≡ packed (length s) p
     back (q, g) =
         masked-ones s (length p) o
         ∙ ap (packed (length s)) (ap (take (length p)) (sym g) ∙ take-append-seam p q)

@@ -12,7 +12,7 @@ use lib.Dec.{eqb}
 use lib.ListN.{length, take, drop, take-append-drop}
 use lib.Seq.{length-take-le, take-append-le, take-append-seam}
 use Rattle.octets.proofs.Bounds.{octets-take}
-use Rattle.identity.specs.Bits.{Bits, Begins, packed, unpacked, bitsOf, ones, masked}
+use Rattle.identity.specs.Bits.{Bits, BeginningOf, packed, unpacked, bitsOf, ones, masked}
 use Rattle.identity.specs.Identity.{width, allowedIdentity, padded, same, answersScan}
 use Rattle.identity.proofs.Words.{length-packed}
 use Rattle.identity.proofs.Packed.{length-bits}
@@ -53,7 +53,7 @@ bits-take (suc n) (x ∷ s) =
     ∙ sym (append-assoc (unpacked 8 x) (bitsOf (take n s)) (bitsOf (drop n s)))
 
 -- a beginning that lies in the front of a list
-begins-front : (p l m : Bits) → length p ≤ length l → Begins p l ↔ Begins p (l ++ m)
+begins-front : (p l m : Bits) → length p ≤ length l → BeginningOf p l ↔ BeginningOf p (l ++ m)
 begins-front p l m h = (
   λ (q, e). (q ++ m, sym (append-assoc p q m) ∙ ap (λ (x : Bits). x ++ m) e),
   λ (q, e).
@@ -63,7 +63,7 @@ begins-front p l m h = (
 )
 
 pub answers-begins : (i : List ℕ) (n : ℕ) (p : Bits) → allowedIdentity i ≡ true → n ≤ width → length p ≤ 8 * n
-    → (answersScan i (packed n (ones (length p))) (packed n p) ≡ true) ↔ Begins p (bitsOf (padded i))
+    → (answersScan i (packed n (ones (length p))) (packed n p) ≡ true) ↔ BeginningOf p (bitsOf (padded i))
 unfolding answersScan
 answers-begins i n p a h k = (there, back)
   where
@@ -78,24 +78,24 @@ answers-begins i n p a h k = (there, back)
         sym (masked-front (padded i) (packed n (ones (length p))))
         ∙ ap (λ (j : ℕ). masked (take j (padded i)) (packed n (ones (length p)))) (length-packed n (ones (length p)))
 
-    law : masked (take n (padded i)) (packed n (ones (length p))) ≡ packed n p ↔ Begins p (bitsOf (take n (padded i)))
+    law : masked (take n (padded i)) (packed n (ones (length p))) ≡ packed n p ↔ BeginningOf p (bitsOf (take n (padded i)))
     law =
         subst
         (λ (j : ℕ).
-        masked (take n (padded i)) (packed j (ones (length p))) ≡ packed j p ↔ Begins p (bitsOf (take n (padded i))))
+        masked (take n (padded i)) (packed j (ones (length p))) ≡ packed j p ↔ BeginningOf p (bitsOf (take n (padded i))))
         size
         (masked-begins (take n (padded i)) p
         (octets-take n (padded i) (padded-octets i (printable-octets i (allowed-parts i a .plain))))
         (omega (arith, size)))
 
-    whole : Begins p (bitsOf (take n (padded i))) ↔ Begins p (bitsOf (padded i))
+    whole : BeginningOf p (bitsOf (take n (padded i))) ↔ BeginningOf p (bitsOf (padded i))
     whole =
         rw (bits-take n (padded i))
         (begins-front p (bitsOf (take n (padded i))) (bitsOf (drop n (padded i)))
         (omega (arith, length-bits (take n (padded i)), size)))
 
-    there : same (masked (padded i) (packed n (ones (length p)))) (packed n p) ≡ true → Begins p (bitsOf (padded i))
+    there : same (masked (padded i) (packed n (ones (length p)))) (packed n p) ≡ true → BeginningOf p (bitsOf (padded i))
     there e = whole .0 (law .0 (sym cut ∙ same-is _ _ e))
 
-    back : Begins p (bitsOf (padded i)) → same (masked (padded i) (packed n (ones (length p)))) (packed n p) ≡ true
+    back : BeginningOf p (bitsOf (padded i)) → same (masked (padded i) (packed n (ones (length p)))) (packed n p) ≡ true
     back b = is-same _ _ (cut ∙ law .1 (whole .1 b))

@@ -1,6 +1,6 @@
 -- Bits, and the octets that they make, the most significant bit of each octet first.
 --   Bits               == a list of bits: a beginning, or a whole identity
---   Begins p l         == the bits l begin with p
+--   BeginningOf p l         == the bits l begin with p
 --   digit b            == a bit as a number
 --   word p n           == the number whose n binary digits are the first n bits of p, zeros where p has ended
 --   packed n p         == n octets: the first 8n bits of p, zeros where p has ended
@@ -20,8 +20,8 @@ use lib.ListN.{getD, drop, replicate}
 abbrev pub Bits : Type 0
 Bits = List Bool
 
-abbrev pub Begins : Bits → Bits → Type 0
-Begins p l = (q : Bits) × (p ++ q ≡ l)
+abbrev pub BeginningOf : Bits → Bits → Type 0
+BeginningOf p l = (q : Bits) × (p ++ q ≡ l)
 
 abbrev pub digit : Bool → ℕ
 digit true = 1

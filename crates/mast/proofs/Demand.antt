@@ -12,7 +12,7 @@ use Rattle.scan.specs.declared.State.the-variants.{Complete}
 use Rattle.scan.specs.Record.{listMost}
 use Rattle.whole_scan.specs.Demand.{probesEach, AnyScan, BusScan}
 use Rattle.bus.specs.Cable.{paddedIn, Cabled, heardOn}
-use Rattle.bus.specs.Scanning.{probesAsked, linesSent, started}
+use Rattle.bus.specs.Scanning.{probesAsked, linesSent, scanBegun}
 use Rattle.bus.proofs.Scans.{scan-unchanged, scan-row, scan-any, scan-complete}
 use Rattle.bus.proofs.Lines.{scan-lines-number}
 use Rattle.bus.specs.declared.Row.{Row}
@@ -37,13 +37,13 @@ module _ (row : Row) (limit : ℕ) (c : Cabled (onCable row)) where
 
   -- and what holds by any answers at all: exactly as many probes as it counts, their order, and none twice
   pub sweep-any : AnyScan limit (heardOn (onCable row)) (swept row limit .scan)
-      (λ i. probesAsked i (started limit (onCable row)) .scan) (order (heardOn (onCable row)) depth [])
+      (λ i. probesAsked i (scanBegun limit (onCable row)) .scan) (order (heardOn (onCable row)) depth [])
   unfolding swept sweptBy
   sweep-any = scan-any (onCable row) c limit
 
   -- and as many lines as the scan counts go out on the cable, in the first `limit` turns and in any number more
   pub sweep-lines-number : (n : ℕ) → limit ≤ n
-      → length (linesSent n (started limit (onCable row))) ≡ swept row limit .scan .count
+      → length (linesSent n (scanBegun limit (onCable row))) ≡ swept row limit .scan .count
   unfolding swept sweptBy
   sweep-lines-number = scan-lines-number (onCable row) c limit
 

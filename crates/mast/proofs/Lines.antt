@@ -25,7 +25,7 @@ use Rattle.scan.specs.Record.{beginningOf}
 use Rattle.scan.specs.Scan.{probeLength, probeOf, over, probed}
 use Rattle.scan.proofs.Probes.{length-probe, probed-over, probed-open}
 use Rattle.bus.specs.Cable.{octetsGiven, lineFor, hears, isFrame, withFrame}
-use Rattle.mast.specs.Steps.{lineIn, sizeIn, givenIn, frameIn, isGiven, Asks, Listens}
+use Rattle.mast.specs.Steps.{lineIn, sizeIn, givenIn, frameIn, isHandedOut, Probing, Listens}
 use Rattle.mast.specs.declared.Written.{Written}
 
 -- ---- the line of the probe that is next
@@ -39,8 +39,8 @@ module _ {o o' : List ℕ} where
   handed-line (refuses j) (Octets n) h = absurd (gives-not-refuses (h .answer))
   handed-line (refuses j) (Refused k) h = refl
 
-  handed-given : (x : Answer (List ℕ)) (r : Handed) → Hands x o r o' → givenIn r ≡ isGiven x
-  unfolding isGiven answerOf counted
+  handed-given : (x : Answer (List ℕ)) (r : Handed) → Hands x o r o' → givenIn r ≡ isHandedOut x
+  unfolding isHandedOut answerOf counted
   handed-given (gives b) (Octets n) h = refl
   handed-given (gives b) (Refused k) h = absurd (gives-not-refuses (sym (h .answer)))
   handed-given (refuses j) (Octets n) h = absurd (gives-not-refuses (h .answer))
@@ -81,7 +81,7 @@ given-fills s f {o} n h e =
 
 pub asks-is : (s : Scan) {o o' : List ℕ} {r : Handed} {w : Written} {b : Bool} → length o ≡ probeLength
     → Hands (probed s probeLength) o r o' → lineIn w ≡ lineFor o' → b ≡ givenIn r
-    → Asks (probed s probeLength) (record { asks = b; line = w })
+    → Probing (probed s probeLength) (record { asks = b; line = w })
 asks-is s {r = r} n h l e =
     record {
       asks = e ∙ handed-given (probed s probeLength) r h;

@@ -13,10 +13,10 @@ use Rattle.refusal.specs.Answer.{Answer, gives, refuses, stateAfter}
 use Rattle.record.specs.declared.Device.{Device}
 use Rattle.scan.specs.declared.Scan.{Scan}
 use Rattle.scan.specs.Scan.{probeLength, fresh, probed, reported}
-use Rattle.bus.specs.Cable.{rowMost, lineFor, replies, afterLine, anyReplies, allAfter}
+use Rattle.bus.specs.Cable.{rowMost, lineFor, repliesTo, afterLine, anyReplies, allAfter}
 use Rattle.bus.specs.Scanning.{Bus, oneProbeBy, oneProbe, probesAsked, scanned}
 use Rattle.mast.specs.Mast.{onCable, withDevices, sweptBy, swept}
-use Rattle.mast.specs.Steps.{lineIn, isGiven, Asks, Listens, Sends}
+use Rattle.mast.specs.Steps.{lineIn, isHandedOut, Probing, Listens, Sends}
 use Rattle.mast.specs.declared.Asked.{Asked}
 use Rattle.mast.specs.declared.Listened.{Listened}
 use Rattle.mast.specs.declared.Heard.{Heard}
@@ -72,17 +72,17 @@ module _ (l : List ℕ) (z : Device) where
   one-devices (suc k) (d ∷ ds) h = ap (λ (es : List Device). afterLine d l ∷ es) (one-devices k ds (omega arith))
 
   one-heard : (k : ℕ) (ds : List Device) (b : Bool) (x : Device) → k < length ds
-      → (anyReplies (take k (set ds k x)) l || (replies (getD ds k z) l || b)) ≡ (anyReplies (take (suc k) ds) l || b)
+      → (anyReplies (take k (set ds k x)) l || (repliesTo (getD ds k z) l || b)) ≡ (anyReplies (take (suc k) ds) l || b)
   unfolding anyReplies
   one-heard k [] b x h = absurd (omega arith)
-  one-heard zero (d ∷ ds) b x h = go (replies d l)
+  one-heard zero (d ∷ ds) b x h = go (repliesTo d l)
     where
       go : (r : Bool) → (r || b) ≡ ((r || false) || b)
       go true = refl
       go false = refl
   one-heard (suc k) (d ∷ ds) b x h =
-      go (replies d l) (anyReplies (take k (set ds k x)) l) (anyReplies (take (suc k) ds) l)
-      (replies (getD ds k z) l || b)
+      go (repliesTo d l) (anyReplies (take k (set ds k x)) l) (anyReplies (take (suc k) ds) l)
+      (repliesTo (getD ds k z) l || b)
       (one-heard k ds b x (omega arith))
     where
       go : (r a c e : Bool) → (a || e) ≡ (c || b) → ((r || a) || e) ≡ ((r || c) || b)
@@ -143,21 +143,21 @@ unfolding scanned
 sweeping-all row limit e = record { ahead = rw e; behind = refl }
 
 -- a scan that asks no more stays
-stays : (n : ℕ) (b : Bus) → isGiven (probed (b .scan) probeLength) ≡ false → probesAsked n b ≡ b
-unfolding probesAsked oneProbe oneProbeBy isGiven
+stays : (n : ℕ) (b : Bus) → isHandedOut (probed (b .scan) probeLength) ≡ false → probesAsked n b ≡ b
+unfolding probesAsked oneProbe oneProbeBy isHandedOut
 stays zero b e = refl
 stays (suc n) b e = ap (probesAsked n) (one (probed (b .scan) probeLength) refl e) ∙ stays n b e
   where
-    one : (x : Answer (List ℕ)) → probed (b .scan) probeLength ≡ x → isGiven x ≡ false → oneProbe b ≡ b
+    one : (x : Answer (List ℕ)) → probed (b .scan) probeLength ≡ x → isHandedOut x ≡ false → oneProbe b ≡ b
     one (gives f) g e = absurd (true≢false e)
     one (refuses k) g e = ap (oneProbeBy b) g
 
 module _ (row : Row) (limit : ℕ) {s : Scan} {ds : List Device} where
   -- a probe is asked, heard and reported
   pub sweeping-one : {m n : ℕ} {a : Asked} {h : Heard} {t : Scan} → m ≡ n + 1 → Sweeping m s ds row limit
-      → Asks (probed s probeLength) a → a .asks ≡ true → Sends ds (row .count) (lineIn (a .line)) h
+      → Probing (probed s probeLength) a → a .asks ≡ true → Sends ds (row .count) (lineIn (a .line)) h
       → t ≡ stateAfter (reported s (h .heard)) s → Sweeping n t (h .devices) row limit
-  unfolding probesAsked oneProbe oneProbeBy isGiven
+  unfolding probesAsked oneProbe oneProbeBy isHandedOut
   sweeping-one {m} {n} {a} {h} {t} e w asked asks sent told =
       go (probed s probeLength) refl (sym (asked .asks) ∙ asks)
     where
@@ -174,7 +174,7 @@ module _ (row : Row) (limit : ℕ) {s : Scan} {ds : List Device} where
           ap (take k) (sent .devices) ∙ cable-after k ds (lineIn (a .line)) .0 ∙ ap (allAfter (take k ds)) l in
           ap₂ (λ (u : Scan) (es : List Device). record { scan = u; devices = es }) x y
 
-      go : (x : Answer (List ℕ)) → probed s probeLength ≡ x → isGiven x ≡ true → Sweeping n t (h .devices) row limit
+      go : (x : Answer (List ℕ)) → probed s probeLength ≡ x → isHandedOut x ≡ true → Sweeping n t (h .devices) row limit
       go (refuses j) g i = absurd (false≢true i)
       go (gives f) g i =
           record {
@@ -201,7 +201,7 @@ module _ (row : Row) (limit : ℕ) {s : Scan} {ds : List Device} where
   unfolding probesAsked
   sweeping-none e w = sweeping-end (rw e at (w .ahead)) (w .behind)
 
-  pub sweeping-over : {n : ℕ} {a : Asked} → Sweeping n s ds row limit → Asks (probed s probeLength) a → a .asks ≡ false
+  pub sweeping-over : {n : ℕ} {a : Asked} → Sweeping n s ds row limit → Probing (probed s probeLength) a → a .asks ≡ false
       → record { scan = s; row = record { devices = ds; count = row .count } } ≡ swept row limit
   sweeping-over {n} w asked over =
       sweeping-end (sym (stays n (now row s ds) (sym (asked .asks) ∙ over)) ∙ w .ahead) (w .behind)

@@ -2,7 +2,7 @@
 --   lineIn w         == the line that the written octets w are
 --   sizeIn x         == how many octets the answer x of the code hands out; givenIn x == whether it hands any out
 --   frameIn x        == what is said, x, is a frame
---   Asks x r         == r is the line of the probe that x gives, or says that x gives none
+--   Probing x r         == r is the line of the probe that x gives, or says that x gives none
 --   Listens d l b r  == r is the device d after the line l, and whether it answered, or one before did: b
 --   Sends ds n l r   == r is the devices ds after the first n of them heard the line l, and whether one answered
 -- Assumes nothing.
@@ -16,7 +16,7 @@ use Rattle.refusal.specs.declared.Handed.the-variants.{Octets, Refused}
 use Rattle.refusal.specs.Answer.{Answer, gives, refuses}
 use Rattle.record.specs.declared.Device.{Device}
 use Rattle.device.specs.declared.Said.{Said}
-use Rattle.bus.specs.Cable.{lineFor, replies, afterLine, anyReplies, allAfter}
+use Rattle.bus.specs.Cable.{lineFor, repliesTo, afterLine, anyReplies, allAfter}
 use Rattle.mast.specs.declared.Written.{Written}
 use Rattle.mast.specs.declared.Asked.{Asked}
 use Rattle.mast.specs.declared.Listened.{Listened}
@@ -38,16 +38,16 @@ frameIn Said.Silence = false
 frameIn (Said.Frame n) = true
 frameIn (Said.Refused k) = false
 
-unfoldable pub isGiven : Answer (List ℕ) → Bool
-isGiven (gives f) = true
-isGiven (refuses k) = false
+unfoldable pub isHandedOut : Answer (List ℕ) → Bool
+isHandedOut (gives f) = true
+isHandedOut (refuses k) = false
 
-pub record Asks (x : Answer (List ℕ)) (r : Asked) : Type 0 where
-  pub asks : r .asks ≡ isGiven x
+pub record Probing (x : Answer (List ℕ)) (r : Asked) : Type 0 where
+  pub asks : r .asks ≡ isHandedOut x
   pub line : (f : List ℕ) → x ≡ gives f → lineIn (r .line) ≡ lineFor f
 
 pub record Listens (d : Device) (l : List ℕ) (before : Bool) (r : Listened) : Type 0 where
-  pub heard : r .heard ≡ (replies d l || before)
+  pub heard : r .heard ≡ (repliesTo d l || before)
   pub device : r .device ≡ afterLine d l
 
 pub record Sends (ds : List Device) (n : ℕ) (l : List ℕ) (r : Heard) : Type 0 where

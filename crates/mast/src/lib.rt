@@ -9,7 +9,7 @@ ghost use Rattle.frame.specs.Line.{inside};
 ghost use Rattle.scan.specs.Scan.{probeLength, probed, reported};
 ghost use Rattle.bus.specs.Cable.{lineFor};
 ghost use Rattle.mast.specs.Mast.{swept};
-ghost use Rattle.mast.specs.Steps.{sizeIn, givenIn, frameIn, lineIn, Asks, Listens, Sends};
+ghost use Rattle.mast.specs.Steps.{sizeIn, givenIn, frameIn, lineIn, Probing, Listens, Sends};
 use bus::MOST;
 use bus::Row;
 use device::Said;
@@ -72,7 +72,7 @@ fn line_of(probe: [u8; PROBE]) -> Written
 }
 
 fn ask(scan: Scan) -> Asked
-    ensures { λ r. ⌜ Asks (probed scan probeLength) r ⌝ }
+    ensures { λ r. ⌜ Probing (probed scan probeLength) r ⌝ }
 {
     let mut probe = [0u8; PROBE];
     let handed = scan::probe(scan, &mut probe);

@@ -22,7 +22,7 @@ use Rattle.tilt.specs.Tilts.{tiltOctets}
 use Rattle.message.specs.declared.Check.{Check}
 use Rattle.message.specs.declared.Check.the-variants.{Passed, Failed}
 use Rattle.message.specs.declared.Carried.{Carried}
-use Rattle.message.specs.Messages.{codeOf, saidOf, dataOf, askedOf, unsupported, table, inTable, takenBy}
+use Rattle.message.specs.Messages.{codeOf, declaredOf, dataOf, askedOf, unsupported, table, inTable, takenBy}
 use Rattle.message.specs.Messages.{driveChecks, checks}
 use Rattle.message.specs.Carried.{replies, unanswered, doneBy, outcome, carriedOf}
 use Rattle.message.specs.Steps.{repliedOf, fitsOf, checkedOf, aimed, setOf, getOf, operatedOf, performedOf}
@@ -89,11 +89,11 @@ module _ (n : Antenna) (told : Alarms) (sub : Bool) where
     pub carried-is : 3 ≤ length m → carriedOf p n told sub m
         ≡ settledBy (codeOf m)
         (answered (driveChecks n (codeOf m) (askedOf m)) (doneBy p n told sub (codeOf m) (askedOf m)))
-        (checkedOf (codeOf m) (saidOf m) (length (dataOf m)))
+        (checkedOf (codeOf m) (declaredOf m) (length (dataOf m)))
     unfolding carriedOf checks checkedOf fitsOf
     carried-is h =
         rw (le-ltb (length m) 3 h)
-        (judged (codeOf m) (eqb (saidOf m) (length (dataOf m))) (holds (codeOf m) unsupported)
+        (judged (codeOf m) (eqb (declaredOf m) (length (dataOf m))) (holds (codeOf m) unsupported)
         (inTable table (codeOf m)) (eqb (length (dataOf m)) (takenBy table (codeOf m)))
         (driveChecks n (codeOf m) (askedOf m)) (doneBy p n told sub (codeOf m) (askedOf m)))
 
@@ -101,7 +101,7 @@ module _ (n : Antenna) (told : Alarms) (sub : Bool) where
     module _ {code low high said : ℕ} {check : Check} (long : 3 ≤ length m) (e₀ : code ≡ codeOf m)
         (e₁ : low ≡ getD m 1 0) (e₂ : high ≡ getD m 2 0) (e₃ : said ≡ pairOf low high)
         (e₄ : check ≡ checkedOf code said (length m - 3)) where
-      checked-is : checkedOf (codeOf m) (saidOf m) (length (dataOf m)) ≡ check
+      checked-is : checkedOf (codeOf m) (declaredOf m) (length (dataOf m)) ≡ check
       checked-is = sym (e₄ ∙ rw (e₃, e₀, e₁, e₂, ← length-drop 3 m))
 
       pub carried-passed : {t : Angle} {r : Carried} → check ≡ Passed → t ≡ askedOf m

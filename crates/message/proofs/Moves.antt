@@ -29,7 +29,7 @@ use Rattle.information.specs.Information.{informationOf}
 use Rattle.message.specs.declared.Check.{Check}
 use Rattle.message.specs.declared.Check.the-variants.{Passed, Failed}
 use Rattle.message.specs.declared.Carried.{Carried}
-use Rattle.message.specs.Messages.{codeOf, saidOf, dataOf, askedOf, driveChecks, checks, table, inTable, takenBy}
+use Rattle.message.specs.Messages.{codeOf, declaredOf, dataOf, askedOf, driveChecks, checks, table, inTable, takenBy}
 use Rattle.message.specs.Messages.{Due}
 use Rattle.message.specs.Carried.{replies, unanswered, quieted, doneBy, outcome, carriedOf}
 use Rattle.message.specs.Steps.{checkedOf, aimed, setOf, getOf, operatedOf, performedOf}
@@ -59,7 +59,7 @@ module _ (p : Plate) (n : Antenna) (told : Alarms) (sub : Bool) (m : List ℕ) w
       (cleared : m ≡ 0x06 ∷ 0 ∷ 0 ∷ [] → P (replies (successOf 0x06 []) (quieted n) calm sub))
       (subscribed : m ≡ 0x12 ∷ 0 ∷ 0 ∷ [] → P (replies (successOf 0x12 []) n told true))
       (moved : Due n m → P (unanswered (started n (askedOf m) Started) told sub)) where
-    module _ (long : 3 ≤ length m) (said : saidOf m ≡ length (dataOf m))
+    module _ (long : 3 ≤ length m) (said : declaredOf m ≡ length (dataOf m))
         (size : length (dataOf m) ≡ takenBy table (codeOf m)) (listed : inTable table (codeOf m) ≡ true) where
       set-case : codeOf m ≡ 0x33 → (x : Answer Antenna) → aimedAt n (askedOf m) ≡ x → P (aimed n told sub x)
       unfolding aimed takenBy started
@@ -110,12 +110,12 @@ module _ (p : Plate) (n : Antenna) (told : Alarms) (sub : Bool) (m : List ℕ) w
               operated x y (eqb (codeOf m) 0x06) refl (eqb (codeOf m) 0x12) refl (eqb (codeOf m) 0x33) refl
               (eqb (codeOf m) 0x34) refl
 
-    judged-cases : 3 ≤ length m → (k : Check) → checkedOf (codeOf m) (saidOf m) (length (dataOf m)) ≡ k → P
+    judged-cases : 3 ≤ length m → (k : Check) → checkedOf (codeOf m) (declaredOf m) (length (dataOf m)) ≡ k → P
         (settledBy n told sub (codeOf m)
         (answered (driveChecks n (codeOf m) (askedOf m)) (doneBy p n told sub (codeOf m) (askedOf m))) k)
     unfolding settledBy
     judged-cases long Passed e =
-        let sizes = passed-sizes (codeOf m) (saidOf m) (length (dataOf m)) e in
+        let sizes = passed-sizes (codeOf m) (declaredOf m) (length (dataOf m)) e in
         rw (← performed-is n told sub p (codeOf m) (askedOf m)) (performed long (sizes .0) (sizes .1) (sizes .2))
     judged-cases long (Failed why) e = told-only (failureOf (codeOf m) why) (says-failure p (codeOf m) why)
 

@@ -10,7 +10,7 @@ use lib.ListN.{length, getD}
 use Rattle.octets.specs.Octets.{holds}
 use Rattle.octets.proofs.Words.{true-not-false}
 use Rattle.message.specs.declared.Check.the-variants.{Passed, Failed}
-use Rattle.message.specs.Messages.{codeOf, saidOf, dataOf, unsupported, table, inTable, takenBy}
+use Rattle.message.specs.Messages.{codeOf, declaredOf, dataOf, unsupported, table, inTable, takenBy}
 use Rattle.message.specs.Steps.{fitsOf, checkedOf}
 
 failed-not-passed : {k : ℕ} → Failed k ≡ Passed → ⊥
@@ -43,7 +43,7 @@ unlisted c e₁ e₂ e₃ e₄ e₅ e₆ =
     apart k e = ne-eqb k c (λ h. eqb-false c k e (sym h))
 
 -- a message with no data is its code and two zeros
-pub shape-none : (m : List ℕ) (c : ℕ) → 3 ≤ length m → codeOf m ≡ c → saidOf m ≡ 0 → length (dataOf m) ≡ 0
+pub shape-none : (m : List ℕ) (c : ℕ) → 3 ≤ length m → codeOf m ≡ c → declaredOf m ≡ 0 → length (dataOf m) ≡ 0
     → m ≡ c ∷ 0 ∷ 0 ∷ []
 shape-none [] c l e s d = let none : ⊥ = omega arith in absurd none
 shape-none (x ∷ []) c l e s d = let none : ⊥ = omega arith in absurd none
@@ -55,7 +55,7 @@ shape-none (x ∷ y ∷ z ∷ []) c l e s d =
 shape-none (x ∷ y ∷ z ∷ u ∷ v) c l e s d = let none : ⊥ = omega (arith, d) in absurd none
 
 -- a message with two octets of data is its code, 2, 0 and they
-pub shape-two : (m : List ℕ) (c : ℕ) → 3 ≤ length m → codeOf m ≡ c → saidOf m ≡ 2 → length (dataOf m) ≡ 2
+pub shape-two : (m : List ℕ) (c : ℕ) → 3 ≤ length m → codeOf m ≡ c → declaredOf m ≡ 2 → length (dataOf m) ≡ 2
     → m ≡ c ∷ 2 ∷ 0 ∷ getD m 3 0 ∷ getD m 4 0 ∷ []
 shape-two [] c l e s d = let none : ⊥ = omega arith in absurd none
 shape-two (x ∷ []) c l e s d = let none : ⊥ = omega arith in absurd none

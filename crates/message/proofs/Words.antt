@@ -13,7 +13,7 @@ use Rattle.octets.proofs.Words.{true-not-false, holds-exactly}
 use Rattle.antenna.specs.declared.Angle.{Angle}
 use Rattle.antenna.specs.declared.Antenna.{Antenna}
 use Rattle.antenna.specs.Motions.{inRange, busyOf}
-use Rattle.message.specs.Messages.{Entry, _takes_, codeOf, saidOf, table, inTable, takenBy}
+use Rattle.message.specs.Messages.{Entry, _takes_, codeOf, declaredOf, table, inTable, takenBy}
 use Rattle.message.specs.Messages.{misdeclared, barred, unknown, misfit, busied, outside}
 
 -- a test that two numbers differ
@@ -22,7 +22,7 @@ differs-exactly a b = (λ e. eqb-true a b (not-false (eqb a b) e), λ e. rw (eq-
 
 -- "length field wrong": two octets, low first, that are not the length of the data
 pub declared-exactly : (m : List ℕ) → misdeclared m ≡ false ↔ (getD m 1 0 + getD m 2 0 * 256 ≡ length (drop 3 m))
-declared-exactly m = differs-exactly (saidOf m) (length (drop 3 m))
+declared-exactly m = differs-exactly (declaredOf m) (length (drop 3 m))
 
 -- "code one of 0x03, 0x0A, 0x0E, 0x0F, 0x10, 0x11, 0x31, 0x32, 0x40, 0x41, 0x42, 0x90"
 pub barred-exactly : (m : List ℕ) → barred m ≡ true

@@ -1,12 +1,12 @@
 -- Messages of layer 7: what is read in one, the two lists of codes, the table, the order of the checks.
---   codeOf m, saidOf m, dataOf m == the code, the length field and the data of the message m
+--   codeOf m, declaredOf m, dataOf m == the code, the length field and the data of the message m
 --   askedOf m        == the tilt that the data of m asks
 --   unsupported      == the codes of the standard that get 0x25
 --   table            == the messages that there are: k takes n, the code k with n octets of data in
 --   inTable t c      == the table t has the code c; takenBy t c == the data length that it defines for c
 --   misdeclared m    == "length field wrong"; barred m == "code one of .."; unknown m == "code not in the table"
 --   misfit m         == "data length not the defined one"
---   drives c         == set tilt or get tilt
+--   asksDrive c         == set tilt or get tilt
 --   busied n c       == "busy"; outside n c t == "out of range"
 --   checks n m       == the checks of m, in their order, for the antenna n
 --   Due n m          == m is a set tilt that the antenna n carries out
@@ -29,8 +29,8 @@ infix 70 _takes_
 abbrev pub codeOf : List ℕ → ℕ
 codeOf m = getD m 0 0
 
-abbrev pub saidOf : List ℕ → ℕ
-saidOf m = pairOf (getD m 1 0) (getD m 2 0)
+abbrev pub declaredOf : List ℕ → ℕ
+declaredOf m = pairOf (getD m 1 0) (getD m 2 0)
 
 abbrev pub dataOf : List ℕ → List ℕ
 dataOf m = drop 3 m
@@ -60,7 +60,7 @@ takenBy (k takes n ∷ rows) c = cond (eqb k c) n (takenBy rows c)
 
 -- "length field wrong"
 abbrev pub misdeclared : List ℕ → Bool
-misdeclared m = not (eqb (saidOf m) (length (dataOf m)))
+misdeclared m = not (eqb (declaredOf m) (length (dataOf m)))
 
 abbrev pub barred : List ℕ → Bool
 barred m = holds (codeOf m) unsupported
@@ -74,11 +74,11 @@ abbrev pub misfit : List ℕ → Bool
 misfit m = not (eqb (length (dataOf m)) (takenBy table (codeOf m)))
 
 -- "Set and get tilt are busy while moving or while a result waits"
-abbrev pub drives : ℕ → Bool
-drives c = eqb c 0x33 || eqb c 0x34
+abbrev pub asksDrive : ℕ → Bool
+asksDrive c = eqb c 0x33 || eqb c 0x34
 
 abbrev pub busied : Antenna → ℕ → Bool
-busied n c = drives c && busyOf (n .motion)
+busied n c = asksDrive c && busyOf (n .motion)
 
 -- "out of range"
 abbrev pub outside : Antenna → ℕ → Angle → Bool

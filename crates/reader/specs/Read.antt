@@ -3,7 +3,7 @@
 --   behind at x   == the place behind what stands at `at`: behind a triple; the end, and less than a triple, stay
 --   stepAt s at   == what stands at the place `at` of s, and the place behind it
 --   readerOf s at == the reader of the slice s, its cursor at the place `at`
---   nextOf d      == what the reader d finds next; movedOn d == the reader d after that
+--   nextIn d      == what the reader d finds next; readerAfter d == the reader d after that
 -- Assumes nothing.
 use mathlib.Core.Bool.{cond}
 use mathlib.Core.List.{List}
@@ -35,8 +35,8 @@ stepAt s at = record { found = standsAt s at; cursor = behind at (standsAt s at)
 abbrev pub readerOf : RefT (List ℕ) → ℕ → Reader
 readerOf s at = record { frame = s; cursor = at }
 
-abbrev pub nextOf : Reader → Stands
-nextOf d = stepAt (now (d .frame)) (d .cursor) .found
+abbrev pub nextIn : Reader → Stands
+nextIn d = stepAt (now (d .frame)) (d .cursor) .found
 
-abbrev pub movedOn : Reader → Reader
-movedOn d = readerOf (d .frame) (stepAt (now (d .frame)) (d .cursor) .cursor)
+abbrev pub readerAfter : Reader → Reader
+readerAfter d = readerOf (d .frame) (stepAt (now (d .frame)) (d .cursor) .cursor)

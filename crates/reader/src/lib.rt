@@ -3,7 +3,7 @@
 // (specs/Read.antt, proofs/Steps.antt). The reader's functions and `next_at` are proved by hand over `step_at`; who
 // calls `next_at` is covered. Assumes nothing of its caller.
 ghost use mathlib.Core.Path.{_≡_};
-ghost use Rattle.reader.specs.Read.{standsAt, stepAt, readerOf, nextOf, movedOn};
+ghost use Rattle.reader.specs.Read.{standsAt, stepAt, readerOf, nextIn, readerAfter};
 
 // What stands at a place of a field: its end; less than a whole triple; a triple, its value `len` octets at `from`.
 pub enum Stands {
@@ -71,7 +71,7 @@ impl<'a> Reader<'a> {
 
     // The next parameter; the cursor moves on behind it.
     pub fn next<'s>(&'s mut self) -> Stands
-        ensures { λ r. ⌜ (r ≡ nextOf (now (self .entry))) × (now (self .exit) ≡ movedOn (now (self .entry))) ⌝ }
+        ensures { λ r. ⌜ (r ≡ nextIn (now (self .entry))) × (now (self .exit) ≡ readerAfter (now (self .entry))) ⌝ }
     {
         let step = step_at(self.frame, self.cursor);
         self.cursor = step.cursor;

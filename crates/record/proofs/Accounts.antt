@@ -16,7 +16,7 @@ use Rattle.antenna.specs.declared.Antenna.{Antenna}
 use Rattle.antenna.specs.declared.Motion.the-variants as motion
 use Rattle.antenna.specs.Alarms.{alarmCodes, codesOf, codesAmong}
 use Rattle.antenna.specs.Angles.{sameAs}
-use Rattle.antenna.specs.Events.{Runs, restedOf, at, isAlarm, withAlarm}
+use Rattle.antenna.specs.Events.{Runs, restedOf, restedAt, isAlarm, withAlarm}
 use Rattle.antenna.proofs.Angles.{same-exactly}
 use Rattle.antenna.proofs.Can.{stop-exactly, alarm-exactly}
 use Rattle.antenna.proofs.Codes.{raise-exactly, clear-exactly}
@@ -31,20 +31,20 @@ use Rattle.record.specs.declared.Event.the-variants.{Stopped, Raised, Cl
 -- of an antenna: each event
 module _ (n : Antenna) where
   range-kept : (e : Event) → (afterEvent n e .drive .lowest ≡ n .drive .lowest) × (afterEvent n e .drive .highest ≡ n .drive .highest)
-  unfolding afterEvent at withAlarm
+  unfolding afterEvent restedAt withAlarm
   range-kept (Stopped t) = (refl, refl)
   range-kept (Raised k) = (refl, refl)
   range-kept (Cleared k) = (refl, refl)
 
   row-kept : (e : Event) → length (afterEvent n e .drive .raised .flags) ≡ length (n .drive .raised .flags)
-  unfolding afterEvent at withAlarm
+  unfolding afterEvent restedAt withAlarm
   row-kept (Stopped t) = refl
   row-kept (Raised k) = length-set (n .drive .raised .flags) (placeOf k alarmCodes) true
   row-kept (Cleared k) = length-set (n .drive .raised .flags) (placeOf k alarmCodes) false
 
   drive-kept : (e : Event) → ((t : Angle) → e ≡ Stopped t → ⊥)
       → (afterEvent n e .drive .tilt ≡ n .drive .tilt) × (afterEvent n e .motion ≡ n .motion)
-  unfolding afterEvent at withAlarm
+  unfolding afterEvent restedAt withAlarm
   drive-kept (Stopped t) none = absurd (none t refl)
   drive-kept (Raised k) none = (refl, refl)
   drive-kept (Cleared k) none = (refl, refl)
@@ -52,7 +52,7 @@ module _ (n : Antenna) where
   module _ (t : Angle) where
     stop-drive : (afterEvent n (Stopped t) .drive .tilt ≡ t) × (afterEvent n (Stopped t) .motion ≡ restedOf (n .motion) t)
         × (afterEvent n (Stopped t) .drive .raised ≡ n .drive .raised)
-    unfolding afterEvent at
+    unfolding afterEvent restedAt
     stop-drive = (refl, refl, refl)
 
     stop-can : canBe n (Stopped t) ≡ true

@@ -19,7 +19,7 @@ use Rattle.antenna.specs.declared.Antenna.{Antenna}
 use Rattle.antenna.specs.declared.Motion.{Motion}
 use Rattle.antenna.specs.declared.Motion.the-variants.{Still, Moving, Owing, Stopped}
 use Rattle.antenna.specs.Motions.{inRange, runs, owesOf, unowedOf, moves}
-use Rattle.antenna.specs.Events.{canStop, at, withAlarm, restedOf}
+use Rattle.antenna.specs.Events.{canStop, restedAt, withAlarm, restedOf}
 use Rattle.antenna.proofs.Movements.{unowed-owes}
 use Rattle.record.specs.Allowed.{identityAllowed, platesAllowed, linkAllowed}
 use Rattle.record.specs.Allowed.{stationAllowed, owedAllowed, allowedDevice}
@@ -68,8 +68,8 @@ owed-less NoAddress m k f e = ap not (f (not-true _ e))
 owed-less AddressAssigned m k f e = ap not (f (not-true _ e))
 owed-less (Connected s) m k f e = refl
 
-stop-range : (n : Antenna) (t : Angle) → canStop n t ≡ true → inRange (at n t) t ≡ true
-unfolding canStop inRange at
+stop-range : (n : Antenna) (t : Angle) → canStop n t ≡ true → inRange (restedAt n t) t ≡ true
+unfolding canStop inRange restedAt
 stop-range n t e = and-parts (runs (n .motion)) (inRange n t) e .1
 
 alarm-range : (n : Antenna) (k : ℕ) (on : Bool) (t : Angle) → inRange (withAlarm n k on) t ≡ inRange n t
@@ -79,13 +79,13 @@ alarm-range n k on t = refl
 -- the antenna after an event that can be
 after-range : (n : Antenna) (e : Event) → canBe n e ≡ true → inRange n (n .drive .tilt) ≡ true
     → inRange (afterEvent n e) (afterEvent n e .drive .tilt) ≡ true
-unfolding canBe afterEvent at withAlarm
+unfolding canBe afterEvent restedAt withAlarm
 after-range n (event.Stopped t) c r = stop-range n t c
 after-range n (event.Raised k) c r = alarm-range n k true (n .drive .tilt) ∙ r
 after-range n (event.Cleared k) c r = alarm-range n k false (n .drive .tilt) ∙ r
 
 after-owes : (n : Antenna) (e : Event) → owesOf (n .motion) ≡ false → owesOf (afterEvent n e .motion) ≡ false
-unfolding afterEvent at withAlarm
+unfolding afterEvent restedAt withAlarm
 after-owes n (event.Stopped t) o = rested-owes (n .motion) t o
 after-owes n (event.Raised k) o = o
 after-owes n (event.Cleared k) o = o

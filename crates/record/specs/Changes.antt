@@ -14,7 +14,7 @@ use Rattle.refusal.specs.Answer.{Answer, Row, _when_, answered}
 use Rattle.antenna.specs.declared.Antenna.{Antenna}
 use Rattle.antenna.specs.Motions.{unowedOf, moves}
 use Rattle.octets.specs.Octets.{OneOf}
-use Rattle.antenna.specs.Events.{Runs, canStop, at, isAlarm, withAlarm}
+use Rattle.antenna.specs.Events.{Runs, canStop, restedAt, isAlarm, withAlarm}
 use Rattle.record.specs.Allowed.{allowedDevice}
 use Rattle.record.specs.Desk.{withAddress, unsaid}
 use Rattle.record.specs.declared.Link.{Link}
@@ -53,7 +53,7 @@ CanHappen n (Raised k) = OneOf k (0x02 ∷ 0x03 ∷ 0x0E ∷ 0x0F ∷ 0x11 ∷ 0
 CanHappen n (Cleared k) = OneOf k (0x02 ∷ 0x03 ∷ 0x0E ∷ 0x0F ∷ 0x11 ∷ 0x27 ∷ [])
 
 unfoldable pub afterEvent : Antenna → Event → Antenna
-afterEvent n (Stopped t) = at n t
+afterEvent n (Stopped t) = restedAt n t
 afterEvent n (Raised k) = withAlarm n k true
 afterEvent n (Cleared k) = withAlarm n k false
 

@@ -7,7 +7,7 @@ use native.Mathlib.Numerals.{add-one}
 use lib.ListN.{length, getD, drop, drop-of-length-le}
 use lib.Seq.{drop-cons}
 use Rattle.octets.proofs.Rest.{rest}
-use Rattle.antenna.specs.Alarms.{codesAmong, changesAmong, differs, stateOf}
+use Rattle.antenna.specs.Alarms.{codesAmong, changesAmong, differs, flagOctet}
 
 flag-rest : (f : List Bool) (i : ℕ) → i < length f → drop i f ≡ getD f i false ∷ drop (i + 1) f
 flag-rest f i h = rw (add-one, drop-cons f i false)
@@ -31,7 +31,7 @@ module _ (cs : List ℕ) (ps ts : List Bool) (i : ℕ) where
   module _ (h : i < length cs) (k : i < length ps) (l : i < length ts) where
     pub changes-here : differs (getD ps i false) (getD ts i false) ≡ true
         → changesAmong (drop i cs) (drop i ps) (drop i ts)
-        ≡ getD cs i 0 ∷ stateOf (getD ps i false) ∷ changesAmong (drop (i + 1) cs) (drop (i + 1) ps) (drop (i + 1) ts)
+        ≡ getD cs i 0 ∷ flagOctet (getD ps i false) ∷ changesAmong (drop (i + 1) cs) (drop (i + 1) ps) (drop (i + 1) ts)
     unfolding changesAmong
     changes-here e = rw (rest cs i h, flag-rest ps i k, flag-rest ts i l, e)
 

@@ -8,7 +8,7 @@ use native.Mathlib.Omega.{arith}
 use lib.ListN.{length}
 use Rattle.octets.proofs.Words.{true-not-false}
 use Rattle.antenna.specs.declared.Alarms.{Alarms}
-use Rattle.antenna.specs.Alarms.{alarmCodes, codesOf, changesAmong, changesOf, differs, anyDiffer, stateOf}
+use Rattle.antenna.specs.Alarms.{alarmCodes, codesOf, changesAmong, changesOf, differs, anyDiffer, flagOctet}
 use Rattle.payload.specs.Payloads.{successOf}
 use Rattle.payload.proofs.Laws.{length-message, length-success}
 use Rattle.report.specs.Reports.{indicationOf}
@@ -38,7 +38,7 @@ nothing (c ∷ cs) (p ∷ ps) (t ∷ ts) h e =
     go (differs p t) (nothing cs ps ts (omega (arith, h))) e
   where
     go : (b : Bool) → (changesAmong cs ps ts ≡ [] → anyDiffer ps ts ≡ false)
-        → cond b (c ∷ stateOf p ∷ changesAmong cs ps ts) (changesAmong cs ps ts) ≡ []
+        → cond b (c ∷ flagOctet p ∷ changesAmong cs ps ts) (changesAmong cs ps ts) ≡ []
         → cond b true (anyDiffer ps ts) ≡ false
     go true less f = let none : ⊥ = omega (arith, ap length f) in absurd none
     go false less f = less f
@@ -51,7 +51,7 @@ silent (c ∷ cs) (p ∷ ps) [] e = refl
 silent (c ∷ cs) (p ∷ ps) (t ∷ ts) e = go (differs p t) (silent cs ps ts) e
   where
     go : (b : Bool) → (anyDiffer ps ts ≡ false → changesAmong cs ps ts ≡ []) → cond b true (anyDiffer ps ts) ≡ false
-        → cond b (c ∷ stateOf p ∷ changesAmong cs ps ts) (changesAmong cs ps ts) ≡ []
+        → cond b (c ∷ flagOctet p ∷ changesAmong cs ps ts) (changesAmong cs ps ts) ≡ []
     go true less f = absurd (true-not-false f)
     go false less f = less f
 

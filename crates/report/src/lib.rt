@@ -3,7 +3,7 @@
 // Headline: an indication says nothing exactly if nothing differs (proofs/Laws.antt).
 ghost use mathlib.Core.Path.{_≡_};
 ghost use mathlib.Core.List.{_∷_};
-ghost use Rattle.antenna.specs.Alarms.{codesOf, changesOf, stateOf, differs};
+ghost use Rattle.antenna.specs.Alarms.{codesOf, changesOf, flagOctet, differs};
 ghost use Rattle.payload.specs.Payloads.{payloadOf, successOf};
 ghost use Rattle.report.specs.Reports.{indicationOf};
 ghost use Rattle.octets.specs.Puts.{Puts};
@@ -47,7 +47,7 @@ fn is_apart(a: bool, b: bool) -> bool
 }
 
 fn state(on: bool) -> u8
-    ensures { λ r. ⌜ r ≡ stateOf on ⌝ }
+    ensures { λ r. ⌜ r ≡ flagOctet on ⌝ }
 {
     if on { 1 } else { 0 }
 }

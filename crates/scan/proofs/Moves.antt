@@ -18,20 +18,20 @@ use Rattle.walk.specs.Machine.{asking, limited, named, goOn, settle, next, zero
 use Rattle.walk.specs.Machine.{stepIn, step}
 use Rattle.scan.specs.Record.{listMost, listOf, beginningOf, flat, phaseOf, stateOf, _onto_}
 use Rattle.scan.specs.Record.{walkOf, recordOf}
-use Rattle.scan.specs.Steps.{nextAt, inState, at, standsAt, finishedBy, going, movedOn, notedIn}
+use Rattle.scan.specs.Steps.{nextAt, inState, at, stateAt, finishedBy, going, scanMoved, notedIn}
 use Rattle.scan.specs.declared.Scan.{Scan}
 use Rattle.scan.specs.declared.State.{State}
 use Rattle.scan.specs.declared.State.the-variants.{Asking, Limit, Full}
 use Rattle.scan.proofs.Rows.{length-rows, rows-same, rows-more, length-more}
 
 pub moved-none : (s : Scan) (n : ℕ) (quiet doubt : Bool) {t : State} → n ≡ 0 → t ≡ finishedBy doubt
-    → inState (at s n (s .beginning)) t ≡ movedOn s n quiet doubt
-unfolding movedOn
+    → inState (at s n (s .beginning)) t ≡ scanMoved s n quiet doubt
+unfolding scanMoved
 moved-none s n quiet doubt e g = rw (e, g)
 
 pub moved-some : (s : Scan) (n : ℕ) (quiet doubt : Bool) → (n ≡ 0 → ⊥)
-    → going (at s n (set (s .beginning) (n - 1) true)) quiet doubt ≡ movedOn s n quiet doubt
-unfolding movedOn
+    → going (at s n (set (s .beginning) (n - 1) true)) quiet doubt ≡ scanMoved s n quiet doubt
+unfolding scanMoved
 moved-some s zero quiet doubt h = absurd (h refl)
 moved-some s (suc m) quiet doubt h = let k : suc m - 1 ≡ m = omega arith in rw k
 
@@ -45,7 +45,7 @@ placed-is : (s : Scan) (l c listed : ℕ) (list : List ℕ) (bits : ℕ) (row : 
     (f : List (List ℕ)) (p : Bits) (q w : Bool)
     → listed ≡ length f → list ≡ (flat f onto s .list) → bits ≡ length p → row ≡ (p onto s .beginning)
     → going (made l c listed list bits row st) q w ≡ recordOf s (settle l c f q w (some p))
-unfolding named stateOf standsAt goOn
+unfolding named stateOf stateAt goOn
 placed-is s l c listed list bits row st f p q w a b d e = rw (a, b, d, e) (by-test (ltb c l))
   where
     by-test : (t : Bool)
@@ -58,8 +58,8 @@ placed-is s l c listed list bits row st f p q w a b d e = rw (a, b, d, e) (by-te
 moved-is : (s : Scan) (l c listed : ℕ) (list : List ℕ) (bits : ℕ) (row : Bits) (st : State)
     (f : List (List ℕ)) (n : ℕ) (q w : Bool)
     → listed ≡ length f → list ≡ (flat f onto s .list) → row ≡ s .beginning → n ≤ length row
-    → movedOn (made l c listed list bits row st) n q w ≡ recordOf s (settle l c f q w (nextAt row n))
-unfolding movedOn finishedBy nextAt goOn stateOf named
+    → scanMoved (made l c listed list bits row st) n q w ≡ recordOf s (settle l c f q w (nextAt row n))
+unfolding scanMoved finishedBy nextAt goOn stateOf named
 moved-is s l c listed list bits row st f zero q true a b e h = rw (a, b, e)
 moved-is s l c listed list bits row st f zero q false a b e h = rw (a, b, e)
 moved-is s l c listed list bits row st f (suc m) q w a b e h =
@@ -82,9 +82,9 @@ module _ (s : Scan) (q w : Bool) where
 
   pub note-silent : (n : ℕ) (z : Bool) → n ≤ length (s .beginning)
       → next (beginningOf s) ≡ nextAt (s .beginning) n → z ≡ zeroHalf (beginningOf s)
-      → movedOn (made (s .limit) (s .count + 1) (s .listed) (s .list) (s .bits) (s .beginning) (s .state)) n z (w || q)
+      → scanMoved (made (s .limit) (s .count + 1) (s .listed) (s .list) (s .bits) (s .beginning) (s .state)) n z (w || q)
       ≡ notedIn s q w false
-  unfolding movedOn noted flat named stateOf
+  unfolding scanMoved noted flat named stateOf
   note-silent n z k e v =
       rw (e, ← v, ← (add-one (s .count)))
       (moved-is s (s .limit) (s .count + 1) (s .listed) (s .list) (s .bits) (s .beginning) (s .state) (listOf s) n z
@@ -94,7 +94,7 @@ module _ (s : Scan) (q w : Bool) where
       → going (made (s .limit) (s .count + 1) (s .listed) (s .list) (s .bits + 1) (set (s .beginning) (s .bits) false)
       (s .state)) false w
       ≡ notedIn s q w true
-  unfolding standsAt noted flat named stateOf
+  unfolding stateAt noted flat named stateOf
   note-deeper k e =
       let b : List Bool = beginningOf s in
       let n : length b ≡ s .bits = bits-are (omega arith) in
@@ -108,9 +108,9 @@ module _ (s : Scan) (q w : Bool) where
   pub note-listed : (n : ℕ) {list : List ℕ} → list ≡ sets (s .list) (width * s .listed) (octetsOf (beginningOf s))
       → length (s .list) ≡ width * listMost → s .bits ≡ depth → length (s .beginning) ≡ depth → s .listed < listMost
       → n ≤ length (s .beginning) → next (beginningOf s) ≡ nextAt (s .beginning) n
-      → movedOn (made (s .limit) (s .count + 1) (s .listed + 1) list (s .bits) (s .beginning) (s .state)) n false w
+      → scanMoved (made (s .limit) (s .count + 1) (s .listed + 1) list (s .bits) (s .beginning) (s .state)) n false w
       ≡ notedIn s q w true
-  unfolding movedOn noted flat named stateOf listing
+  unfolding scanMoved noted flat named stateOf listing
   note-listed n {list} g h b e k i v =
       let y : List ℕ = octetsOf (beginningOf s) in
       let long : length (beginningOf s) ≡ s .bits = bits-are (omega arith) in

@@ -17,7 +17,7 @@ use Rattle.identity.specs.Identity.{width, depth, octetsOf, maskOf}
 use Rattle.refusal.specs.Answer.{Answer, _when_, answered, shorter, stateAfter}
 use Rattle.walk.specs.Machine.{step}
 use Rattle.scan.specs.Record.{listMost, beginningOf, walkOf, recordOf}
-use Rattle.scan.specs.Steps.{standsAt}
+use Rattle.scan.specs.Steps.{stateAt}
 use Rattle.scan.specs.declared.Scan.{Scan}
 use Rattle.scan.specs.declared.State.{State}
 use Rattle.scan.specs.declared.State.the-variants.{Asking, Complete, Doubtful, Limit, Full}
@@ -32,7 +32,7 @@ fresh limit =
       list = replicate (width * listMost) 0;
       bits = 0;
       beginning = replicate depth false;
-      state = standsAt 0 limit false false;
+      state = stateAt 0 limit false false;
     }
 
 -- 01: "the XID scan from 0xFF with 19-octet values: a beginning in 1, ones over it in 3, zeros elsewhere;

@@ -1,10 +1,10 @@
 -- The parts of a step on the record, as the code takes them.
 --   nextAt row n     == the first n bits of a row with the last made a one; none where n is 0
---   standsAt c l q w == asking where probes are left, at the limit where not
+--   stateAt c l q w == asking where probes are left, at the limit where not
 --   finishedBy w     == the end where no probe remains
 --   inState s t      == s in the state t; at s n row == s at the first n bits of a row
 --   going s q w      == s goes on where it stands
---   movedOn s n q w  == s goes on at the first n bits, the last made a one; it is done where n is 0
+--   scanMoved s n q w  == s goes on at the first n bits, the last made a one; it is done where n is 0
 --   notedIn s q w a  == s, which asks with the flags q and w, after the answer a
 -- Assumes nothing.
 use mathlib.Core.Bool.{Bool, true, cond}
@@ -50,19 +50,19 @@ at s n row =
     }
 
 -- 01: "as "limit" when limit probes are answered and more remain"
-unfoldable pub standsAt : ℕ → ℕ → Bool → Bool → State
-standsAt count limit quiet doubt = cond (ltb count limit) (Asking quiet doubt) Limit
+unfoldable pub stateAt : ℕ → ℕ → Bool → Bool → State
+stateAt count limit quiet doubt = cond (ltb count limit) (Asking quiet doubt) Limit
 
 -- 01: ""doubtful" if a heard beginning had both halves silent, "complete" if not"
 unfoldable pub finishedBy : Bool → State
 finishedBy doubt = cond doubt Doubtful Complete
 
 abbrev pub going : Scan → Bool → Bool → Scan
-going s quiet doubt = inState s (standsAt (s .count) (s .limit) quiet doubt)
+going s quiet doubt = inState s (stateAt (s .count) (s .limit) quiet doubt)
 
-unfoldable pub movedOn : Scan → ℕ → Bool → Bool → Scan
-movedOn s zero quiet doubt = inState (at s zero (s .beginning)) (finishedBy doubt)
-movedOn s (suc m) quiet doubt = going (at s (suc m) (set (s .beginning) m true)) quiet doubt
+unfoldable pub scanMoved : Scan → ℕ → Bool → Bool → Scan
+scanMoved s zero quiet doubt = inState (at s zero (s .beginning)) (finishedBy doubt)
+scanMoved s (suc m) quiet doubt = going (at s (suc m) (set (s .beginning) m true)) quiet doubt
 
 abbrev pub notedIn : Scan → Bool → Bool → Bool → Scan
 notedIn s quiet doubt heard =

@@ -9,7 +9,7 @@ ghost use Rattle.refusal.specs.Answer.{Changes};
 ghost use Rattle.identity.specs.Identity.{width, depth};
 ghost use Rattle.walk.specs.Machine.{next, zeroHalf};
 ghost use Rattle.scan.specs.Record.{listMost};
-ghost use Rattle.scan.specs.Steps.{nextAt, standsAt, finishedBy, inState, going, movedOn, notedIn};
+ghost use Rattle.scan.specs.Steps.{nextAt, stateAt, finishedBy, inState, going, scanMoved, notedIn};
 ghost use Rattle.scan.specs.Scan.{fresh, reported};
 use identity::BITS;
 use identity::OCTETS;
@@ -68,7 +68,7 @@ fn either(a: bool, b: bool) -> bool
 
 // Asking where probes are left, at the limit where not.
 fn standing(count: u16, limit: u16, quiet: bool, doubt: bool) -> State
-    ensures { λ r. ⌜ r ≡ standsAt count limit quiet doubt ⌝ }
+    ensures { λ r. ⌜ r ≡ stateAt count limit quiet doubt ⌝ }
 {
     if count < limit {
         return State::Asking { quiet, doubt };
@@ -113,7 +113,7 @@ fn keep_going(scan: Scan, quiet: bool, doubt: bool) -> Scan
 // On at the first n bits, the last made a one; done where n is 0.
 fn move_on(scan: Scan, n: usize, quiet: bool, doubt: bool) -> Scan
     requires { ⌜ n ≤ depth ⌝ }
-    ensures { λ r. ⌜ r ≡ movedOn scan n quiet doubt ⌝ }
+    ensures { λ r. ⌜ r ≡ scanMoved scan n quiet doubt ⌝ }
 {
     let mut s = scan;
     s.bits = n;

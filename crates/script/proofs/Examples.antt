@@ -8,10 +8,10 @@ use Rattle.octets.specs.Octets.{placeOf}
 use Rattle.identity.specs.Identity.{same}
 use Rattle.script.specs.Words.{spelled, firstOf, behindFirst, wordAt, spacesIn, placeFrom}
 use Rattle.script.specs.Values.{hexDigit, octetBy, octetOf, octetThen, pairsOf, hexOf, allDigits, numeral}
-use Rattle.script.specs.Values.{decimal, isNegative, digitsOf, bitsOf, ranged, numberBy, fromOne, heardBy}
+use Rattle.script.specs.Values.{decimal, isNegative, digitsOf, patternOf, ranged, numberBy, fromOne, heardMeans}
 use Rattle.script.specs.Values.{valueOf}
-use Rattle.script.specs.Script.{commandOf, kindsOf, blank, withValue, withOctets, withHex, withWord, isFaulty}
-use Rattle.script.specs.Script.{wordsBy, isSilent, readLine}
+use Rattle.script.specs.Script.{commandOf, kindsOf, wordless, withValue, withOctets, withHex, withWord, isFaulty}
+use Rattle.script.specs.Script.{wordsBy, isUnanswered, readLine}
 use Rattle.script.specs.declared.Fault.the-variants.{Long, Command, Words, Hex, Number, Room, Device}
 use Rattle.script.specs.declared.Line.the-variants.{Silent, Faulty, Asks}
 use Rattle.script.specs.declared.Asked.{Asked}
@@ -43,26 +43,26 @@ read : (readLine (spelled "raise 1 20") 1 ≡ asks 4 (1 ∷ 20 ∷ []) [])
     × (readLine (spelled "device 4e 4141 - 31 -5 5 0") 0
     ≡ asks 6 (1 ∷ 3 ∷ 3 ∷ 4 ∷ 65531 ∷ 5 ∷ 0 ∷ []) (0x4e ∷ 0x41 ∷ 0x41 ∷ 0x31 ∷ []))
 unfolding spelled firstOf behindFirst wordAt spacesIn placeFrom placeOf same hexDigit octetBy octetOf octetThen pairsOf
-    hexOf allDigits numeral decimal isNegative digitsOf bitsOf ranged numberBy fromOne heardBy valueOf commandOf kindsOf
-    withValue withOctets withHex withWord isFaulty wordsBy isSilent readLine
+    hexOf allDigits numeral decimal isNegative digitsOf patternOf ranged numberBy fromOne heardMeans valueOf commandOf kindsOf
+    withValue withOctets withHex withWord isFaulty wordsBy isUnanswered readLine
 read = (refl, refl, refl, refl, refl, refl, refl, refl)
 
 -- a line that is long has that fault before every other, unless it is a comment
-faults : (readLine (spelled "probe 601") 0 ≡ blank (Faulty Room))
-    × (readLine (spelled "probe 99999999999999999999") 0 ≡ blank (Faulty Room))
-    × (readLine (spelled "probe --1") 0 ≡ blank (Faulty Number))
-    × (readLine (spelled "hear 1 zz 9") 1 ≡ blank (Faulty Hex))
-    × (readLine (spelled "hear 1 123 9") 1 ≡ blank (Faulty Hex))
-    × (readLine (spelled "show 2") 1 ≡ blank (Faulty Device))
-    × (readLine (spelled "show -1") 1 ≡ blank (Faulty Device))
-    × (readLine (spelled "stopped 1 32768") 1 ≡ blank (Faulty Number))
-    × (readLine (spelled "report twice") 0 ≡ blank (Faulty Words))
-    × (readLine (spelled "probe  1") 0 ≡ blank (Faulty Words))
-    × (readLine (spelled "Probe 1") 0 ≡ blank (Faulty Command))
-    × (readLine (replicate 2001 97) 0 ≡ blank (Faulty Long))
-    × (readLine (replicate 2001 35) 0 ≡ blank Silent)
-    × (readLine [] 0 ≡ blank Silent)
+faults : (readLine (spelled "probe 601") 0 ≡ wordless (Faulty Room))
+    × (readLine (spelled "probe 99999999999999999999") 0 ≡ wordless (Faulty Room))
+    × (readLine (spelled "probe --1") 0 ≡ wordless (Faulty Number))
+    × (readLine (spelled "hear 1 zz 9") 1 ≡ wordless (Faulty Hex))
+    × (readLine (spelled "hear 1 123 9") 1 ≡ wordless (Faulty Hex))
+    × (readLine (spelled "show 2") 1 ≡ wordless (Faulty Device))
+    × (readLine (spelled "show -1") 1 ≡ wordless (Faulty Device))
+    × (readLine (spelled "stopped 1 32768") 1 ≡ wordless (Faulty Number))
+    × (readLine (spelled "report twice") 0 ≡ wordless (Faulty Words))
+    × (readLine (spelled "probe  1") 0 ≡ wordless (Faulty Words))
+    × (readLine (spelled "Probe 1") 0 ≡ wordless (Faulty Command))
+    × (readLine (replicate 2001 97) 0 ≡ wordless (Faulty Long))
+    × (readLine (replicate 2001 35) 0 ≡ wordless Silent)
+    × (readLine [] 0 ≡ wordless Silent)
 unfolding spelled firstOf behindFirst wordAt spacesIn placeFrom placeOf same hexDigit octetBy octetOf octetThen pairsOf
-    hexOf allDigits numeral decimal isNegative digitsOf bitsOf ranged numberBy fromOne heardBy valueOf commandOf kindsOf
-    withValue withOctets withHex withWord isFaulty wordsBy isSilent readLine
+    hexOf allDigits numeral decimal isNegative digitsOf patternOf ranged numberBy fromOne heardMeans valueOf commandOf kindsOf
+    withValue withOctets withHex withWord isFaulty wordsBy isUnanswered readLine
 faults = (refl, refl, refl, refl, refl, refl, refl, refl, refl, refl, refl, refl, refl, refl)

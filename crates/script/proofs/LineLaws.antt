@@ -14,8 +14,8 @@ use Rattle.octets.proofs.Rest.{rest}
 use Rattle.identity.specs.Identity.{same}
 use Rattle.script.specs.Words.{spelled, wordAt, spacesIn}
 use Rattle.script.specs.Values.{octetBy, octetThen, pairsOf, hexOf}
-use Rattle.script.specs.Script.{commandOf, kindsOf, blank, withValue, withOctets, withHex, stored, withWord}
-use Rattle.script.specs.Script.{isFaulty, wordsBy, isSilent, readLine}
+use Rattle.script.specs.Script.{commandOf, kindsOf, wordless, withValue, withOctets, withHex, stored, withWord}
+use Rattle.script.specs.Script.{isFaulty, wordsBy, isUnanswered, readLine}
 use Rattle.script.specs.declared.Fault.{Fault}
 use Rattle.script.specs.declared.Fault.the-variants.{Command, Words, Hex}
 use Rattle.script.specs.declared.Value.{Value}
@@ -43,7 +43,7 @@ module _ (a : Asked) (n : ℕ) (w : List ℕ) where
   unfolding hexOf
   hex-none e = rw e
 
-  pub hex-empty : same w (spelled "-") ≡ false → length w ≡ 0 → blank (Faulty Hex) ≡ withHex a n (hexOf w)
+  pub hex-empty : same w (spelled "-") ≡ false → length w ≡ 0 → wordless (Faulty Hex) ≡ withHex a n (hexOf w)
   unfolding hexOf withHex
   hex-empty e l = rw (e, eq-eqb (length w) 0 l)
 
@@ -72,12 +72,12 @@ stored-length o at x p = rw p (length-set o at x)
 
 module _ (a : Asked) (n : ℕ) (o : List ℕ) (at : ℕ) (s : List ℕ) (i : ℕ) {w : Asked}
     (v : withHex (stored a o at) n (pairsOf (drop i s)) ≡ w) where
-  pub pairs-odd : i < length s → length s - i < 2 → blank (Faulty Hex) ≡ w
+  pub pairs-odd : i < length s → length s - i < 2 → wordless (Faulty Hex) ≡ w
   unfolding withHex pairsOf
   pairs-odd h k = rw (rest s i h, drop-of-length-le s {i = i + 1} (omega arith)) at v
 
   pub pairs-bad : {f : Fault} → i + 1 < length s → octetBy (getD s i 0) (getD s (i + 1) 0) ≡ Bad f
-      → blank (Faulty Hex) ≡ w
+      → wordless (Faulty Hex) ≡ w
   unfolding withHex pairsOf octetThen
   pairs-bad h e = rw (rest-two s i h, e) at v
 
@@ -111,12 +111,12 @@ module _ (d : ℕ) (ks s : List ℕ) (i : ℕ) (a : Asked) {w : Asked} (v : word
 -- ---- the line, neither silent nor long
 
 module _ (s : List ℕ) (d : ℕ) {ks : List ℕ}
-    (silent : isSilent s ≡ false) (short : length s ≤ 2000) (k : ks ≡ kindsOf s) where
-  pub line-command : length ks ≡ 0 → blank (Faulty Command) ≡ readLine s d
+    (silent : isUnanswered s ≡ false) (short : length s ≤ 2000) (k : ks ≡ kindsOf s) where
+  pub line-command : length ks ≡ 0 → wordless (Faulty Command) ≡ readLine s d
   unfolding readLine
   line-command e = rw (silent, le-ltb 2000 (length s) short, ← k, eq-eqb (length ks) 0 e)
 
-  pub line-words : (length ks ≡ 0 → ⊥) → (spacesIn s ≡ length ks → ⊥) → blank (Faulty Words) ≡ readLine s d
+  pub line-words : (length ks ≡ 0 → ⊥) → (spacesIn s ≡ length ks → ⊥) → wordless (Faulty Words) ≡ readLine s d
   unfolding readLine
   line-words n e =
       rw (
@@ -127,7 +127,7 @@ module _ (s : List ℕ) (d : ℕ) {ks : List ℕ}
         ne-eqb (spacesIn s) (length ks) e,
       )
 
-  pub line-reads : {command : ℕ} {b r : Asked} → command ≡ commandOf s → b ≡ blank (Asks command)
+  pub line-reads : {command : ℕ} {b r : Asked} → command ≡ commandOf s → b ≡ wordless (Asks command)
       → r ≡ wordsBy d ks 1 s b → (length ks ≡ 0 → ⊥) → spacesIn s ≡ length ks → r ≡ readLine s d
   unfolding readLine
   line-reads c start words n e =

@@ -14,7 +14,7 @@ use Rattle.identity.specs.Identity.{same}
 use Rattle.script.specs.Words.{spelled, firstOf, behindFirst, wordAt}
 use Rattle.script.specs.Values.{octetBy, octetThen, pairsOf, hexOf, valueOf}
 use Rattle.script.specs.Room.{countOf, AllFit}
-use Rattle.script.specs.Script.{rowMost, blank, commandOf, kindsOf, withValue, withOctets, withHex, withWord}
+use Rattle.script.specs.Script.{octetsMost, wordless, commandOf, kindsOf, withValue, withOctets, withHex, withWord}
 use Rattle.script.specs.declared.Value.{Value}
 use Rattle.script.specs.declared.Value.the-variants.{Means, Bad}
 use Rattle.script.specs.declared.Line.the-variants.{Asks}
@@ -86,7 +86,7 @@ word-len k d a n w = go (eqb k (code "x"))
     go true = hex-len a n (hexOf w)
     go false = omega (arith, value-len a n (valueOf k d w))
 
-all-fit : (d : ℕ) (ks : List ℕ) (n : ℕ) (s : List ℕ) (a : Asked) → 2 * a .len + length (restAt n s) ≤ 2 * rowMost
+all-fit : (d : ℕ) (ks : List ℕ) (n : ℕ) (s : List ℕ) (a : Asked) → 2 * a .len + length (restAt n s) ≤ 2 * octetsMost
     → AllFit d ks n s a
 all-fit d [] n s a h = tt
 all-fit d (k ∷ ks) n s a h =
@@ -96,10 +96,10 @@ all-fit d (k ∷ ks) n s a h =
     )
 
 -- "`long` (more than 2,000 octets ..)" is a fault, so each line that asks something fits
-pub row-fits : (s : List ℕ) (d : ℕ) → length s ≤ 2000 → AllFit d (kindsOf s) 1 s (blank (Asks (commandOf s)))
-row-fits s d h = all-fit d (kindsOf s) 1 s (blank (Asks (commandOf s))) (omega (arith, h, word-within 0 s))
+pub row-fits : (s : List ℕ) (d : ℕ) → length s ≤ 2000 → AllFit d (kindsOf s) 1 s (wordless (Asks (commandOf s)))
+row-fits s d h = all-fit d (kindsOf s) 1 s (wordless (Asks (commandOf s))) (omega (arith, h, word-within 0 s))
 
 -- and where the octets of a word fit, none is left out
-pub none-left-out : (a : Asked) (os : List ℕ) → a .len + length os ≤ rowMost → withOctets a os .len ≡ a .len + length os
+pub none-left-out : (a : Asked) (os : List ℕ) → a .len + length os ≤ octetsMost → withOctets a os .len ≡ a .len + length os
 unfolding withOctets
 none-left-out a os h = omega arith

@@ -10,7 +10,7 @@ use lib.Dec.{ltb, leb}
 use lib.ListN.{length, getD, take, drop, drop-of-length-le}
 use Rattle.octets.proofs.Takes.{take-rest}
 use Rattle.octets.proofs.Rest.{rest}
-use Rattle.script.specs.Values.{hexDigit, octetBy, allDigits, numeral, decimal, isNegative, digitsOf, sizeOf}
+use Rattle.script.specs.Values.{hexDigit, octetBy, allDigits, numeral, decimal, isNegative, digitsOf, decimalOf}
 use Rattle.script.specs.Values.{ranged, numberBy}
 use Rattle.script.specs.declared.Fault.{Fault}
 use Rattle.script.specs.declared.Fault.the-variants.{Hex, Number}
@@ -84,12 +84,12 @@ unfolding decimal
 capped m k [] e = e
 capped m k (c ∷ s) e = capped (10 * m + (c - 48)) (10 * k + (c - 48)) s (omega (arith, e))
 
-pub size-none : (s : List ℕ) → length s ≡ 0 → 1000001 ≡ sizeOf s
-unfolding sizeOf numeral
+pub size-none : (s : List ℕ) → length s ≡ 0 → 1000001 ≡ decimalOf s
+unfolding decimalOf numeral
 size-none s e = rw (eq-eqb (length s) 0 e)
 
-pub size-start : (s : List ℕ) → (length s ≡ 0 → ⊥) → sizeFrom 0 s ≡ sizeOf s
-unfolding sizeOf numeral
+pub size-start : (s : List ℕ) → (length s ≡ 0 → ⊥) → sizeFrom 0 s ≡ decimalOf s
+unfolding decimalOf numeral
 size-start s n = rw (ne-eqb (length s) 0 n)
 
 module _ (s : List ℕ) (n i : ℕ) {w : ℕ} (v : sizeFrom n (drop i s) ≡ w) where
@@ -117,16 +117,16 @@ module _ (s : List ℕ) (n i : ℕ) {w : ℕ} (v : sizeFrom n (drop i s) ≡ w) 
 
 -- ---- numbers in their range
 
-size-told : (s : List ℕ) → 1000000 < sizeOf s → numeral s ≡ false
-unfolding sizeOf
+size-told : (s : List ℕ) → 1000000 < decimalOf s → numeral s ≡ false
+unfolding decimalOf
 size-told s h = go (numeral s) refl h
   where
     go : (t : Bool) → numeral s ≡ t → 1000000 < cond t (min (decimal 0 s) 1000000) 1000001 → numeral s ≡ false
     go true e k = let none : ⊥ = omega arith in absurd none
     go false e k = e
 
-size-fits : (s : List ℕ) → sizeOf s ≤ 1000000 → (numeral s ≡ true) × (sizeOf s ≡ min (decimal 0 s) 1000000)
-unfolding sizeOf
+size-fits : (s : List ℕ) → decimalOf s ≤ 1000000 → (numeral s ≡ true) × (decimalOf s ≡ min (decimal 0 s) 1000000)
+unfolding decimalOf
 size-fits s h = go (numeral s) refl h
   where
     go : (t : Bool) → numeral s ≡ t → cond t (min (decimal 0 s) 1000000) 1000001 ≤ 1000000
@@ -148,7 +148,7 @@ ranged-capped negative most f n b = go (leb n most) refl
         let h = leb-false n most e in
         rw (e, lt-leb (min n 1000000) most (omega arith))
 
-module _ (below above : ℕ) (f : Fault) (w : List ℕ) (n : ℕ) (e : n ≡ sizeOf (digitsOf w)) where
+module _ (below above : ℕ) (f : Fault) (w : List ℕ) (n : ℕ) (e : n ≡ decimalOf (digitsOf w)) where
   pub number-none : 1000000 < n → Bad Number ≡ numberBy below above f w
   unfolding numberBy
   number-none h = rw (size-told (digitsOf w) (rw e at h))

@@ -8,7 +8,7 @@ use Prim.Native.Nat.{ℕ, suc, _+_, _≤_}
 use lib.ListN.{length}
 use Rattle.script.specs.Words.{wordAt}
 use Rattle.script.specs.Values.{hexOf}
-use Rattle.script.specs.Script.{rowMost, withWord}
+use Rattle.script.specs.Script.{octetsMost, withWord}
 use Rattle.script.specs.declared.Asked.{Asked}
 
 abbrev pub countOf : Option (List ℕ) → ℕ
@@ -18,4 +18,4 @@ countOf (some os) = length os
 abbrev pub AllFit : ℕ → List ℕ → ℕ → List ℕ → Asked → Type 0
 AllFit d [] n s a = Unit {0}
 AllFit d (k ∷ ks) n s a =
-    (a .len + countOf (hexOf (wordAt n s)) ≤ rowMost) × AllFit d ks (suc n) s (withWord k d a n (wordAt n s))
+    (a .len + countOf (hexOf (wordAt n s)) ≤ octetsMost) × AllFit d ks (suc n) s (withWord k d a n (wordAt n s))

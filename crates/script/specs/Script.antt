@@ -1,7 +1,7 @@
 -- A line of the bench script, read.
 --   commandOf s      == the command of the line s by its place among the names; 13 where it is none of them
 --   kindsOf s        == the kinds of the words behind it, one letter each; none where there is no such command
---   blank l          == the line means l, and no word is read
+--   wordless l          == the line means l, and no word is read
 --   stored a os n    == the code's: a with the octets os up to n
 --   withWord k d a n w == a, and the word w of the kind k at the place n
 --   wordsBy d ks n s a == a, and the words of the line s from the place n on, of the kinds ks, up to the first fault
@@ -39,15 +39,15 @@ kindsOf s = wordAt (commandOf s) (spelled "dxr dxr d dt da da xxxxttt l l r h xr
 -- ---- the words behind it
 
 -- more octets than the longest line has in HEX
-abbrev pub rowMost : ℕ
-rowMost = 1000
+abbrev pub octetsMost : ℕ
+octetsMost = 1000
 
-abbrev pub blank : Line → Asked
-blank l = record { line = l; values = replicate 8 0; octets = replicate rowMost 0; len = 0 }
+abbrev pub wordless : Line → Asked
+wordless l = record { line = l; values = replicate 8 0; octets = replicate octetsMost 0; len = 0 }
 
 unfoldable pub withValue : Asked → ℕ → Value → Asked
 withValue a n (Means v) = record { line = a .line; values = set (a .values) n v; octets = a .octets; len = a .len }
-withValue a n (Bad f) = blank (Faulty f)
+withValue a n (Bad f) = wordless (Faulty f)
 
 unfoldable pub withOctets : Asked → List ℕ → Asked
 withOctets a os =
@@ -55,11 +55,11 @@ withOctets a os =
       line = a .line;
       values = a .values;
       octets = sets (a .octets) (a .len) os;
-      len = min (a .len + length os) rowMost;
+      len = min (a .len + length os) octetsMost;
     }
 
 unfoldable pub withHex : Asked → ℕ → Option (List ℕ) → Asked
-withHex a n none = blank (Faulty Hex)
+withHex a n none = wordless (Faulty Hex)
 withHex a n (some os) = withValue (withOctets a os) n (Means (withOctets a os .len))
 
 -- the code's: other octets, up to a place
@@ -84,16 +84,16 @@ wordsBy d (k ∷ ks) n s a =
 -- ---- the line
 
 -- "A line that is empty or begins with `#` gets no answer."
-unfoldable pub isSilent : List ℕ → Bool
-isSilent s = eqb (length s) 0 || eqb (getD s 0 0) (code "#")
+unfoldable pub isUnanswered : List ℕ → Bool
+isUnanswered s = eqb (length s) 0 || eqb (getD s 0 0) (code "#")
 
 -- "A line's faults are looked for in this order: `long` (more than 2,000 octets ..; a comment is never too long),
 -- `command` (the first word), `words` (their number), then each word from the left."
 unfoldable pub readLine : List ℕ → ℕ → Asked
 readLine s d =
-    cond (isSilent s) (blank Silent)
-    (cond (ltb 2000 (length s)) (blank (Faulty Long))
-    (cond (eqb (length (kindsOf s)) 0) (blank (Faulty Command))
+    cond (isUnanswered s) (wordless Silent)
+    (cond (ltb 2000 (length s)) (wordless (Faulty Long))
+    (cond (eqb (length (kindsOf s)) 0) (wordless (Faulty Command))
     (cond (eqb (spacesIn s) (length (kindsOf s)))
-    (wordsBy d (kindsOf s) 1 s (blank (Asks (commandOf s))))
-    (blank (Faulty Words)))))
+    (wordsBy d (kindsOf s) 1 s (wordless (Asks (commandOf s))))
+    (wordless (Faulty Words)))))

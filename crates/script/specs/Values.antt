@@ -3,7 +3,7 @@
 --   octetBy h l      == the octet of two digits; octetOf w == of a word of exactly two
 --   hexOf w          == the octets of a word HEX, where it is one
 --   numeral s        == s is one or more decimal digits; decimal n s == the number n with the digits s behind it
---   sizeOf s         == the code's: that number, a million for each above it; one more where s is none
+--   decimalOf s         == the code's: that number, a million for each above it; one more where s is none
 --   numberBy b a f w == the number w of -b to a, as its 16 bits; the fault f where it is outside
 --   valueOf k d w    == what the word w of the kind k stands for, on a bench with d devices
 -- The kinds by their letters: o an octet, r ROOM, d a device K, t a tilt, a an alarm, l a limit, h heard or silent; HEX
@@ -24,15 +24,15 @@ use Rattle.script.specs.declared.Value.the-variants.{Means, Bad}
 
 -- ---- HEX
 
-abbrev pub between : ℕ → ℕ → ℕ → Bool
-between least most n = leb least n && leb n most
+abbrev pub isFromTo : ℕ → ℕ → ℕ → Bool
+isFromTo least most n = leb least n && leb n most
 
 -- "digits `0-9a-f` (upper case is read, lower case is written)"
 unfoldable pub hexDigit : ℕ → ℕ
 hexDigit c =
-    cond (between (code "0") (code "9") c) (c - code "0")
-    (cond (between (code "a") (code "f") c) (c - code "a" + 10)
-    (cond (between (code "A") (code "F") c) (c - code "A" + 10) 16))
+    cond (isFromTo (code "0") (code "9") c) (c - code "0")
+    (cond (isFromTo (code "a") (code "f") c) (c - code "a" + 10)
+    (cond (isFromTo (code "A") (code "F") c) (c - code "A" + 10) 16))
 
 unfoldable pub octetBy : ℕ → ℕ → Value
 octetBy h l =
@@ -61,7 +61,7 @@ hexOf w = cond (same w (spelled "-")) (some []) (cond (eqb (length w) 0) none (p
 
 unfoldable pub allDigits : List ℕ → Bool
 allDigits [] = true
-allDigits (c ∷ s) = between (code "0") (code "9") c && allDigits s
+allDigits (c ∷ s) = isFromTo (code "0") (code "9") c && allDigits s
 
 -- "A number is one or more digits, leading zeros read, with at most one `-` in front"
 unfoldable pub numeral : List ℕ → Bool
@@ -78,15 +78,15 @@ unfoldable pub digitsOf : List ℕ → List ℕ
 digitsOf w = cond (isNegative w) (drop 1 w) w
 
 -- the code's: a number up to a million, which stands for each above it; one more than that where it is none
-unfoldable pub sizeOf : List ℕ → ℕ
-sizeOf s = cond (numeral s) (min (decimal 0 s) 1000000) 1000001
+unfoldable pub decimalOf : List ℕ → ℕ
+decimalOf s = cond (numeral s) (min (decimal 0 s) 1000000) 1000001
 
 -- the 16 bits of a number, or of it below zero
-unfoldable pub bitsOf : Bool → ℕ → ℕ
-bitsOf negative n = cond negative ((65536 - n) % 65536) n
+unfoldable pub patternOf : Bool → ℕ → ℕ
+patternOf negative n = cond negative ((65536 - n) % 65536) n
 
 unfoldable pub ranged : Bool → ℕ → Fault → ℕ → Value
-ranged negative most f n = cond (leb n most) (Means (bitsOf negative n)) (Bad f)
+ranged negative most f n = cond (leb n most) (Means (patternOf negative n)) (Bad f)
 
 unfoldable pub numberBy : ℕ → ℕ → Fault → List ℕ → Value
 numberBy below above f w =
@@ -100,8 +100,8 @@ fromOne (Bad f) = Bad f
 fromOne (Means n) = cond (eqb n 0) (Bad Device) (Means n)
 
 -- "`report` with another word is `error words`"; 1 for heard
-unfoldable pub heardBy : ℕ → Value
-heardBy place = cond (ltb place 2) (Means place) (Bad Words)
+unfoldable pub heardMeans : ℕ → Value
+heardMeans place = cond (ltb place 2) (Means place) (Bad Words)
 
 -- "a ROOM outside 0 to 600 is `error room`; a tilt outside 16 bits signed, an alarm outside 0 to 255 and a limit
 -- outside 0 to 65,535 are `error number`"
@@ -112,4 +112,4 @@ valueOf k d w =
     (cond (eqb k (code "t")) (numberBy 32768 32767 Number w)
     (cond (eqb k (code "a")) (numberBy 0 255 Number w)
     (cond (eqb k (code "l")) (numberBy 0 65535 Number w)
-    (cond (eqb k (code "o")) (octetOf w) (heardBy (placeFrom 0 2 (spelled "silent heard") w)))))))
+    (cond (eqb k (code "o")) (octetOf w) (heardMeans (placeFrom 0 2 (spelled "silent heard") w)))))))

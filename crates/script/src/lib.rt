@@ -5,10 +5,10 @@ ghost use mathlib.Core.List.{[]};
 ghost use mathlib.Core.Option.{some};
 ghost use lib.ListN.{set};
 ghost use Rattle.script.specs.Words.{spelled, firstOf, behindFirst, wordAt, spacesIn, placeFrom};
-ghost use Rattle.script.specs.Values.{hexDigit, octetBy, octetOf, hexOf, pairsOf, isNegative, digitsOf, sizeOf};
-ghost use Rattle.script.specs.Values.{ranged, numberBy, fromOne, heardBy, valueOf};
-ghost use Rattle.script.specs.Script.{commandOf, blank, withValue, withHex, stored, withWord, isFaulty, wordsBy};
-ghost use Rattle.script.specs.Script.{isSilent, readLine};
+ghost use Rattle.script.specs.Values.{hexDigit, octetBy, octetOf, hexOf, pairsOf, isNegative, digitsOf, decimalOf};
+ghost use Rattle.script.specs.Values.{ranged, numberBy, fromOne, heardMeans, valueOf};
+ghost use Rattle.script.specs.Script.{commandOf, wordless, withValue, withHex, stored, withWord, isFaulty, wordsBy};
+ghost use Rattle.script.specs.Script.{isUnanswered, readLine};
 
 // The faults of a line, by the words that its answer has for them.
 pub enum Fault {
@@ -170,7 +170,7 @@ fn octet(word: &[u8]) -> Value
 
 // The number of one or more digits, a million for each above; a million and one where they are none.
 fn size(digits: &[u8]) -> usize
-    ensures { λ r. ⌜ r ≡ sizeOf (now (digits .entry)) ⌝ }
+    ensures { λ r. ⌜ r ≡ decimalOf (now (digits .entry)) ⌝ }
 {
     if digits.len() == 0 {
         return 1000001;
@@ -260,7 +260,7 @@ fn from_one(value: Value) -> Value
 
 // An answer to a probe: 1 where it was heard.
 fn heard(word: &[u8]) -> Value
-    ensures { λ r. ⌜ r ≡ heardBy (placeFrom 0 2 (spelled "silent heard") (now (word .entry))) ⌝ }
+    ensures { λ r. ⌜ r ≡ heardMeans (placeFrom 0 2 (spelled "silent heard") (now (word .entry))) ⌝ }
 {
     let place = place_in(b"silent heard", 2, word);
     if place < 2 {
@@ -297,8 +297,8 @@ fn value_of(kind: u8, devices: u8, word: &[u8]) -> Value
 // ---- the words behind the command
 
 // Nothing is read yet, or nothing counts.
-fn blank(line: Line) -> Asked
-    ensures { λ r. ⌜ r ≡ blank line ⌝ }
+fn wordless(line: Line) -> Asked
+    ensures { λ r. ⌜ r ≡ wordless line ⌝ }
 {
     Asked {
         line,
@@ -324,7 +324,7 @@ fn with_value(asked: Asked, n: usize, value: Value) -> Asked
     ensures { λ r. ⌜ r ≡ withValue asked n value ⌝ }
 {
     match value {
-        Value::Bad(fault) => blank(Line::Faulty(fault)),
+        Value::Bad(fault) => wordless(Line::Faulty(fault)),
         Value::Means(v) => {
             let line = asked.line;
             let before = asked.values;
@@ -365,13 +365,13 @@ fn with_pairs(asked: Asked, n: usize, digits: &[u8]) -> Asked
     let mut i = 0;
     while i < digits.len() {
         if digits.len() - i < 2 {
-            return blank(Line::Faulty(Fault::Hex));
+            return wordless(Line::Faulty(Fault::Hex));
         }
         let value = octet_by(digits[i], digits[i + 1]);
         i += 2;
         match value {
             Value::Bad(_) => {
-                return blank(Line::Faulty(Fault::Hex));
+                return wordless(Line::Faulty(Fault::Hex));
             }
             Value::Means(octet) => {
                 octets::put(&mut octets, at, octet as u8);
@@ -389,7 +389,7 @@ fn with_hex(asked: Asked, n: usize, word: &[u8]) -> Asked
         return with_pairs(asked, n, &word[..0]);
     }
     if word.len() == 0 {
-        return blank(Line::Faulty(Fault::Hex));
+        return wordless(Line::Faulty(Fault::Hex));
     }
     with_pairs(asked, n, word)
 }
@@ -435,7 +435,7 @@ fn read_words(devices: u8, kinds: &[u8], line: &[u8], asked: Asked) -> Asked
 
 // A line that is empty or a comment gets no answer.
 fn is_silent(line: &[u8]) -> bool
-    ensures { λ r. ⌜ r ≡ isSilent (now (line .entry)) ⌝ }
+    ensures { λ r. ⌜ r ≡ isUnanswered (now (line .entry)) ⌝ }
 {
     if line.len() == 0 {
         return true;
@@ -457,18 +457,18 @@ pub fn read_line(line: &[u8], devices: u8) -> Asked
     ensures { λ r. ⌜ r ≡ readLine (now (line .entry)) devices ⌝ }
 {
     if is_silent(line) {
-        return blank(Line::Silent);
+        return wordless(Line::Silent);
     }
     if 2000 < line.len() {
-        return blank(Line::Faulty(Fault::Long));
+        return wordless(Line::Faulty(Fault::Long));
     }
     let command = command_of(line);
     let kinds = word(b"dxr dxr d dt da da xxxxttt l l r h xr ooxr", command);
     if kinds.len() == 0 {
-        return blank(Line::Faulty(Fault::Command));
+        return wordless(Line::Faulty(Fault::Command));
     }
     if spaces(line) != kinds.len() {
-        return blank(Line::Faulty(Fault::Words));
+        return wordless(Line::Faulty(Fault::Words));
     }
-    read_words(devices, kinds, line, blank(Line::Asks(command)))
+    read_words(devices, kinds, line, wordless(Line::Asks(command)))
 }

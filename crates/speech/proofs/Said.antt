@@ -24,25 +24,25 @@ use Rattle.xid_answer.specs.Answer.{scanAnswer, assignmentAnswer}
 use Rattle.station.specs.declared.Say.{Say}
 use Rattle.station.specs.declared.Say.the-variants.{Scanned, Assigned}
 use Rattle.speech.specs.declared.Spoken.{Spoken}
-use Rattle.speech.specs.Speech.{octetsOf, pendingOctets, isSilent, controlBy, payloadBy, frameBy, spokenOf}
+use Rattle.speech.specs.Speech.{octetsHeld, pendingOctets, isSilent, controlBy, payloadBy, frameBy, spokenOf}
 
 -- a payload that holds a list says it
-holds-said : (r : Payload) (b : List ℕ) → r ≡ payloadOf b → octetsOf r ≡ b
-holds-said r b e = ap octetsOf e ∙ payload-says b
+holds-said : (r : Payload) (b : List ℕ) → r ≡ payloadOf b → octetsHeld r ≡ b
+holds-said r b e = ap octetsHeld e ∙ payload-says b
 
 pub indication-said : (t : Desk) (p : Pending) (r : Payload) → p ≡ Indication
-    → r ≡ payloadOf (indicationOf (t .said) (t .told)) → octetsOf r ≡ pendingOctets t p
+    → r ≡ payloadOf (indicationOf (t .said) (t .told)) → octetsHeld r ≡ pendingOctets t p
 unfolding pendingOctets
 indication-said t p r e h = holds-said r (indicationOf (t .said) (t .told)) h ∙ sym (ap (pendingOctets t) e)
 
 module _ (d : Device) (x : Say) (r : Payload) where
   pub scan-said : x ≡ Scanned → r ≡ payloadOf (scanAnswer (identityOf (d .plate)) (d .station .desk .address))
-      → octetsOf r ≡ payloadBy d x
+      → octetsHeld r ≡ payloadBy d x
   unfolding payloadBy
   scan-said e h = holds-said r (scanAnswer (identityOf (d .plate)) (d .station .desk .address)) h ∙ sym (ap (payloadBy d) e)
 
   pub assignment-said : x ≡ Assigned → r ≡ payloadOf (assignmentAnswer (identityOf (d .plate)))
-      → octetsOf r ≡ payloadBy d x
+      → octetsHeld r ≡ payloadBy d x
   unfolding payloadBy
   assignment-said e h = holds-said r (assignmentAnswer (identityOf (d .plate))) h ∙ sym (ap (payloadBy d) e)
 
@@ -75,7 +75,7 @@ module _ (d : Device) (x : Say) where
   silent-spoken e = (rw e, omega arith)
 
   pub laid-spoken : isSilent x ≡ false → (p : Payload) {c : ℕ} {r : Spoken} → c ≡ controlBy x
-      → octetsOf p ≡ payloadBy d x
+      → octetsHeld p ≡ payloadBy d x
       → (r ≡ spokenOf (some (d .station .desk .address ∷ c ∷ take (p .len) (p .octets)))) × (r .len ≤ frameMost frameLimit)
       → (r ≡ spokenOf (frameBy d x)) × (r .len ≤ frameMost frameLimit)
   unfolding frameBy

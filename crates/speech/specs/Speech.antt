@@ -26,12 +26,12 @@ use Rattle.station.specs.declared.Say.the-variants.{Silence, Bare, Reject, Pend
 use Rattle.speech.specs.declared.Spoken.{Spoken}
 
 -- the octets of a payload: as many as its length says, as far as they go
-abbrev pub octetsOf : Payload → List ℕ
-octetsOf p = take (p .len) (p .octets)
+abbrev pub octetsHeld : Payload → List ℕ
+octetsHeld p = take (p .len) (p .octets)
 
 unfoldable pub pendingOctets : Desk → Pending → List ℕ
 pendingOctets k Nothing = []
-pendingOctets k Answer = octetsOf (k .reply)
+pendingOctets k Answer = octetsHeld (k .reply)
 pendingOctets k Indication = indicationOf (k .said) (k .told)
 
 -- only a session has something pending

@@ -7,7 +7,7 @@ ghost use mathlib.Core.Option.{some};
 ghost use Prim.Native.Nat.{_≤_};
 ghost use lib.ListN.{take};
 ghost use Rattle.frame.specs.Line.{frameLimit, frameMost};
-ghost use Rattle.speech.specs.Speech.{octetsOf, pendingOctets, linkOctets, isSilent, controlBy, payloadBy};
+ghost use Rattle.speech.specs.Speech.{octetsHeld, pendingOctets, linkOctets, isSilent, controlBy, payloadBy};
 ghost use Rattle.speech.specs.Speech.{frameBy, spokenOf};
 use frame::FRAME_MOST;
 use record::Desk;
@@ -25,13 +25,13 @@ pub struct Spoken {
 }
 
 fn nothing() -> Payload
-    ensures { λ r. ⌜ octetsOf r ≡ [] ⌝ }
+    ensures { λ r. ⌜ octetsHeld r ≡ [] ⌝ }
 {
     record::NO_REPLY
 }
 
 fn reject(control: u8, counts: u8, why: u8) -> Payload
-    ensures { λ r. ⌜ octetsOf r ≡ control ∷ counts ∷ why ∷ [] ⌝ }
+    ensures { λ r. ⌜ octetsHeld r ≡ control ∷ counts ∷ why ∷ [] ⌝ }
 {
     let mut octets = [0u8; REPLY];
     octets[0] = control;
@@ -41,7 +41,7 @@ fn reject(control: u8, counts: u8, why: u8) -> Payload
 }
 
 fn pending_payload(desk: Desk, pending: Pending) -> Payload
-    ensures { λ r. ⌜ octetsOf r ≡ pendingOctets desk pending ⌝ }
+    ensures { λ r. ⌜ octetsHeld r ≡ pendingOctets desk pending ⌝ }
 {
     let said = desk.said;
     let told = desk.told;
@@ -53,7 +53,7 @@ fn pending_payload(desk: Desk, pending: Pending) -> Payload
 }
 
 fn link_payload(desk: Desk, link: Link) -> Payload
-    ensures { λ r. ⌜ octetsOf r ≡ linkOctets desk link ⌝ }
+    ensures { λ r. ⌜ octetsHeld r ≡ linkOctets desk link ⌝ }
 {
     match link {
         Link::NoAddress => nothing(),
@@ -100,7 +100,7 @@ fn control_of(say: Say) -> u8
 }
 
 fn payload_of(device: Device, say: Say) -> Payload
-    ensures { λ r. ⌜ octetsOf r ≡ payloadBy device say ⌝ }
+    ensures { λ r. ⌜ octetsHeld r ≡ payloadBy device say ⌝ }
 {
     let plate = device.plate;
     let station = device.station;

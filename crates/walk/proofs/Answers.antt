@@ -11,7 +11,7 @@ use lib.Seq.{take-all, take-at}
 use Rattle.identity.specs.Bits.{Bits}
 use Rattle.walk.specs.Probes.{Mark, hit, beginningsOf, hits, place, Doubt}
 use Rattle.walk.specs.Machine.{Phase, asking, complete, doubtful, limited, full, Ended, Walk, start, run}
-use Rattle.walk.specs.Demand.{Asks, AnyEnd, AnyAnswers}
+use Rattle.walk.specs.Demand.{AsksNext, AnyEnd, AnyAnswers}
 use Rattle.walk.proofs.Play.{ended, phase-is}
 use Rattle.walk.proofs.Doubts.{doubts, doubts-in, doubts-out}
 use Rattle.walk.proofs.Places.{hits-append, hits-more, place-hit, place-late, place-all, asked-at, heard-at}
@@ -155,7 +155,7 @@ module _ {A : Type 0} (name : Bits → A) (d cap limit : ℕ) (heard : Bits → 
       by-flag false e = e
 
   asks : Ending name d cap limit heard → (i : ℕ) → i < end .count
-      → Asks (getD (beginningsOf ms) i []) (run name d cap heard i (start limit))
+      → AsksNext (getD (beginningsOf ms) i []) (run name d cap heard i (start limit))
   asks at i h = asks-next name d cap heard i limit (omega (arith, count at)) (omega (arith, count at))
 
   -- as many answers as are counted, and no more, are taken

@@ -9,7 +9,7 @@ use mathlib.Core.Logic.{_⊎_, inl, inr, ⊎-elim}
 use Prim.Native.Nat.{ℕ, zero, suc, _+_, _≤_, _<_}
 use native.Mathlib.Omega.{arith}
 use lib.ListN.{length}
-use Rattle.identity.specs.Bits.{Bits, Begins}
+use Rattle.identity.specs.Bits.{Bits, BeginningOf}
 use Rattle.identity.specs.Order.{Different}
 use Rattle.walk.specs.Beginnings.{then, half, Matches}
 use Rattle.walk.specs.Demand.{Shorter}
@@ -72,7 +72,7 @@ begins-once (suc d) p (i ∷ is) = (
       (begins-once d (then p true) (half true (i ∷ is))) (λ x a b. forked p x (in-half false x a) (in-half true x b)),
 )
   where
-    in-half : (b : Bool) (x : Bits) → List·Memᴰ x (begins d (then p b) (half b (i ∷ is))) → Begins (then p b) x
+    in-half : (b : Bool) (x : Bits) → List·Memᴰ x (begins d (then p b) (half b (i ∷ is))) → BeginningOf (then p b) x
     in-half b x m = let (q, n, e) = begins-in d (then p b) (half b (i ∷ is)) x m in (q, e)
 
 pub begins-shorter : (d : ℕ) (ids : List Bits) → Shorter d ids (begins d [] ids)

@@ -11,7 +11,7 @@ use Rattle.identity.specs.Order.{below, those, Different}
 use Rattle.walk.specs.Beginnings.{then, half, under, Matches, Deep}
 use Rattle.walk.specs.Probes.{Mark, pass, hit, asked, hits, order, Doubt}
 use Rattle.walk.specs.Machine.{Phase, asking, complete, doubtful, limited, full, Ended, Walk, start, run}
-use Rattle.walk.specs.Demand.{AnyEnd, BusEnd, Demand3}
+use Rattle.walk.specs.Demand.{AnyEnd, BusEnd, BitDemand3}
 use Rattle.walk.proofs.Halves.{anyone, matches-anyone, anyone-matches, same-truth, someone}
 use Rattle.walk.proofs.Halves.{under-in, under-out, under-then, deep-half, deep-under}
 use Rattle.walk.proofs.Play.{phase-is}
@@ -205,7 +205,7 @@ unfolding under
 different-under [] ids n = n
 different-under (b ∷ base) ids n = different-under base (half b ids) (different-half b ids n)
 
-pub demand3 : Demand3
+pub demand3 : BitDemand3
 demand3 A name base d cap limit ids heard b = (
   _,
   _,

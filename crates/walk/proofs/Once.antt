@@ -7,7 +7,7 @@ use mathlib.Core.Logic.{_⊎_, ⊎-elim}
 use Prim.Native.Nat.{ℕ, zero, suc, _+_}
 use native.Mathlib.Omega.{arith}
 use lib.ListN.{length, length-append}
-use Rattle.identity.specs.Bits.{Bits, Begins}
+use Rattle.identity.specs.Bits.{Bits, BeginningOf}
 use Rattle.identity.specs.Order.{below, Different}
 use Rattle.identity.proofs.Orders.{below-self, below-fork}
 use Rattle.walk.specs.Beginnings.{then}
@@ -22,10 +22,10 @@ different-append (x ∷ xs) ys a b f = (
 )
 
 -- a half is longer than the whole, and the halves have nothing in common
-pub longer : (p : Bits) (b : Bool) → Begins (then p b) p → ⊥
+pub longer : (p : Bits) (b : Bool) → BeginningOf (then p b) p → ⊥
 longer p b (q, e) = omega (arith, ap length e, length-append (then p b) q, length-append p (b ∷ []))
 
-pub forked : (p x : Bits) → Begins (then p false) x → Begins (then p true) x → ⊥
+pub forked : (p x : Bits) → BeginningOf (then p false) x → BeginningOf (then p true) x → ⊥
 forked p x (q, e) (r, g) =
     let s : Bits = p ++ true ∷ r in
     let u : p ++ false ∷ q ≡ s =
@@ -33,7 +33,7 @@ forked p x (q, e) (r, g) =
     true≢false (sym (below-fork p q r) ∙ ap (λ (y : Bits). below y s) u ∙ below-self s)
 
 -- what begins with a half begins with the whole
-pub begins-then : (p : Bits) (b : Bool) (x : Bits) → Begins (then p b) x → Begins p x
+pub begins-then : (p : Bits) (b : Bool) (x : Bits) → BeginningOf (then p b) x → BeginningOf p x
 begins-then p b x (q, e) = (b ∷ q, sym (append-assoc p (b ∷ []) q) ∙ e)
 
 asked-append : (xs ys : List Mark) → beginningsOf (xs ++ ys) ≡ beginningsOf xs ++ beginningsOf ys
@@ -49,11 +49,11 @@ module _ (heard : Bits → Bool) where
       → beginningsOf (order heard d (then p false) ++ order heard d (then p true)) ≡ Halves heard d p
   both-halves d p = asked-append (order heard d (then p false)) (order heard d (then p true))
 
-  asked-below : (d : ℕ) (p x : Bits) → List·Memᴰ x (beginningsOf (order heard d p)) → Begins p x
+  asked-below : (d : ℕ) (p x : Bits) → List·Memᴰ x (beginningsOf (order heard d p)) → BeginningOf p x
   unfolding order
   asked-below zero p x m = by-said (heard p) (List·Memᴰ·eq-of-singleton m)
     where
-      by-said : (a : Bool) → x ≡ asked (cond a (hit p) (pass p)) → Begins p x
+      by-said : (a : Bool) → x ≡ asked (cond a (hit p) (pass p)) → BeginningOf p x
       by-said true e = ([], append-nil p ∙ sym e)
       by-said false e = ([], append-nil p ∙ sym e)
   asked-below (suc d) p x m =
@@ -63,8 +63,8 @@ module _ (heard : Bits → Bool) where
     where
       by-said : (a : Bool)
           → List·Memᴰ x (beginningsOf (cond a (order heard d (then p false) ++ order heard d (then p true)) []))
-          → (List·Memᴰ x (beginningsOf (order heard d (then p false))) → Begins (then p false) x)
-          → (List·Memᴰ x (beginningsOf (order heard d (then p true))) → Begins (then p true) x) → Begins p x
+          → (List·Memᴰ x (beginningsOf (order heard d (then p false))) → BeginningOf (then p false) x)
+          → (List·Memᴰ x (beginningsOf (order heard d (then p true))) → BeginningOf (then p true) x) → BeginningOf p x
       by-said true n f g =
           ⊎-elim (λ a. begins-then p false x (f a)) (λ b. begins-then p true x (g b))
           (List·Memᴰ·append-cases (beginningsOf (order heard d (then p false))) (rw (both-halves d p) at n))

@@ -14,7 +14,7 @@ use Rattle.walk.specs.Beginnings.{then}
 use Rattle.walk.specs.Probes.{Mark, asked, beginningsOf, place}
 use Rattle.walk.specs.Machine.{next, zeroHalf, Phase, asking, complete, doubtful, limited, full, named}
 use Rattle.walk.specs.Machine.{Walk, goOn, start, listing, noted, stepIn, step, run}
-use Rattle.walk.specs.Demand.{Asks}
+use Rattle.walk.specs.Demand.{AsksNext}
 use Rattle.walk.proofs.Play.{ended}
 use Rattle.walk.proofs.Places.{asked-at, place-hit, place-bound}
 use Rattle.walk.proofs.Endings.{probes, Ending, all-asked, at-limit, at-full, ending}
@@ -87,13 +87,13 @@ module _ {A : Type 0} (name : Bits → A) (d cap : ℕ) (heard : Bits → Bool) 
 
   -- what is asked after i answers, if the probes answered are more
   pub asks-next : i < place cap (probes name d cap l heard)
-      → Asks (getD (beginningsOf (probes name d cap l heard)) i []) (run name d cap heard i (start l))
+      → AsksNext (getD (beginningsOf (probes name d cap l heard)) i []) (run name d cap heard i (start l))
   asks-next h = by-end (ending name d cap i heard)
     where
       ms : List Mark
       ms = probes name d cap l heard
 
-      by-end : Ending name d cap i heard → Asks (getD (beginningsOf ms) i []) (go i (start l))
+      by-end : Ending name d cap i heard → AsksNext (getD (beginningsOf ms) i []) (go i (start l))
       by-end (all-asked a b e) = absurd (omega (arith, place-bound cap ms))
       by-end (at-full ys p zs e a b r) = absurd (omega (arith, ap (place cap) e, place-hit cap ys p zs b))
       by-end (at-limit ys m zs e a b r) =

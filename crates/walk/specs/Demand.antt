@@ -1,10 +1,10 @@
 -- Demand 3, over the depth d of the identities, the length cap of the list, the limit and the beginning `base` that a
 -- scan starts from. Here they are 152, 32, any, and none.
---   Bus            == demand 3's premises: the identities present, no two alike, and a probe is heard exactly when
+--   BitBus            == demand 3's premises: the identities present, no two alike, and a probe is heard exactly when
 --                     one of them begins with what it asks
 --   Ordered ids all        == all has the identities, each once, ascending
 --   Shorter d ids shorter  == shorter has each beginning of 0 to d - 1 bits that an identity has, once
---   Asks p s       == the walk s asks p
+--   AsksNext p s       == the walk s asks p
 --   AnyEnd         == what a walk comes to by any answers at all; BusEnd == what it comes to on a bus
 -- Assumes nothing.
 use mathlib.Core.Path.{_≡_}
@@ -19,7 +19,7 @@ use Rattle.walk.specs.Beginnings.{under, Matches, Deep}
 use Rattle.walk.specs.Probes.{Mark, order, beginningsOf, hits, place, Doubt}
 use Rattle.walk.specs.Machine.{asking, complete, doubtful, limited, full, Ended, Walk, start, run}
 
-pub record Bus (base : Bits) (d : ℕ) (ids : List Bits) (heard : Bits → Bool) : Type 0 where
+pub record BitBus (base : Bits) (d : ℕ) (ids : List Bits) (heard : Bits → Bool) : Type 0 where
   pub deep : Deep (length base + d) ids
   pub apart : Different ids
   pub right : (p : Bits) → length p ≤ d → (heard p ≡ true) ↔ Matches (base ++ p) ids
@@ -34,8 +34,8 @@ pub record Shorter (d : ℕ) (ids shorter : List Bits) : Type 0 where
   pub members : (x : Bits) → List·Memᴰ x shorter ↔ ((length x < d) × Matches x ids)
   pub once : Different shorter
 
-abbrev pub Asks : {A : Type 0} → Bits → Walk A → Type 0
-Asks p s = (quiet : Bool) × (doubt : Bool) × (s .phase ≡ asking p quiet doubt)
+abbrev pub AsksNext : {A : Type 0} → Bits → Walk A → Type 0
+AsksNext p s = (quiet : Bool) × (doubt : Bool) × (s .phase ≡ asking p quiet doubt)
 
 -- `last` is the walk at its end, `after i` the walk after i answers, ms the order of the probes
 module _ {A : Type 0} (name : Bits → A) (d cap limit : ℕ) where
@@ -60,7 +60,7 @@ module _ {A : Type 0} (name : Bits → A) (d cap limit : ℕ) where
     pub completes : (last .phase ≡ complete)
         ↔ ((length (hits ms) ≤ cap) × (length ms ≤ limit) × (Doubt heard d [] → ⊥))
     -- what is asked after i answers is the i-th beginning of the order, and none is asked twice
-    pub sent : (i : ℕ) → i < last .count → Asks (getD (beginningsOf ms) i []) (after i)
+    pub sent : (i : ℕ) → i < last .count → AsksNext (getD (beginningsOf ms) i []) (after i)
     pub once : Different (beginningsOf ms)
 
   pub record BusEnd (ids : List Bits) (last : Walk A) (ms : List Mark) (all shorter : List Bits) : Type 0 where
@@ -90,10 +90,10 @@ AnyAnswers =
     (λ i. run name d cap heard i (start limit))
     (order heard d [])
 
-abbrev pub Demand3 : Type 1
-Demand3 =
+abbrev pub BitDemand3 : Type 1
+BitDemand3 =
     (A : Type 0) (name : Bits → A) (base : Bits) (d cap limit : ℕ) (ids : List Bits) (heard : Bits → Bool)
-    → Bus base d ids heard
+    → BitBus base d ids heard
     → (all : List Bits) × (shorter : List Bits)
     × BusEnd name d cap limit (under base ids) (run name d cap heard limit (start limit)) (order heard d [])
     all shorter

@@ -7,21 +7,21 @@ use Prim.Native.Nat.{ℕ, _*_, _≤_}
 use native.Mathlib.Omega.{arith}
 use lib.ListN.{length}
 use Rattle.octets.specs.Octets.{Octets}
-use Rattle.identity.specs.Bits.{Bits, Begins, packed, bitsOf, ones, masked}
+use Rattle.identity.specs.Bits.{Bits, BeginningOf, packed, bitsOf, ones, masked}
 use Rattle.identity.specs.Identity.{width, depth, padded, octetsOf, maskOf, answersScan}
 use Rattle.identity.proofs.Packed.{packed-bits, bits-apart, length-bits}
 use Rattle.identity.proofs.Masks.{masked-begins}
 use Rattle.identity.proofs.Identities.{allowed-parts, printable-octets, length-padded, padded-octets, padded-apart}
 use Rattle.identity.proofs.Scans.{same-is, is-same}
 use Rattle.identity.proofs.Lists.{map-in, map-out, map-different}
-use Rattle.walk.specs.Demand.{Bus}
+use Rattle.walk.specs.Demand.{BitBus}
 use Rattle.whole_scan.specs.Demand.{OctetBus, IdentityBus}
 
 -- 19 octets answer the probe of p exactly if their bits begin with p
 pub probe-begins : (i : List ℕ) (p : Bits) → length i ≡ width → Octets i → length p ≤ depth
-    → masked i (maskOf p) ≡ octetsOf p ↔ Begins p (bitsOf i)
+    → masked i (maskOf p) ≡ octetsOf p ↔ BeginningOf p (bitsOf i)
 probe-begins i p e o h =
-    subst (λ (n : ℕ). masked i (packed n (ones (length p))) ≡ packed n p ↔ Begins p (bitsOf i)) e
+    subst (λ (n : ℕ). masked i (packed n (ones (length p))) ≡ packed n p ↔ BeginningOf p (bitsOf i)) e
     (masked-begins i p o (omega arith))
 
 -- the octets of an identity's bits are the identity
@@ -34,7 +34,7 @@ module _ (ids : List (List ℕ)) (heard : Bits → Bool) (b : OctetBus ids heard
       let (i, n, e) = map-in bitsOf ids x m in
       ap length e ∙ length-bits i ∙ ap (λ (k : ℕ). 8 * k) (b .whole i n .0)
 
-  pub bit-bus : Bus [] depth (map bitsOf ids) heard
+  pub bit-bus : BitBus [] depth (map bitsOf ids) heard
   bit-bus = record {
     deep = bits-long;
     apart = map-different bitsOf ids

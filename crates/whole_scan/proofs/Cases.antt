@@ -13,7 +13,7 @@ use Rattle.walk.specs.Probes.{order}
 use Rattle.walk.specs.Machine.{step, stepIn, noted, listing, goOn, next, carry, zeroHalf, named}
 use Rattle.walk.proofs.Halves.{anyone}
 use Rattle.scan.specs.Record.{rowsOf, flat, phaseOf, stateOf}
-use Rattle.scan.specs.Steps.{standsAt}
+use Rattle.scan.specs.Steps.{stateAt}
 use Rattle.scan.specs.Scan.{fresh, ended, over, reported, driven}
 use Rattle.scan.specs.declared.State.{State}
 use Rattle.scan.specs.declared.State.the-variants.{Asking, Complete, Doubtful, Limit, Full}
@@ -41,7 +41,7 @@ probes ids = length (order (λ p. anyone (under p ids)) depth [])
 -- "No device, limit 1: complete, 1 probe." "Limit 0: "limit", 0 probes."
 -- "One device: 305 probes. Limit 305 complete, 304 "limit"."
 rows : T (row [] 1 1 1 && (row [] 0 3 0 && (row one 305 1 305 && row one 304 3 304)))
-unfolding row one driven fresh ended over reported stateAfter answered standsAt step stepIn noted listing
+unfolding row one driven fresh ended over reported stateAfter answered stateAt step stepIn noted listing
     goOn next carry zeroHalf named anyone under half bitsOf unpacked word packed rowsOf flat phaseOf stateOf
 rows = tt
 

@@ -16,7 +16,7 @@ use Rattle.walk.specs.Beginnings.{then}
 use Rattle.walk.specs.Machine.{next, Phase, asking, complete, doubtful, limited, full, named}
 use Rattle.walk.specs.Machine.{Walk, goOn, settle, start, listing, noted, stepIn, step, run}
 use Rattle.scan.specs.Record.{listMost, flat, phaseOf, stateOf, beginningOf, walkOf, recordOf}
-use Rattle.scan.specs.Steps.{standsAt}
+use Rattle.scan.specs.Steps.{stateAt}
 use Rattle.scan.specs.Scan.{fresh, ended, over, reported, driven}
 use Rattle.scan.specs.declared.Scan.{Scan}
 use Rattle.scan.specs.declared.State.the-variants.{Asking, Limit}
@@ -96,7 +96,7 @@ module _ (heard : Bits → Bool) where
       (noted-bounded l c f p q w (heard p) (b .lists) (b .begins)))
 
 new-record : (limit : ℕ) → fresh limit ≡ recordOf (fresh limit) (start limit)
-unfolding fresh standsAt goOn named stateOf flat
+unfolding fresh stateAt goOn named stateOf flat
 new-record limit = by-test (ltb 0 limit)
   where
     by-test : (t : Bool)

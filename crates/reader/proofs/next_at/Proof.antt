@@ -50,7 +50,7 @@ use denote.Triple.Walked.{says, Stays, stay-none, stay-none-slice, walkOf, goes-
 use denote.Triple.Walked.{Walks, ends-at, walked, walk-meets}
 use denote.Exit.{yes}
 use denote.Triple.Clauses.{ensured, lasts}
-use Rattle.reader.specs.Read.{stepAt, readerOf, nextOf, movedOn}
+use Rattle.reader.specs.Read.{stepAt, readerOf, nextIn, readerAfter}
 use Rattle.reader.specs.declared.Reader.{Reader}
 use Rattle.reader.specs.declared.Stands.{Stands}
 use Rattle.reader.specs.declared.Step.{Step}
@@ -224,7 +224,7 @@ module _ {M : Type 1} (𝓤 : URA M) (H : Heap 𝓤) (A : Atoms 𝓤) (W : Given
       (EL.owes S.the-type S′.the-laws t (EL.owed S.the-type S′.the-laws t _ is), ((refl, le), tt))
 
   -- what the two calls say together
-  stepped : {r d : Reader} {t : Stands} → r ≡ readerOf s n → t ≡ nextOf r → d ≡ movedOn r
+  stepped : {r d : Reader} {t : Stands} → r ≡ readerOf s n → t ≡ nextIn r → d ≡ readerAfter r
       → stepTo t (d .cursor) ≡ stepAt (now s) n
   stepped e f g = (λ i. stepTo (f i) (g i .cursor)) ∙ ap (λ (y : Reader). stepAt (now (y .frame)) (y .cursor)) e
 
@@ -298,8 +298,8 @@ module _ {M : Type 1} (𝓤 : URA M) (H : Heap 𝓤) (A : Atoms 𝓤) (W : Given
         -- what `next` ensures, at some last reader
         use1 W
         (some (λ (ws : Reader × Unit {0}). ‵ (lasts next.ended (ν ∷ κ, (κ, tt)) (lent r l₃ γ, tt) ws) ⊛
-        raw (fact 𝓤 ((t ≡ nextOf r) × (ws .0 ≡ movedOn r))))) (id⊢ 𝓤 _) $ pick ! (λ ws. split ! $ move ! (1 ∷ []) $
-        heard ! ((t ≡ nextOf r) × (ws .0 ≡ movedOn r)) (λ e′. fsplit ! $ move ! (2 ∷ []) $ split ! $ move ! (1 ∷ []) $
+        raw (fact 𝓤 ((t ≡ nextIn r) × (ws .0 ≡ readerAfter r))))) (id⊢ 𝓤 _) $ pick ! (λ ws. split ! $ move ! (1 ∷ []) $
+        heard ! ((t ≡ nextIn r) × (ws .0 ≡ readerAfter r)) (λ e′. fsplit ! $ move ! (2 ∷ []) $ split ! $ move ! (1 ∷ []) $
         peeks ! S.the-row (Is S.the-row) (shows 𝓤 H A S.the-row) t (u′ ∷ []) (λ is′. drop ! $
         -- [the tokens; the last value; …; the lender's part; the rest of ν's; …; what the slice owns; _7; …]
         land ! (from ! (stop !)) (init ! 13 refl (EL.lawful S.the-type S′.the-laws 𝓤 H A W tt .typed t _ is′ .0)) $

@@ -1,7 +1,7 @@
 -- `heard` meets its promise: the word is one of two. Assumes nothing.
 use borrow.Author.Needs.{needs}
 use Rattle.script.specs.Words.{spelled, placeFrom}
-use Rattle.script.specs.Values.{heardBy}
+use Rattle.script.specs.Values.{heardMeans}
 use Rattle.octets.proofs.Rules.{tests}
 use mathlib.Core.Path.{sym}
 use Rattle.script.proofs.heard.Statement.{statement}
@@ -14,11 +14,11 @@ place-in-requires : tie.Need-place-in-requires
 place-in-requires c κs = search needs
 
 returns : tie.Need-returns
-unfolding heardBy placeFrom spelled
+unfolding heardMeans placeFrom spelled
 returns c = search (tests, sym (c .before .place-in .ensures))
 
 returns-2 : tie.Need-returns-2
-unfolding heardBy placeFrom spelled
+unfolding heardMeans placeFrom spelled
 returns-2 c = search (tests, sym (c .before .place-in .ensures))
 
 pub heard-spec : {M : Type 1} → statement M

@@ -1,19 +1,19 @@
 -- `is_silent` meets its promise: by the length, then by the first octet. Assumes nothing.
 use borrow.Author.Needs.{needs}
-use Rattle.script.specs.Script.{isSilent}
+use Rattle.script.specs.Script.{isUnanswered}
 use Rattle.octets.proofs.Rules.{tests}
 use Rattle.script.proofs.is_silent.Statement.{statement}
 use Rattle.script.proofs.is_silent.Tie as tie
 
 returns : tie.Need-returns
-unfolding isSilent
+unfolding isUnanswered
 returns c = search tests
 
 shared-slice-read-result : tie.Need-shared-slice-read-result
 shared-slice-read-result c = search needs
 
 returns-2 : tie.Need-returns-2
-unfolding isSilent
+unfolding isUnanswered
 returns-2 c = search tests
 
 pub is-silent-spec : {M : Type 1} → statement M

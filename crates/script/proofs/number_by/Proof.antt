@@ -2,7 +2,7 @@
 use borrow.Author.Needs.{needs}
 use mathlib.Core.Path.{sym, ap, _∙_}
 use native.Mathlib.Omega.{arith}
-use Rattle.script.specs.Values.{sizeOf}
+use Rattle.script.specs.Values.{decimalOf}
 use Rattle.script.proofs.ValueLaws.{number-none, number-below, number-above}
 use Rattle.script.proofs.number_by.Statement.{statement}
 use Rattle.script.proofs.number_by.Tie as tie
@@ -15,7 +15,7 @@ size-requires c κs = search needs
 
 returns : tie.Need-returns
 returns c =
-    let size = c .before .size .ensures ∙ ap sizeOf (c .before .before .digits-of .ensures) in
+    let size = c .before .size .ensures ∙ ap decimalOf (c .before .before .digits-of .ensures) in
     number-none _ _ _ _ _ size (c .if1 .taken)
 
 is-negative-requires : tie.Need-is-negative-requires
@@ -29,7 +29,7 @@ returns-2 c =
     let called = c .before .before in
     let sized = called .before .before in
     let a = sized .before .before .before .args in
-    let size = sized .size .ensures ∙ ap sizeOf (sized .before .digits-of .ensures) in
+    let size = sized .size .ensures ∙ ap decimalOf (sized .before .digits-of .ensures) in
     let negative = sym (called .is-negative .ensures) ∙ c .before .if2 .taken in
     c .ranged .ensures
     ∙ number-below (a .below) (a .above) (a .outside) _ _ size negative (omega arith) (called .before .if1 .left)
@@ -42,7 +42,7 @@ returns-3 c =
     let called = c .before .before in
     let sized = called .before .before in
     let a = sized .before .before .before .args in
-    let size = sized .size .ensures ∙ ap sizeOf (sized .before .digits-of .ensures) in
+    let size = sized .size .ensures ∙ ap decimalOf (sized .before .digits-of .ensures) in
     let negative = sym (called .is-negative .ensures) ∙ c .before .if2 .left in
     c .ranged2 .ensures
     ∙ number-above (a .below) (a .above) (a .outside) _ _ size negative (omega arith) (called .before .if1 .left)

@@ -11,21 +11,21 @@ use Rattle.script.proofs.read_line.Tie as tie
 is-silent-requires : tie.Need-is-silent-requires
 is-silent-requires c κs = search needs
 
-blank-requires : tie.Need-blank-requires
-blank-requires c κs = search needs
+wordless-requires : tie.Need-wordless-requires
+wordless-requires c κs = search needs
 
 returns : tie.Need-returns
 unfolding readLine kindsOf
-returns c = search (tests, sym (c .blank .ensures), sym (c .before .before .is-silent .ensures) ∙ c .before .if1 .taken)
+returns c = search (tests, sym (c .wordless .ensures), sym (c .before .before .is-silent .ensures) ∙ c .before .if1 .taken)
 
-blank-requires-2 : tie.Need-blank-requires-2
-blank-requires-2 c κs = search needs
+wordless-requires-2 : tie.Need-wordless-requires-2
+wordless-requires-2 c κs = search needs
 
 returns-2 : tie.Need-returns-2
 unfolding readLine kindsOf
 returns-2 c =
     let silent = sym (c .before .before .before .is-silent .ensures) ∙ c .before .before .if1 .left in
-    search (tests, sym (c .blank2 .ensures), silent)
+    search (tests, sym (c .wordless2 .ensures), silent)
 
 command-of-requires : tie.Need-command-of-requires
 command-of-requires c κs = search needs
@@ -36,8 +36,8 @@ slice-aggregate-word c = search needs
 word-requires : tie.Need-word-requires
 word-requires c κs = search needs
 
-blank-requires-3 : tie.Need-blank-requires-3
-blank-requires-3 c κs = search needs
+wordless-requires-3 : tie.Need-wordless-requires-3
+wordless-requires-3 c κs = search needs
 
 returns-3 : tie.Need-returns-3
 unfolding kindsOf spelled
@@ -47,13 +47,13 @@ returns-3 c =
     let short = asked .before in
     let silent = sym (short .before .before .is-silent .ensures) ∙ short .before .if1 .left in
     let kinds = rw (asked .command-of .ensures) at (told .word .ensures) in
-    c .blank3 .ensures ∙ line-command _ _ silent (short .if2 .left) kinds (c .before .if3 .taken)
+    c .wordless3 .ensures ∙ line-command _ _ silent (short .if2 .left) kinds (c .before .if3 .taken)
 
 spaces-requires : tie.Need-spaces-requires
 spaces-requires c κs = search needs
 
-blank-requires-4 : tie.Need-blank-requires-4
-blank-requires-4 c κs = search needs
+wordless-requires-4 : tie.Need-wordless-requires-4
+wordless-requires-4 c κs = search needs
 
 returns-4 : tie.Need-returns-4
 unfolding kindsOf spelled
@@ -65,10 +65,10 @@ returns-4 c =
     let silent = sym (short .before .before .is-silent .ensures) ∙ short .before .if1 .left in
     let kinds = rw (asked .command-of .ensures) at (told .word .ensures) in
     let spaces = rw (c .before .before .spaces .ensures) at (c .before .if4 .taken) in
-    c .blank4 .ensures ∙ line-words _ _ silent (short .if2 .left) kinds (empty .if3 .left) spaces
+    c .wordless4 .ensures ∙ line-words _ _ silent (short .if2 .left) kinds (empty .if3 .left) spaces
 
-blank-requires-5 : tie.Need-blank-requires-5
-blank-requires-5 c κs = search needs
+wordless-requires-5 : tie.Need-wordless-requires-5
+wordless-requires-5 c κs = search needs
 
 read-words-requires : tie.Need-read-words-requires
 read-words-requires c κs = search needs
@@ -83,7 +83,7 @@ returns-5 c =
     let silent = sym (short .before .before .is-silent .ensures) ∙ short .before .if1 .left in
     let kinds = rw (asked .command-of .ensures) at (told .word .ensures) in
     let spaces = rw (c .before .before .before .spaces .ensures) at (c .before .before .if4 .left) in
-    line-reads _ _ silent (short .if2 .left) kinds (asked .command-of .ensures) (c .before .blank5 .ensures)
+    line-reads _ _ silent (short .if2 .left) kinds (asked .command-of .ensures) (c .before .wordless5 .ensures)
     (c .read-words .ensures) (empty .if3 .left) spaces
 
 pub read-line-spec : {M : Type 1} → statement M
@@ -91,18 +91,18 @@ read-line-spec =
     tie.close
     (tie.spec
     is-silent-requires
-    blank-requires
+    wordless-requires
     returns
-    blank-requires-2
+    wordless-requires-2
     returns-2
     command-of-requires
     slice-aggregate-word
     word-requires
-    blank-requires-3
+    wordless-requires-3
     returns-3
     spaces-requires
-    blank-requires-4
+    wordless-requires-4
     returns-4
-    blank-requires-5
+    wordless-requires-5
     read-words-requires
     returns-5)

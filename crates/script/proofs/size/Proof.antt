@@ -5,13 +5,13 @@ use mathlib.Core.Path.{_≡_}
 use Prim.Native.Nat.{_-_, _≤_}
 use native.Mathlib.Omega.{arith}
 use lib.ListN.{length, drop}
-use Rattle.script.specs.Values.{sizeOf}
+use Rattle.script.specs.Values.{decimalOf}
 use Rattle.script.proofs.ValueLaws.{sizeFrom, size-none, size-start, size-low, size-high, size-more, size-done}
 use Rattle.script.proofs.size.Statement.{statement}
 use Rattle.script.proofs.size.Tie as tie
 
 abbrev Inv-loop : tie.InvT-loop
-Inv-loop digits n₀ i₀ n i = (i ≤ length digits) × (n ≤ 1000000) × (sizeFrom n (drop i digits) ≡ sizeOf digits)
+Inv-loop digits n₀ i₀ n i = (i ≤ length digits) × (n ≤ 1000000) × (sizeFrom n (drop i digits) ≡ decimalOf digits)
 
 abbrev μ-loop : tie.MeasureT-loop
 μ-loop digits n₀ i₀ n i = length digits - i

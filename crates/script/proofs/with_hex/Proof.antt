@@ -25,14 +25,14 @@ returns c =
     let told = sym (c .before .before .before .same .ensures) ∙ c .before .before .if1 .taken in
     c .with-pairs .ensures ∙ hex-none _ _ _ told
 
-blank-requires : tie.Need-blank-requires
-blank-requires c κs = search needs
+wordless-requires : tie.Need-wordless-requires
+wordless-requires c κs = search needs
 
 returns-2 : tie.Need-returns-2
 unfolding spelled
 returns-2 c =
     let told = sym (c .before .before .before .same .ensures) ∙ c .before .before .if1 .left in
-    c .blank .ensures ∙ hex-empty _ _ _ told (c .before .if2 .taken)
+    c .wordless .ensures ∙ hex-empty _ _ _ told (c .before .if2 .taken)
 
 with-pairs-requires-2 : tie.Need-with-pairs-requires-2
 with-pairs-requires-2 c κs = search needs
@@ -52,7 +52,7 @@ with-hex-spec =
     slice-aggregate-with-pairs
     with-pairs-requires
     returns
-    blank-requires
+    wordless-requires
     returns-2
     with-pairs-requires-2
     returns-3)

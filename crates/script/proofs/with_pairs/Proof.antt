@@ -30,14 +30,14 @@ loop-holds c = (search needs, search needs, search needs, refl)
 sub-if1 : tie.Need-sub-if1 Inv-loop μ-loop
 sub-if1 c = search needs
 
-blank-requires : tie.Need-blank-requires Inv-loop μ-loop
-blank-requires c κs = tt
+wordless-requires : tie.Need-wordless-requires Inv-loop μ-loop
+wordless-requires c κs = tt
 
 returns : tie.Need-returns Inv-loop μ-loop
 returns c =
     let test = c .before .before in
     let a = test .before .before .before .before .before .args in
-    c .blank .ensures
+    c .wordless .ensures
     ∙ pairs-odd (a .asked) _ _ _ _ _ (test .before .loop .inv .3) (test .loop-test .taken) (c .before .if1 .taken)
 
 shared-slice-read-octet-by : tie.Need-shared-slice-read-octet-by Inv-loop μ-loop
@@ -58,8 +58,8 @@ add-i c = search needs
 enum-told : tie.Need-enum-told Inv-loop μ-loop
 enum-told c = search needs
 
-blank-requires-2 : tie.Need-blank-requires-2 Inv-loop μ-loop
-blank-requires-2 c κs = tt
+wordless-requires-2 : tie.Need-wordless-requires-2 Inv-loop μ-loop
+wordless-requires-2 c κs = tt
 
 returns-2 : tie.Need-returns-2 Inv-loop μ-loop
 returns-2 c =
@@ -67,7 +67,7 @@ returns-2 c =
     let test = called .before .before .before .before in
     let a = test .before .before .before .before .before .args in
     let bad = sym (called .octet-by .ensures) ∙ c .before .enum-told .given .1 in
-    c .blank2 .ensures
+    c .wordless2 .ensures
     ∙ pairs-bad (a .asked) _ _ _ (a .digits .now) _ (test .before .loop .inv .3) (search needs) bad
 
 enum-known-value : tie.Need-enum-known-value Inv-loop μ-loop
@@ -124,7 +124,7 @@ with-pairs-spec =
     cast-at
     loop-holds
     sub-if1
-    blank-requires
+    wordless-requires
     returns
     shared-slice-read-octet-by
     add-octet-by
@@ -132,7 +132,7 @@ with-pairs-spec =
     octet-by-requires
     add-i
     enum-told
-    blank-requires-2
+    wordless-requires-2
     returns-2
     enum-known-value
     slice-aggregate-put

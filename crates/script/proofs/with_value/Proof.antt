@@ -10,8 +10,8 @@ use Rattle.script.proofs.with_value.Tie as tie
 enum-known-value : tie.Need-enum-known-value
 enum-known-value c = search needs
 
-blank-requires : tie.Need-blank-requires
-blank-requires c κs = search needs
+wordless-requires : tie.Need-wordless-requires
+wordless-requires c κs = search needs
 
 enum-known-value-2 : tie.Need-enum-known-value-2
 enum-known-value-2 c = search needs
@@ -21,7 +21,7 @@ placed-requires c κs = search needs
 
 returns : tie.Need-returns
 unfolding withValue
-returns c = search (tests, sym (c .blank .ensures), c .before .before .value .given .1)
+returns c = search (tests, sym (c .wordless .ensures), c .before .before .value .given .1)
 
 returns-2 : tie.Need-returns-2
 returns-2 c =
@@ -31,4 +31,4 @@ returns-2 c =
 pub with-value-spec : {M : Type 1} → statement M
 with-value-spec =
     tie.close
-    (tie.spec enum-known-value blank-requires enum-known-value-2 placed-requires returns returns-2)
+    (tie.spec enum-known-value wordless-requires enum-known-value-2 placed-requires returns returns-2)
