@@ -95,6 +95,7 @@ pub use Rattle.event.proofs.Only.{happen-asks}
 pub use Rattle.aim.proofs.Only.{aim-at-asks}
 pub use Rattle.drives.proofs.Only.{obey-asks}
 -- ---- the demands
+pub use Rattle.states.proofs.Renews.{renewed-ends}
 pub use Rattle.demands.proofs.One.{hear-defined, judge-defined, decode-answers, write-answers, hand-out-answers}
 pub use Rattle.demands.proofs.One.{c-decode-answers, c-write-answers, probe-answers, report-answers, fresh-answers}
 pub use Rattle.demands.proofs.One.{happen-answers, aim-answers}
@@ -113,7 +114,7 @@ pub use Rattle.demands.proofs.Cable.{heard-when, whole-row, installer}
 pub use Rattle.demands.proofs.Cable.{row-lines, row-lines-number, complete-lines}
 pub use Rattle.demands.proofs.Cases.{starred-hold, further-hold}
 -- ---- and of a scan of a row of devices, in code
-pub use Rattle.mast.proofs.Demand.{sweep-unchanged, sweep-row, sweep-any, sweep-lines-number, sweep-complete}
+pub use Rattle.mast.proofs.Demand.{on-cable-fits, sweep-unchanged, sweep-row, sweep-any, sweep-lines-number, sweep-complete}
 -- ---- commands to such a row: one result, and a "no" changes nothing
 pub use Rattle.drives.proofs.Only.{obey-only}
 pub use Rattle.drives.proofs.Keeps.{no-keeps}

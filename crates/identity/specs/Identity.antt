@@ -58,11 +58,11 @@ pub record AnIdentity (i : List ℕ) : Type 0 where
   pub maker : List ℕ
   pub serial : List ℕ
   pub parts : i ≡ maker ++ serial
-  pub maker-two : length maker ≡ vendor
-  pub serial-least : leastSerial ≤ length serial
-  pub serial-most : length serial ≤ mostSerial
-  pub all : (j : ℕ) → j < length i → (blank ≤ getD i j 0) × (getD i j 0 ≤ lastPrintable)
-  pub end : getD i (length i - 1) 0 ≡ blank → ⊥
+  pub maker-two : length maker ≡ 2
+  pub serial-least : 1 ≤ length serial
+  pub serial-most : length serial ≤ 17
+  pub all : (j : ℕ) → j < length i → (0x20 ≤ getD i j 0) × (getD i j 0 ≤ 0x7E)
+  pub end : getD i (length i - 1) 0 ≡ 0x20 → ⊥
 
 unfoldable pub padded : List ℕ → List ℕ
 padded i = i ++ replicate (width - length i) blank

@@ -3,7 +3,8 @@
 use mathlib.Core.Path.{_≡_, ap, _∙_}
 use mathlib.Core.List.{List, [], map, _++_}
 use Prim.Native.Nat.{ℕ, _+_, _*_, _≤_}
-use lib.ListN.{length, take-append-drop}
+use native.Mathlib.Omega.{arith}
+use lib.ListN.{length, length-take, take-append-drop}
 use Rattle.identity.specs.Bits.{Bits}
 use Rattle.identity.specs.Identity.{depth}
 use Rattle.record.specs.declared.Device.{Device}
@@ -11,12 +12,16 @@ use Rattle.walk.specs.Probes.{order}
 use Rattle.scan.specs.declared.State.the-variants.{Complete}
 use Rattle.scan.specs.Record.{listMost}
 use Rattle.whole_scan.specs.Demand.{probesEach, AnyScan, BusScan}
-use Rattle.bus.specs.Cable.{paddedIn, Cabled, heardOn}
+use Rattle.bus.specs.Cable.{rowMost, paddedIn, Cabled, heardOn}
 use Rattle.bus.specs.Scanning.{probesAsked, linesSent, scanBegun}
 use Rattle.bus.proofs.Scans.{scan-unchanged, scan-row, scan-any, scan-complete}
 use Rattle.bus.proofs.Lines.{scan-lines-number}
 use Rattle.bus.specs.declared.Row.{Row}
 use Rattle.mast.specs.Mast.{onCable, offCable, withDevices, sweptBy, swept}
+
+-- a row of the code has 32 places, so that no more devices hang on the cable than a scan's list has room for
+pub on-cable-fits : (row : Row) → length (row .devices) ≡ rowMost → length (onCable row) ≤ listMost
+on-cable-fits row e = omega (arith, length-take (row .count) (row .devices))
 
 module _ (row : Row) (limit : ℕ) (c : Cabled (onCable row)) where
   -- "hearing probes changes no device": the row is as it was, with the places that hang on no cable
