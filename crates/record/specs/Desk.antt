@@ -1,6 +1,7 @@
 -- A desk with one of its fields changed. A desk is spelt out here and where a fresh one is made, and nowhere else.
 --   withAddress k a, withSubscription k b, withTold k a, withSaid k a, withReply k p == the desk k with another address,
 --     subscription, what was told, what an indication says, reply
+--   calm, noReply == no alarm; nothing lies in the reply
 --   unsaid k == the desk k with nothing pending: what a pending answer or indication left is erased
 -- Assumes nothing.
 use mathlib.Core.Bool.{Bool}
