@@ -59,8 +59,16 @@ const CODES: [u8; 6] = [
 // How many octets of data each has.
 const TAKES: [usize; 6] = [0, 0, 0, 0, 2, 0];
 
-// "busy", of set and get tilt.
+// The return codes.
 const BUSY: u8 = 0x05;
+
+const OUT_OF_RANGE: u8 = 0x13;
+
+const UNKNOWN: u8 = 0x19;
+
+const WRONG_LENGTH: u8 = 0x24;
+
+const NOT_SUPPORTED: u8 = 0x25;
 
 pub enum Reply {
     None,
@@ -114,22 +122,22 @@ fn checked(m: &[u8]) -> Check
     ensures { λ r. ⌜ checkNumber r ≡ answered (ownChecks (now (m .entry))) tt ⌝ }
 {
     let code = octet(m, 0);
-    let said = octets::pair(octet(m, 1), octet(m, 2));
+    let said = octets::pair(octet(m, 1), octet(m, 2)) as usize;
     let size = m.len() - 3;
-    if said as usize != size {
-        return Check::Failed(0x24);
+    if said != size {
+        return Check::Failed(WRONG_LENGTH);
     }
     if is_unsupported(code) {
-        return Check::Failed(0x25);
+        return Check::Failed(NOT_SUPPORTED);
     }
     let codes = CODES;
     let takes = TAKES;
     let place = octets::find(code, &codes);
     if place >= 6 {
-        return Check::Failed(0x19);
+        return Check::Failed(UNKNOWN);
     }
     if size != takes[place] {
-        return Check::Failed(0x24);
+        return Check::Failed(WRONG_LENGTH);
     }
     Check::Passed
 }
@@ -178,7 +186,12 @@ fn set_tilt(antenna: Antenna, told: Alarms, subscribed: bool, t: Angle) -> Carri
     let next = aimed.antenna;
     match aim {
         Aim::Busy => replied(payload::failure(SET_TILT, BUSY), antenna, told, subscribed),
-        Aim::Outside => replied(payload::failure(SET_TILT, 0x13), antenna, told, subscribed),
+        Aim::Outside => replied(
+            payload::failure(SET_TILT, OUT_OF_RANGE),
+            antenna,
+            told,
+            subscribed,
+        ),
         Aim::Started => silent(next, told, subscribed),
     }
 }

@@ -18,11 +18,11 @@ octet-requires-3 c κs = search needs
 pair-requires : tie.Need-pair-requires
 pair-requires c κs = search needs
 
+cast-said : tie.Need-cast-said
+cast-said c = search needs
+
 sub-size : tie.Need-sub-size
 sub-size c = search needs
-
-cast-if1 : tie.Need-cast-if1
-cast-if1 c = search needs
 
 returns : tie.Need-returns
 returns c =
@@ -88,8 +88,8 @@ checked-spec =
     octet-requires-2
     octet-requires-3
     pair-requires
+    cast-said
     sub-size
-    cast-if1
     returns
     is-unsupported-requires
     returns-2
