@@ -1,7 +1,7 @@
 -- What a message changes. Set tilt alone starts a movement, exactly where it is due; clear alarms alone changes what
 -- is raised and told; subscribe alone changes the subscription; nothing else changes anything. Assumes nothing.
 use mathlib.Core.Path.{_≡_, refl, sym, ap, _∙_}
-use mathlib.Core.Bool.{Bool, true, false, cond}
+use mathlib.Core.Bool.{Bool, true, false}
 use mathlib.Core.List.{List, [], _∷_}
 use mathlib.Core.Logic.{_↔_, _⊎_, inl, inr, ⊎-elim}
 use Prim.Native.Nat.{ℕ, _<_, _≤_}
@@ -18,8 +18,7 @@ use Rattle.antenna.specs.declared.Angle.{Angle}
 use Rattle.antenna.specs.declared.Antenna.{Antenna}
 use Rattle.antenna.specs.declared.Aim.the-variants.{Started}
 use Rattle.antenna.specs.Alarms.{alarmCodes, codesOf}
-use Rattle.antenna.specs.Motions.{inRange, busyOf, owesOf, driveRows, aimedAt, started, moves}
-use Rattle.antenna.proofs.Movements.{starts}
+use Rattle.antenna.specs.Motions.{inRange, busyOf, owesOf, started, moves}
 use Rattle.record.specs.declared.Plate.{Plate}
 use Rattle.record.specs.Desk.{calm}
 use Rattle.payload.specs.Payloads.{payloadOf, successOf, failureOf}
