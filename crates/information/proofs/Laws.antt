@@ -19,7 +19,7 @@ unfolding textOf
 length-text t = omega arith
 
 module _ (p s h w : List ℕ) where
-  pub length-texts : length (textOf p ++ (textOf s ++ (textOf h ++ textOf w)))
+  length-texts : length (textOf p ++ (textOf s ++ (textOf h ++ textOf w)))
       ≡ 4 + length p + length s + length h + length w
   length-texts =
       simp (length-append, length-text) (omega arith)

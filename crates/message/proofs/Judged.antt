@@ -28,15 +28,17 @@ pub reply-is : (b : List ℕ) (n : Antenna) (told : Alarms) (sub : Bool) {q : Pa
 unfolding replies
 reply-is b n told sub e h = h ∙ ap (λ (x : Payload). repliedOf x n told sub) e
 
--- checks before others: the others decide where they pass, and their number is given where one fails
+-- rows before others: where none of them holds the others decide, and where one does its number is given
 module _ {A : Type 0} (more : List Row) (a : A) where
-  passed-on : (rows : List Row) → answered {A = Unit {0}} rows tt ≡ gives tt → answered (rows ++ more) a ≡ answered more a
+  passed-on : (rows : List Row) → answered {A = Unit {0}} rows tt ≡ gives tt
+      → answered (rows ++ more) a ≡ answered more a
   unfolding answered
   passed-on [] e = refl
   passed-on (k when true ∷ rows) e = absurd (gives-not-refuses (sym e))
   passed-on (k when false ∷ rows) e = passed-on rows e
 
-  failed-on : (rows : List Row) {why : ℕ} → answered {A = Unit {0}} rows tt ≡ refuses why → answered (rows ++ more) a ≡ refuses why
+  failed-on : (rows : List Row) {why : ℕ} → answered {A = Unit {0}} rows tt ≡ refuses why
+      → answered (rows ++ more) a ≡ refuses why
   unfolding answered
   failed-on [] e = absurd (gives-not-refuses e)
   failed-on (k when true ∷ rows) e = ap refuses (refuses-same e)
@@ -67,11 +69,11 @@ module _ (n : Antenna) (told : Alarms) (sub : Bool) (p : Plate) where
       unfolding carriedOf checks performedBy checkNumber
       carried-passed k a h =
           let passed : answered (ownChecks m) tt ≡ gives tt = sym own ∙ ap checkNumber k in
-          h ∙ rw (e, a, le-ltb (length m) 3 long, passed-on (driveChecks n (codeOf m) (askedOf m)) (doneBy p n told sub (codeOf m) (askedOf m)) (ownChecks m) passed)
+          h ∙ rw (e, a, le-ltb (length m) 3 long, passed-on _ _ (ownChecks m) passed)
 
       pub carried-failed : {why : ℕ} {r : Carried} → check ≡ Failed why
           → r ≡ replies (failureOf code why) n told sub → r ≡ carriedOf p n told sub m
       unfolding carriedOf checks checkNumber outcome
       carried-failed {why} k h =
           let failed : answered (ownChecks m) tt ≡ refuses why = sym own ∙ ap checkNumber k in
-          h ∙ rw (e, le-ltb (length m) 3 long, failed-on (driveChecks n (codeOf m) (askedOf m)) (doneBy p n told sub (codeOf m) (askedOf m)) (ownChecks m) failed)
+          h ∙ rw (e, le-ltb (length m) 3 long, failed-on _ _ (ownChecks m) failed)

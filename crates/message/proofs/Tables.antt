@@ -1,4 +1,4 @@
--- A table looked up by the place of its code. Assumes nothing.
+-- A table looked up by the place of its code, and the checks that it decides. Assumes nothing.
 use mathlib.Core.Path.{_≡_, refl, sym, ap, ap₂, _∙_}
 use mathlib.Core.Bool.{Bool, true, false, cond}
 use mathlib.Core.List.{List, [], _∷_}
@@ -40,19 +40,20 @@ taken-at (k takes n ∷ rows) c = go (eqb k c) (taken-at rows c)
 -- the checks that a message alone decides, by what the code reads and finds
 module _ (m : List ℕ) {code low high said : ℕ} (e : code ≡ codeOf m) (l : low ≡ getD m 1 0) (h : high ≡ getD m 2 0)
     (q : said ≡ pairOf low high) where
-  d : said ≡ declaredOf m
-  d = q ∙ ap₂ pairOf l h
+  said-is : said ≡ declaredOf m
+  said-is = q ∙ ap₂ pairOf l h
 
-  z : length m - 3 ≡ length (dataOf m)
-  z = sym (length-drop 3 m)
+  size-is : length m - 3 ≡ length (dataOf m)
+  size-is = sym (length-drop 3 m)
 
   pub own-misdeclared : (said ≡ length m - 3 → ⊥) → checkNumber (Failed 0x24) ≡ answered (ownChecks m) tt
   unfolding checkNumber answered
-  own-misdeclared wrong = sym (rw (ne-eqb (declaredOf m) (length (dataOf m)) (λ w. wrong (d ∙ w ∙ sym z))))
+  own-misdeclared wrong =
+      sym (rw (ne-eqb (declaredOf m) (length (dataOf m)) (λ w. wrong (said-is ∙ w ∙ sym size-is))))
 
   module _ (fits : said ≡ length m - 3) where
     same : eqb (declaredOf m) (length (dataOf m)) ≡ true
-    same = eq-eqb (declaredOf m) (length (dataOf m)) (sym d ∙ fits ∙ z)
+    same = eq-eqb (declaredOf m) (length (dataOf m)) (sym said-is ∙ fits ∙ size-is)
 
     pub own-barred : holds code unsupported ≡ true → checkNumber (Failed 0x25) ≡ answered (ownChecks m) tt
     unfolding checkNumber answered
@@ -73,11 +74,12 @@ module _ (m : List ℕ) {code low high said : ℕ} (e : code ≡ codeOf m) (l : 
           → checkNumber (Failed 0x24) ≡ answered (ownChecks m) tt
       unfolding checkNumber answered
       own-misfit k s =
-          let q = ne-eqb (length (dataOf m)) (takenBy table code) (λ w. s (z ∙ w ∙ taken)) in
+          let q = ne-eqb (length (dataOf m)) (takenBy table code) (λ w. s (size-is ∙ w ∙ taken)) in
           sym (rw (same, ← e, b, listed, lt-ltb place 6 k, q))
 
-      pub own-passed : place < 6 → length m - 3 ≡ getD (takesIn table) place 0 → checkNumber Passed ≡ answered (ownChecks m) tt
+      pub own-passed : place < 6 → length m - 3 ≡ getD (takesIn table) place 0
+          → checkNumber Passed ≡ answered (ownChecks m) tt
       unfolding checkNumber answered
       own-passed k s =
-          let q = eq-eqb (length (dataOf m)) (takenBy table code) (sym z ∙ s ∙ sym taken) in
+          let q = eq-eqb (length (dataOf m)) (takenBy table code) (sym size-is ∙ s ∙ sym taken) in
           sym (rw (same, ← e, b, listed, lt-ltb place 6 k, q))

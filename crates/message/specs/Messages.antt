@@ -6,7 +6,7 @@
 --   inTable t c      == the table t has the code c; takenBy t c == the data length that it defines for c
 --   misdeclared m    == "length field wrong"; barred m == "code one of .."; unknown m == "code not in the table"
 --   misfit m         == "data length not the defined one"
---   asksDrive c         == set tilt or get tilt
+--   asksDrive c      == set tilt or get tilt
 --   busied n c       == "busy"; outside n c t == "out of range"
 --   ownChecks m      == the checks that the message m alone decides; driveChecks n c t == those of the drive
 --   checks n m       == the checks of m, in their order, for the antenna n
@@ -92,13 +92,17 @@ outside n c t = eqb c 0x33 && not (inRange n t)
 -- one, 0x24"
 abbrev pub ownChecks : List ℕ → List Row
 ownChecks m =
-    0x24 when misdeclared m ∷ 0x25 when barred m ∷ 0x19 when unknown m ∷ 0x24 when misfit m ∷ []
+    0x24 when misdeclared m
+    ∷ 0x25 when barred m
+    ∷ 0x19 when unknown m
+    ∷ 0x24 when misfit m
+    ∷ []
 
 -- "busy, 0x05; out of range, 0x13"
 unfoldable pub driveChecks : Antenna → ℕ → Angle → List Row
 driveChecks n c t = driveRows (busied n c) (outside n c t)
 
--- "Checked in this order"
+-- "Checked in this order": the message's own, then the drive's
 unfoldable pub checks : Antenna → List ℕ → List Row
 checks n m = ownChecks m ++ driveChecks n (codeOf m) (askedOf m)
 

@@ -28,18 +28,20 @@ returns : tie.Need-returns
 returns c =
     let read = c .before in
     let first = read .before .before .before in
-    own-misdeclared (first .before .before .args .m .now) (first .octet .ensures) (read .before .before .octet2 .ensures) (read .before .octet3 .ensures)
-    (read .pair .ensures) (c .if1 .taken)
+    own-misdeclared (first .before .before .args .m .now) (first .octet .ensures) (read .before .before .octet2 .ensures)
+    (read .before .octet3 .ensures) (read .pair .ensures) (c .if1 .taken)
 
 is-unsupported-requires : tie.Need-is-unsupported-requires
 is-unsupported-requires c κs = search needs
 
 returns-2 : tie.Need-returns-2
 returns-2 c =
-    let read = c .before .before .before in
+    let fits = c .before .before in
+    let read = fits .before in
     let first = read .before .before .before in
-    own-barred (first .before .before .args .m .now) (first .octet .ensures) (read .before .before .octet2 .ensures) (read .before .octet3 .ensures)
-    (read .pair .ensures) (c .before .before .if1 .left) (sym (c .before .is-unsupported .ensures) ∙ c .if2 .taken)
+    own-barred (first .before .before .args .m .now) (first .octet .ensures) (read .before .before .octet2 .ensures)
+    (read .before .octet3 .ensures) (read .pair .ensures) (fits .if1 .left)
+    (sym (c .before .is-unsupported .ensures) ∙ c .if2 .taken)
 
 slice-aggregate-find : tie.Need-slice-aggregate-find
 slice-aggregate-find c = search needs
@@ -49,12 +51,14 @@ find-requires c κs = search needs
 
 returns-3 : tie.Need-returns-3
 returns-3 c =
-    let read = c .before .before .before .before .before .before in
+    let found = c .before in
+    let allowed = found .before .before in
+    let fits = allowed .before .before in
+    let read = fits .before in
     let first = read .before .before .before in
-    own-unknown (first .before .before .args .m .now) (first .octet .ensures) (read .before .before .octet2 .ensures) (read .before .octet3 .ensures)
-    (read .pair .ensures) (c .before .before .before .before .before .if1 .left)
-    (sym (c .before .before .before .before .is-unsupported .ensures) ∙ c .before .before .before .if2 .left) (c .before .find .ensures)
-    (c .if3 .taken)
+    own-unknown (first .before .before .args .m .now) (first .octet .ensures) (read .before .before .octet2 .ensures)
+    (read .before .octet3 .ensures) (read .pair .ensures) (fits .if1 .left)
+    (sym (allowed .before .is-unsupported .ensures) ∙ allowed .if2 .left) (found .find .ensures) (c .if3 .taken)
 
 mul-if4 : tie.Need-mul-if4
 mul-if4 c = search needs
@@ -64,21 +68,27 @@ array-read-if4 c = search needs
 
 returns-4 : tie.Need-returns-4
 returns-4 c =
-    let read = c .before .before .before .before .before .before .before in
+    let found = c .before .before in
+    let allowed = found .before .before in
+    let fits = allowed .before .before in
+    let read = fits .before in
     let first = read .before .before .before in
-    own-misfit (first .before .before .args .m .now) (first .octet .ensures) (read .before .before .octet2 .ensures) (read .before .octet3 .ensures)
-    (read .pair .ensures) (c .before .before .before .before .before .before .if1 .left)
-    (sym (c .before .before .before .before .before .is-unsupported .ensures) ∙ c .before .before .before .before .if2 .left) (c .before .before .find .ensures)
-    (c .before .if3 .left) (c .if4 .taken)
+    own-misfit (first .before .before .args .m .now) (first .octet .ensures) (read .before .before .octet2 .ensures)
+    (read .before .octet3 .ensures) (read .pair .ensures) (fits .if1 .left)
+    (sym (allowed .before .is-unsupported .ensures) ∙ allowed .if2 .left) (found .find .ensures) (c .before .if3 .left)
+    (c .if4 .taken)
 
 returns-5 : tie.Need-returns-5
 returns-5 c =
-    let read = c .before .before .before .before .before .before .before in
+    let found = c .before .before in
+    let allowed = found .before .before in
+    let fits = allowed .before .before in
+    let read = fits .before in
     let first = read .before .before .before in
-    own-passed (first .before .before .args .m .now) (first .octet .ensures) (read .before .before .octet2 .ensures) (read .before .octet3 .ensures)
-    (read .pair .ensures) (c .before .before .before .before .before .before .if1 .left)
-    (sym (c .before .before .before .before .before .is-unsupported .ensures) ∙ c .before .before .before .before .if2 .left) (c .before .before .find .ensures)
-    (c .before .if3 .left) (c .if4 .left)
+    own-passed (first .before .before .args .m .now) (first .octet .ensures) (read .before .before .octet2 .ensures)
+    (read .before .octet3 .ensures) (read .pair .ensures) (fits .if1 .left)
+    (sym (allowed .before .is-unsupported .ensures) ∙ allowed .if2 .left) (found .find .ensures) (c .before .if3 .left)
+    (c .if4 .left)
 
 pub checked-spec : {M : Type 1} → statement M
 checked-spec =
