@@ -8,15 +8,11 @@ use borrow.Author.Tests.{leb-true, le-leb}
 use lib.Dec.{T, leb}
 use lib.IntN.{ℤ, pos, negsuc}
 use lib.Signed.{leZ, _≤ℤ_}
-use Rattle.octets.proofs.Words.{true-not-false}
+use Rattle.octets.proofs.Words.{true-not-false, and-parts}
 use Rattle.antenna.specs.declared.Angle.{Angle}
 use Rattle.antenna.specs.declared.Antenna.{Antenna}
 use Rattle.antenna.specs.Angles.{atMost, sameAs}
 use Rattle.antenna.specs.Motions.{inRange}
-
-and-parts : (a b : Bool) → (a && b) ≡ true → (a ≡ true) × (b ≡ true)
-and-parts true b e = (refl, e)
-and-parts false b e = absurd (true-not-false (sym e))
 
 each-at-most : (m n : ℕ) → (leb m n && leb n m) ≡ true → m ≡ n
 each-at-most m n e =

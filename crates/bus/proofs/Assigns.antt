@@ -13,7 +13,8 @@ use lib.ListN.{length, length-append}
 use Rattle.octets.specs.Octets.{Octets, holds}
 use Rattle.octets.proofs.Bounds.{octets-append}
 use Rattle.identity.specs.Identity.{width, allowedIdentity, same}
-use Rattle.identity.proofs.Identities.{and-parts, allowed-parts, printable-octets}
+use Rattle.octets.proofs.Words.{and-parts}
+use Rattle.identity.proofs.Identities.{allowed-parts, printable-octets}
 use Rattle.identity.proofs.Scans.{same-is, is-same}
 use Rattle.compare.specs.Rows.{rightmost, endsWith}
 use Rattle.record.specs.declared.Device.{Device}

@@ -4,7 +4,7 @@ use mathlib.Core.Path.{_≡_, refl, ap, _∙_}
 use mathlib.Core.Bool.{Bool, true, false, cond}
 use mathlib.Core.Logic.{_↔_}
 use mathlib.Core.List.{List, [], _∷_, _++_, List·Memᴰ}
-use Prim.Native.Nat.{ℕ, _+_, _≤_}
+use Prim.Native.Nat.{ℕ, _≤_}
 use native.Mathlib.Omega.{arith}
 use lib.Dec.{leb}
 use lib.ListN.{length, length-append}
@@ -14,7 +14,7 @@ use Rattle.refusal.specs.Answer.{gives}
 use Rattle.identity.specs.Bits.{Bits, BeginningOf, bitsOf, ones}
 use Rattle.identity.specs.Identity.{width, depth, allowedIdentity, octetsOf, maskOf, answersScan}
 use Rattle.identity.proofs.Words.{length-packed, packed-octets}
-use Rattle.identity.proofs.Identities.{and-parts}
+use Rattle.octets.proofs.Words.{and-parts}
 use Rattle.identity.proofs.Scans.{answers-begins}
 use Rattle.record.specs.declared.Device.{Device}
 use Rattle.record.specs.Allowed.{identityAllowed, platesAllowed, allowedDevice}

@@ -9,17 +9,15 @@ use mathlib.Core.List.{List·Memᴰ·head, List·Memᴰ·tail, List·Memᴰ·not
 use mathlib.Core.Option.{none, some}
 use Prim.Native.Nat.{ℕ, _≤_}
 use native.Mathlib.Omega.{arith}
-use borrow.Author.Tests.{ltb-true, ne-eqb}
-use lib.Dec.{ltb}
+use borrow.Author.Tests.{ne-eqb}
 use Rattle.refusal.specs.Answer.{gives}
 use Rattle.identity.specs.Order.{Different}
-use Rattle.identity.proofs.Identities.{and-parts}
 use Rattle.identity.proofs.Lists.{map-out}
 use Rattle.control.specs.Control.{polled}
 use Rattle.record.specs.declared.Device.{Device}
 use Rattle.record.specs.declared.Link.{Link}
 use Rattle.record.specs.declared.Link.the-variants.{AddressAssigned}
-use Rattle.record.specs.Allowed.{addressed, stationAllowed, allowedDevice}
+use Rattle.record.specs.Allowed.{stationAllowed, allowedDevice}
 use Rattle.record.specs.Changes.{unsaidAt, endedAs}
 use Rattle.record.proofs.Stays.{sound}
 use Rattle.station.specs.declared.Turn.{Turn}

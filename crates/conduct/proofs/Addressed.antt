@@ -5,8 +5,7 @@ use Prim.Native.Nat.{ℕ, _≤_}
 use borrow.Author.Tests.{ltb-true}
 use native.Mathlib.Omega.{arith}
 use lib.Dec.{ltb}
-use Rattle.octets.proofs.Words.{true-not-false}
-use Rattle.identity.proofs.Identities.{and-parts}
+use Rattle.octets.proofs.Words.{true-not-false, and-parts}
 use Rattle.record.specs.Allowed.{addressed, sessionAllowed, linkAllowed}
 use Rattle.record.specs.declared.Desk.{Desk}
 use Rattle.record.specs.declared.Link.{Link}

@@ -6,8 +6,7 @@ use mathlib.Core.List.{List}
 use mathlib.Core.Logic.{_↔_}
 use Prim.Native.Nat.{ℕ}
 use borrow.Author.Tests.{not-true}
-use Rattle.octets.proofs.Words.{true-not-false}
-use Rattle.identity.proofs.Identities.{and-parts}
+use Rattle.octets.proofs.Words.{true-not-false, and-parts}
 use Rattle.antenna.specs.declared.Motion.{Motion}
 use Rattle.antenna.specs.declared.Motion.the-variants.{Still}
 use Rattle.antenna.specs.Motions.{runs, started, moves}

@@ -10,10 +10,10 @@ use borrow.Author.Tests.{leb-true, le-leb, ne-eqb}
 use lib.Dec.{leb}
 use lib.ListN.{length, getD, take, drop, take-append-drop, length-take, length-drop, length-append}
 use Rattle.octets.specs.Octets.{lastOf}
-use Rattle.octets.proofs.Words.{last-at}
+use Rattle.octets.proofs.Words.{last-at, and-parts}
 use Rattle.identity.specs.Identity.{vendor, width, blank, lastPrintable, printable, allPrintable}
 use Rattle.identity.specs.Identity.{allowedIdentity, AnIdentity}
-use Rattle.identity.proofs.Identities.{and-parts, allowed-parts}
+use Rattle.identity.proofs.Identities.{allowed-parts}
 
 -- "all 0x20 to 0x7E"
 all-printable : (s : List ℕ) → allPrintable s ≡ true

@@ -1,7 +1,7 @@
 -- Which octets are an identity, and its padding: nothing is lost by it, since the last octet is no blank.
 -- Assumes nothing.
 use mathlib.Core.Path.{_≡_, refl, sym, ap, _∙_}
-use mathlib.Core.Bool.{Bool, true, false, _&&_, and-false, and-true, false≢true}
+use mathlib.Core.Bool.{Bool, true, false, _&&_, and-false, and-true}
 use mathlib.Core.List.{List, [], _∷_, _++_}
 use Prim.Native.Nat.{ℕ, zero, suc, _+_, _-_, _≤_, _<_}
 use native.Mathlib.Omega.{arith}
@@ -12,12 +12,9 @@ use Rattle.octets.specs.Octets.{Octets, lastOf}
 use Rattle.octets.proofs.Bounds.{octets-append}
 use Rattle.octets.proofs.Rest.{rest}
 use Rattle.octets.proofs.Words.{last-at}
+pub use Rattle.octets.proofs.Words.{and-parts}
 use Rattle.identity.specs.Identity.{width, blank, lastPrintable, printable, allPrintable, allowedIdentity, padded}
 use Rattle.identity.specs.Identity.{trimmedTo, unpadded}
-
-pub and-parts : (a b : Bool) → (a && b) ≡ true → (a ≡ true) × (b ≡ true)
-and-parts true b e = (refl, e)
-and-parts false b e = absurd (false≢true e)
 
 -- a loop that goes through s by i
 module _ (s : List ℕ) (i : ℕ) {w : Bool} (v : allPrintable (drop i s) ≡ w) where

@@ -1,10 +1,10 @@
 -- The masked comparison of a scan, over the left-most n octets of a padded identity, 19 or fewer: an identity answers
 -- exactly if its bits begin with what is asked for. Assumes nothing.
 use mathlib.Core.Path.{_≡_, refl, sym, ap, ap₂, _∙_, subst}
-use mathlib.Core.Bool.{true, false, false≢true}
+use mathlib.Core.Bool.{true, false≢true}
 use mathlib.Core.Logic.{_↔_}
 use mathlib.Core.List.{List, [], _∷_, _++_, append-assoc}
-use Prim.Native.Nat.{ℕ, zero, suc, _+_, _*_, _-_, _≤_}
+use Prim.Native.Nat.{ℕ, zero, suc, _*_, _≤_}
 use native.Mathlib.Omega.{arith}
 use borrow.Author.Tests.{eqb-true, eq-eqb}
 use lib.Bits.{bitAnd}
@@ -17,7 +17,8 @@ use Rattle.identity.specs.Identity.{width, allowedIdentity, padded, same
 use Rattle.identity.proofs.Words.{length-packed}
 use Rattle.identity.proofs.Packed.{length-bits}
 use Rattle.identity.proofs.Masks.{masked-begins}
-use Rattle.identity.proofs.Identities.{and-parts, allowed-parts, printable-octets, length-padded, padded-octets}
+use Rattle.octets.proofs.Words.{and-parts}
+use Rattle.identity.proofs.Identities.{allowed-parts, printable-octets, length-padded, padded-octets}
 
 pub same-is : (s t : List ℕ) → same s t ≡ true → s ≡ t
 unfolding same

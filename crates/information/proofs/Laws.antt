@@ -7,7 +7,7 @@ use native.Mathlib.Omega.{arith}
 use borrow.Author.Tests.{leb-true}
 use lib.Dec.{leb}
 use lib.ListN.{length, take, drop, length-take, length-drop, length-append}
-use Rattle.identity.proofs.Identities.{and-parts}
+use Rattle.octets.proofs.Words.{and-parts}
 use Rattle.record.specs.Allowed.{identityOf, productOf, hardwareOf, softwareOf, platesAllowed, identityAllowed}
 use Rattle.record.specs.declared.Plate.{Plate}
 use Rattle.payload.specs.Payloads.{successOf}
@@ -19,7 +19,7 @@ unfolding textOf
 length-text t = omega arith
 
 module _ (p s h w : List ℕ) where
-  pub length-texts : length (textOf p ++ (textOf s ++ (textOf h ++ textOf w)))
+  length-texts : length (textOf p ++ (textOf s ++ (textOf h ++ textOf w)))
       ≡ 4 + length p + length s + length h + length w
   length-texts =
       simp (length-append, length-text) (omega arith)

@@ -4,9 +4,9 @@
 use mathlib.Core.Path.{_≡_, sym, ap, _∙_}
 use mathlib.Core.Bool.{Bool, true}
 use mathlib.Core.List.{List}
-use mathlib.Core.Logic.{_⊎_, ⊎-elim}
+use mathlib.Core.Logic.{⊎-elim}
 use Prim.Native.Nat.{ℕ}
-use Rattle.identity.proofs.Identities.{and-parts}
+use Rattle.octets.proofs.Words.{and-parts}
 use Rattle.antenna.specs.declared.Waits.the-variants.{Result}
 use Rattle.antenna.specs.Motions.{waitingOf}
 use Rattle.antenna.proofs.Movements.{starts-no-result}

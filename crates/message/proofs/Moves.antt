@@ -1,24 +1,24 @@
 -- What a message changes. Set tilt alone starts a movement, exactly where it is due; clear alarms alone changes what
 -- is raised and told; subscribe alone changes the subscription; nothing else changes anything. Assumes nothing.
 use mathlib.Core.Path.{_≡_, refl, sym, ap, _∙_}
-use mathlib.Core.Bool.{Bool, true, false, cond}
+use mathlib.Core.Bool.{Bool, true, false}
 use mathlib.Core.List.{List, [], _∷_}
 use mathlib.Core.Logic.{_↔_, _⊎_, inl, inr, ⊎-elim}
 use Prim.Native.Nat.{ℕ, _<_, _≤_}
 use native.Mathlib.Omega.{arith}
-use borrow.Author.Tests.{ltb-true, ltb-false, eqb-true}
+use borrow.Author.Tests.{ltb-true, ltb-false, eqb-true, not-false}
 use lib.Dec.{ltb, eqb}
 use lib.ListN.{length, getD}
 use Rattle.octets.specs.Octets.{holds}
 use Rattle.octets.proofs.Words.{true-not-false}
 use Rattle.refusal.specs.Answer.{Answer, gives, refuses, answered}
+use Rattle.refusal.proofs.Exactly.{exactly-given}
 use Rattle.antenna.specs.declared.Alarms.{Alarms}
 use Rattle.antenna.specs.declared.Angle.{Angle}
 use Rattle.antenna.specs.declared.Antenna.{Antenna}
 use Rattle.antenna.specs.declared.Aim.the-variants.{Started}
 use Rattle.antenna.specs.Alarms.{alarmCodes, codesOf}
-use Rattle.antenna.specs.Motions.{inRange, busyOf, owesOf, driveRows, aimedAt, started, moves}
-use Rattle.antenna.proofs.Movements.{starts}
+use Rattle.antenna.specs.Motions.{inRange, busyOf, owesOf, started, moves}
 use Rattle.record.specs.declared.Plate.{Plate}
 use Rattle.record.specs.Desk.{calm}
 use Rattle.payload.specs.Payloads.{payloadOf, successOf, failureOf}
@@ -26,15 +26,13 @@ use Rattle.payload.proofs.Laws.{length-success}
 use Rattle.report.proofs.Counts.{length-codes}
 use Rattle.tilt.specs.Tilts.{tiltOctets}
 use Rattle.information.specs.Information.{informationOf}
-use Rattle.message.specs.declared.Check.{Check}
-use Rattle.message.specs.declared.Check.the-variants.{Passed, Failed}
 use Rattle.message.specs.declared.Carried.{Carried}
-use Rattle.message.specs.Messages.{codeOf, declaredOf, dataOf, askedOf, driveChecks, checks, table, inTable, takenBy}
-use Rattle.message.specs.Messages.{Due}
+use Rattle.message.specs.Messages.{codeOf, declaredOf, dataOf, askedOf, table, inTable, takenBy, busied, outside}
+use Rattle.message.specs.Messages.{driveChecks, checks, Due}
 use Rattle.message.specs.Carried.{replies, unanswered, quieted, doneBy, outcome, carriedOf}
-use Rattle.message.specs.Steps.{checkedOf, aimed, setOf, getOf, operatedOf, performedOf}
-use Rattle.message.proofs.Judged.{settledBy, performed-is, carried-none, carried-is}
-use Rattle.message.proofs.Shapes.{passed-sizes, unlisted, shape-none, shape-two}
+use Rattle.message.proofs.Exact.{given-none}
+use Rattle.message.proofs.Words.{differs-exactly}
+use Rattle.message.proofs.Shapes.{unlisted, shape-none, shape-two}
 
 -- what an answer that changes nothing says: ten octets at most, or what the device is
 abbrev pub Says : Plate → List ℕ → Type 0
@@ -59,74 +57,69 @@ module _ (p : Plate) (n : Antenna) (told : Alarms) (sub : Bool) (m : List ℕ) w
       (cleared : m ≡ 0x06 ∷ 0 ∷ 0 ∷ [] → P (replies (successOf 0x06 []) (quieted n) calm sub))
       (subscribed : m ≡ 0x12 ∷ 0 ∷ 0 ∷ [] → P (replies (successOf 0x12 []) n told true))
       (moved : Due n m → P (unanswered (started n (askedOf m) Started) told sub)) where
+    -- what the table says of each code, where no check fails
     module _ (long : 3 ≤ length m) (said : declaredOf m ≡ length (dataOf m))
-        (size : length (dataOf m) ≡ takenBy table (codeOf m)) (listed : inTable table (codeOf m) ≡ true) where
-      set-case : codeOf m ≡ 0x33 → (x : Answer Antenna) → aimedAt n (askedOf m) ≡ x → P (aimed n told sub x)
-      unfolding aimed takenBy started
-      set-case e (refuses why) h = told-only (failureOf 0x33 why) (says-failure p 0x33 why)
-      set-case e (gives x) h =
-          let two : length (dataOf m) ≡ 2 = rw e at size in
-          let (idle, reach, is) = starts n (askedOf m) x .0 h in
-          rw (← is) (moved (record { octets = shape-two m 0x33 long e (said ∙ two) two; idle = idle; reach = reach }))
+        (listed : inTable table (codeOf m) ≡ true) (size : length (dataOf m) ≡ takenBy table (codeOf m))
+        (idle : busied n (codeOf m) ≡ false) (inside : outside n (codeOf m) (askedOf m) ≡ false) where
+      takes : {k c : ℕ} → codeOf m ≡ c → takenBy table c ≡ k → length (dataOf m) ≡ k
+      takes e t = size ∙ ap (takenBy table) e ∙ t
 
-      operated : eqb (codeOf m) 0x04 ≡ false → eqb (codeOf m) 0x05 ≡ false → (b₆ : Bool) → eqb (codeOf m) 0x06 ≡ b₆
-          → (b₁ : Bool) → eqb (codeOf m) 0x12 ≡ b₁ → (b₃ : Bool) → eqb (codeOf m) 0x33 ≡ b₃
-          → (b₄ : Bool) → eqb (codeOf m) 0x34 ≡ b₄ → P
-          (cond b₆ (replies (successOf 0x06 []) (quieted n) calm sub)
-          (cond b₁ (replies (successOf 0x12 []) n told true)
-          (cond b₃ (setOf n told sub (askedOf m)) (cond b₄ (getOf n told sub) (unanswered n told sub)))))
-      unfolding setOf getOf takenBy answered outcome
-      operated x y true e₆ b₁ e₁ b₃ e₃ b₄ e₄ =
-          let e = eqb-true (codeOf m) 0x06 e₆ in
-          let zero : length (dataOf m) ≡ 0 = rw e at size in
-          cleared (shape-none m 0x06 long e (said ∙ zero) zero)
-      operated x y false e₆ true e₁ b₃ e₃ b₄ e₄ =
-          let e = eqb-true (codeOf m) 0x12 e₁ in
-          let zero : length (dataOf m) ≡ 0 = rw e at size in
-          subscribed (shape-none m 0x12 long e (said ∙ zero) zero)
-      operated x y false e₆ false e₁ true e₃ b₄ e₄ =
-          set-case (eqb-true (codeOf m) 0x33 e₃) (aimedAt n (askedOf m)) refl
-      operated x y false e₆ false e₁ false e₃ true e₄ = got (busyOf (n .motion))
+      done-cases : P (doneBy p n told sub (codeOf m) (askedOf m))
+      unfolding doneBy takenBy
+      done-cases =
+          go (eqb (codeOf m) 0x04) refl (eqb (codeOf m) 0x05) refl (eqb (codeOf m) 0x06) refl (eqb (codeOf m) 0x12) refl
+          (eqb (codeOf m) 0x33) refl (eqb (codeOf m) 0x34) refl
         where
-          got : (b : Bool) → P
-              (outcome n told sub 0x34
-              (answered (driveRows b false) (replies (successOf 0x34 (tiltOctets (n .drive .tilt))) n told sub)))
-          got true = told-only (failureOf 0x34 0x05) (says-failure p 0x34 0x05)
-          got false = told-only (successOf 0x34 (tiltOctets (n .drive .tilt))) (says-tilt p (n .drive .tilt))
-      operated x y false e₆ false e₁ false e₃ false e₄ =
-          absurd (true-not-false (sym listed ∙ unlisted (codeOf m) x y e₆ e₁ e₃ e₄))
+          go : (b₁ : Bool) → eqb (codeOf m) 0x04 ≡ b₁ → (b₂ : Bool) → eqb (codeOf m) 0x05 ≡ b₂
+              → (b₃ : Bool) → eqb (codeOf m) 0x06 ≡ b₃ → (b₄ : Bool) → eqb (codeOf m) 0x12 ≡ b₄
+              → (b₅ : Bool) → eqb (codeOf m) 0x33 ≡ b₅ → (b₆ : Bool) → eqb (codeOf m) 0x34 ≡ b₆
+              → P (doneBy p n told sub (codeOf m) (askedOf m))
+          go true e₁ b₂ e₂ b₃ e₃ b₄ e₄ b₅ e₅ b₆ e₆ =
+              rw e₁ (told-only (successOf 0x04 (codesOf (n .drive .raised .flags))) (says-alarms p (n .drive .raised .flags)))
+          go false e₁ true e₂ b₃ e₃ b₄ e₄ b₅ e₅ b₆ e₆ =
+              rw (e₁, e₂) (told-only (successOf 0x05 (informationOf p)) (inr refl))
+          go false e₁ false e₂ true e₃ b₄ e₄ b₅ e₅ b₆ e₆ =
+              let e = eqb-true (codeOf m) 0x06 e₃ in
+              let zero = takes e refl in
+              rw (e₁, e₂, e₃) (cleared (shape-none m 0x06 long e (said ∙ zero) zero))
+          go false e₁ false e₂ false e₃ true e₄ b₅ e₅ b₆ e₆ =
+              let e = eqb-true (codeOf m) 0x12 e₄ in
+              let zero = takes e refl in
+              rw (e₁, e₂, e₃, e₄) (subscribed (shape-none m 0x12 long e (said ∙ zero) zero))
+          go false e₁ false e₂ false e₃ false e₄ true e₅ b₆ e₆ =
+              let e = eqb-true (codeOf m) 0x33 e₅ in
+              let two = takes e refl in
+              rw (e₁, e₂, e₃, e₄, e₅)
+              (moved
+              (record {
+                octets = shape-two m 0x33 long e (said ∙ two) two;
+                idle = rw e₅ at idle;
+                reach = not-false (inRange n (askedOf m)) (rw e₅ at inside);
+              }))
+          go false e₁ false e₂ false e₃ false e₄ false e₅ true e₆ =
+              rw (e₁, e₂, e₃, e₄, e₅, e₆)
+              (told-only (successOf 0x34 (tiltOctets (n .drive .tilt))) (says-tilt p (n .drive .tilt)))
+          go false e₁ false e₂ false e₃ false e₄ false e₅ false e₆ =
+              absurd (true-not-false (sym listed ∙ unlisted (codeOf m) e₁ e₂ e₃ e₄ e₅ e₆))
 
-      performed : P (performedOf p n told sub (codeOf m) (askedOf m))
-      unfolding performedOf operatedOf
-      performed = go (eqb (codeOf m) 0x04) refl (eqb (codeOf m) 0x05) refl
-        where
-          go : (a : Bool) → eqb (codeOf m) 0x04 ≡ a → (b : Bool) → eqb (codeOf m) 0x05 ≡ b → P
-              (cond a (replies (successOf 0x04 (codesOf (n .drive .raised .flags))) n told sub)
-              (cond b (replies (successOf 0x05 (informationOf p)) n told sub)
-              (operatedOf n told sub (codeOf m) (askedOf m))))
-          go true x b y = told-only (successOf 0x04 (codesOf (n .drive .raised .flags))) (says-alarms p (n .drive .raised .flags))
-          go false x true y = told-only (successOf 0x05 (informationOf p)) (inr refl)
-          go false x false y =
-              operated x y (eqb (codeOf m) 0x06) refl (eqb (codeOf m) 0x12) refl (eqb (codeOf m) 0x33) refl
-              (eqb (codeOf m) 0x34) refl
-
-    judged-cases : 3 ≤ length m → (k : Check) → checkedOf (codeOf m) (declaredOf m) (length (dataOf m)) ≡ k → P
-        (settledBy n told sub (codeOf m)
-        (answered (driveChecks n (codeOf m) (askedOf m)) (doneBy p n told sub (codeOf m) (askedOf m))) k)
-    unfolding settledBy
-    judged-cases long Passed e =
-        let sizes = passed-sizes (codeOf m) (declaredOf m) (length (dataOf m)) e in
-        rw (← performed-is n told sub p (codeOf m) (askedOf m)) (performed long (sizes .0) (sizes .1) (sizes .2))
-    judged-cases long (Failed why) e = told-only (failureOf (codeOf m) why) (says-failure p (codeOf m) why)
+    judged-cases : 3 ≤ length m → (x : Answer Carried)
+        → answered (checks n m) (doneBy p n told sub (codeOf m) (askedOf m)) ≡ x → P (outcome n told sub (codeOf m) x)
+    unfolding outcome
+    judged-cases long (refuses why) e = told-only (failureOf (codeOf m) why) (says-failure p (codeOf m) why)
+    judged-cases long (gives d) e =
+        let same = exactly-given (checks n m) _ d .0 e .1 in
+        let (said, barred, listed, size, idle, inside) =
+        given-none (doneBy p n told sub (codeOf m) (askedOf m)) n m .0 (e ∙ ap gives (sym same)) in
+        rw (← same)
+        (done-cases long (differs-exactly _ _ .0 said) (not-false _ listed) (differs-exactly _ _ .0 size) idle inside)
 
     pub carried-cases : P (carriedOf p n told sub m)
+    unfolding carriedOf
     carried-cases = go (ltb (length m) 3) refl
       where
         go : (b : Bool) → ltb (length m) 3 ≡ b → P (carriedOf p n told sub m)
-        go true e = let few = ltb-true (length m) 3 e in rw (carried-none n told sub p m few) (none few)
-        go false e =
-            let long = ltb-false (length m) 3 e in
-            rw (carried-is n told sub p m long) (judged-cases long _ refl)
+        go true e = rw e (none (ltb-true (length m) 3 e))
+        go false e = rw e (judged-cases (ltb-false (length m) 3 e) _ refl)
 
   -- set tilt alone starts a movement: where it is due, and the motion stays as it was where it is not
   pub moved-or-not : Due n m ⊎ (carriedOf p n told sub m .antenna .motion ≡ n .motion)

@@ -1,36 +1,13 @@
 -- Messages that pass the checks of their form, octet by octet. Assumes nothing.
-use mathlib.Core.Path.{_≡_, refl, sym}
-use mathlib.Core.Bool.{Bool, true, false, cond}
+use mathlib.Core.Path.{_≡_, sym}
+use mathlib.Core.Bool.{false}
 use mathlib.Core.List.{List, [], _∷_}
 use Prim.Native.Nat.{ℕ, _≤_}
 use native.Mathlib.Omega.{arith}
-use borrow.Author.Tests.{eqb-true, eqb-false, ne-eqb}
+use borrow.Author.Tests.{eqb-false, ne-eqb}
 use lib.Dec.{eqb}
 use lib.ListN.{length, getD}
-use Rattle.octets.specs.Octets.{holds}
-use Rattle.octets.proofs.Words.{true-not-false}
-use Rattle.message.specs.declared.Check.the-variants.{Passed, Failed}
-use Rattle.message.specs.Messages.{codeOf, declaredOf, dataOf, unsupported, table, inTable, takenBy}
-use Rattle.message.specs.Steps.{fitsOf, checkedOf}
-
-failed-not-passed : {k : ℕ} → Failed k ≡ Passed → ⊥
-failed-not-passed e = true-not-false (cc)
-
--- a message that passes has the length that it says and that the table defines for its code
-pub passed-sizes : (c said size : ℕ) → checkedOf c said size ≡ Passed
-    → (said ≡ size) × (size ≡ takenBy table c) × (inTable table c ≡ true)
-unfolding checkedOf fitsOf
-passed-sizes c said size =
-    go (eqb said size) refl (holds c unsupported) (inTable table c) (eqb size (takenBy table c)) refl
-  where
-    go : (a : Bool) → eqb said size ≡ a → (b i s : Bool) → eqb size (takenBy table c) ≡ s
-        → cond a (cond b (Failed 0x25) (cond i (cond s Passed (Failed 0x24)) (Failed 0x19))) (Failed 0x24) ≡ Passed
-        → (said ≡ size) × (size ≡ takenBy table c) × (i ≡ true)
-    go false e b i s f h = absurd (failed-not-passed h)
-    go true e true i s f h = absurd (failed-not-passed h)
-    go true e false false s f h = absurd (failed-not-passed h)
-    go true e false true false f h = absurd (failed-not-passed h)
-    go true e false true true f h = (eqb-true said size e, eqb-true size (takenBy table c) f, refl)
+use Rattle.message.specs.Messages.{codeOf, declaredOf, dataOf, table, inTable}
 
 -- a code of none of the rows is not in the table
 pub unlisted : (c : ℕ) → eqb c 0x04 ≡ false → eqb c 0x05 ≡ false → eqb c 0x06 ≡ false → eqb c 0x12 ≡ false

@@ -17,7 +17,7 @@ use Rattle.message.specs.Messages.{Entry, _takes_, codeOf, declaredOf, t
 use Rattle.message.specs.Messages.{misdeclared, barred, unknown, misfit, busied, outside}
 
 -- a test that two numbers differ
-differs-exactly : (a b : ℕ) → not (eqb a b) ≡ false ↔ (a ≡ b)
+pub differs-exactly : (a b : ℕ) → not (eqb a b) ≡ false ↔ (a ≡ b)
 differs-exactly a b = (λ e. eqb-true a b (not-false (eqb a b) e), λ e. rw (eq-eqb a b e))
 
 -- "length field wrong": two octets, low first, that are not the length of the data

@@ -1,9 +1,11 @@
 -- A message carried out: the answer to it, if there is one now, and what it changes.
---   replies b n told sub  == the octets b are the answer; the antenna n, what was told, and the subscription after it
+--   repliedOf q n told sub == the payload q is the answer; the antenna n, what was told, and the subscription after it
+--   replies b n told sub  == the octets b are the answer
 --   unanswered n told sub == no answer now
 --   quieted n             == the antenna n with no alarm raised
 --   doneBy p n told sub c t == what the table says of the code c, whose data asks the tilt t, where no check fails
 --   outcome n told sub c x  == what comes of the checks' answer x
+--   performedBy p n told sub c t == what comes of a code c that has passed the message's own checks
 --   carriedOf p n told sub m == the message m, carried out by a device with the plate p
 -- Assumes nothing.
 use mathlib.Core.Bool.{Bool, true, cond}
@@ -19,19 +21,22 @@ use Rattle.antenna.specs.declared.Aim.the-variants.{Started}
 use Rattle.antenna.specs.Alarms.{codesOf}
 use Rattle.antenna.specs.Motions.{started}
 use Rattle.antenna.specs.Events.{marked}
+use Rattle.record.specs.declared.Payload.{Payload}
 use Rattle.record.specs.declared.Plate.{Plate}
 use Rattle.record.specs.Desk.{calm, noReply}
 use Rattle.payload.specs.Payloads.{payloadOf, successOf, failureOf}
 use Rattle.tilt.specs.Tilts.{tiltOctets}
 use Rattle.information.specs.Information.{informationOf}
-use Rattle.message.specs.Messages.{codeOf, askedOf, checks}
+use Rattle.message.specs.Messages.{codeOf, askedOf, driveChecks, checks}
 use Rattle.message.specs.declared.Reply.{Reply}
 use Rattle.message.specs.declared.Reply.the-variants.{None}
 use Rattle.message.specs.declared.Carried.{Carried}
 
+abbrev pub repliedOf : Payload → Antenna → Alarms → Bool → Carried
+repliedOf q n told sub = record { reply = Reply.Answer; payload = q; antenna = n; told = told; subscribed = sub }
+
 unfoldable pub replies : List ℕ → Antenna → Alarms → Bool → Carried
-replies b n told sub =
-    record { reply = Reply.Answer; payload = payloadOf b; antenna = n; told = told; subscribed = sub }
+replies b n told sub = repliedOf (payloadOf b) n told sub
 
 unfoldable pub unanswered : Antenna → Alarms → Bool → Carried
 unanswered n told sub = record { reply = None; payload = noReply; antenna = n; told = told; subscribed = sub }
@@ -59,6 +64,10 @@ doneBy p n told sub c t =
 unfoldable pub outcome : Antenna → Alarms → Bool → ℕ → Answer Carried → Carried
 outcome n told sub c (gives done) = done
 outcome n told sub c (refuses why) = replies (failureOf c why) n told sub
+
+-- "busy, 0x05; out of range, 0x13", then the table
+unfoldable pub performedBy : Plate → Antenna → Alarms → Bool → ℕ → Angle → Carried
+performedBy p n told sub c t = outcome n told sub c (answered (driveChecks n c t) (doneBy p n told sub c t))
 
 -- "shorter than 3, no answer", before all checks
 unfoldable pub carriedOf : Plate → Antenna → Alarms → Bool → List ℕ → Carried

@@ -1,4 +1,3 @@
 -- What the other crates cite of messages.
 pub mod Messages
 pub mod Carried
-pub mod Steps

@@ -6,23 +6,27 @@
 --   inTable t c      == the table t has the code c; takenBy t c == the data length that it defines for c
 --   misdeclared m    == "length field wrong"; barred m == "code one of .."; unknown m == "code not in the table"
 --   misfit m         == "data length not the defined one"
---   asksDrive c         == set tilt or get tilt
+--   asksDrive c      == set tilt or get tilt
 --   busied n c       == "busy"; outside n c t == "out of range"
+--   ownChecks m      == the checks that the message m alone decides; driveChecks n c t == those of the drive
 --   checks n m       == the checks of m, in their order, for the antenna n
+--   checkNumber r    == the paper's return code, or none, for each case of the code's answer
 --   Due n m          == m is a set tilt that the antenna n carries out
 -- Assumes nothing.
 use mathlib.Core.Path.{_≡_}
 use mathlib.Core.Bool.{Bool, true, false, cond, not, _&&_, _||_}
-use mathlib.Core.List.{List, [], _∷_}
+use mathlib.Core.List.{List, [], _∷_, _++_}
 use Prim.Native.Nat.{ℕ}
 use lib.Dec.{eqb}
 use lib.ListN.{length, getD, drop}
 use Rattle.octets.specs.Octets.{holds, pairOf}
-use Rattle.refusal.specs.Answer.{Row, _when_}
+use Rattle.refusal.specs.Answer.{Answer, gives, refuses, Row, _when_}
 use Rattle.antenna.specs.declared.Angle.{Angle}
 use Rattle.antenna.specs.declared.Antenna.{Antenna}
 use Rattle.antenna.specs.Motions.{inRange, busyOf, driveRows}
 use Rattle.tilt.specs.Tilts.{angleOf}
+use Rattle.message.specs.declared.Check.{Check}
+use Rattle.message.specs.declared.Check.the-variants.{Passed, Failed}
 
 infix 70 _takes_
 -- "Code, data length (two octets, low first), data."
@@ -84,19 +88,28 @@ busied n c = asksDrive c && busyOf (n .motion)
 abbrev pub outside : Antenna → ℕ → Angle → Bool
 outside n c t = eqb c 0x33 && not (inRange n t)
 
--- the drive's part of the checks: "busy, 0x05; out of range, 0x13"
-unfoldable pub driveChecks : Antenna → ℕ → Angle → List Row
-driveChecks n c t = driveRows (busied n c) (outside n c t)
-
--- "Checked in this order: .. length field wrong, 0x24; code one of .., then 0x25; code not in the table below, 0x19;
--- data length not the defined one, 0x24; busy, 0x05; out of range, 0x13."
-unfoldable pub checks : Antenna → List ℕ → List Row
-checks n m =
+-- "length field wrong, 0x24; code one of .., then 0x25; code not in the table below, 0x19; data length not the defined
+-- one, 0x24"
+abbrev pub ownChecks : List ℕ → List Row
+ownChecks m =
     0x24 when misdeclared m
     ∷ 0x25 when barred m
     ∷ 0x19 when unknown m
     ∷ 0x24 when misfit m
-    ∷ driveChecks n (codeOf m) (askedOf m)
+    ∷ []
+
+-- "busy, 0x05; out of range, 0x13"
+unfoldable pub driveChecks : Antenna → ℕ → Angle → List Row
+driveChecks n c t = driveRows (busied n c) (outside n c t)
+
+-- "Checked in this order": the message's own, then the drive's
+unfoldable pub checks : Antenna → List ℕ → List Row
+checks n m = ownChecks m ++ driveChecks n (codeOf m) (askedOf m)
+
+-- a message that passes its own checks has no return code yet
+unfoldable pub checkNumber : Check → Answer (Unit {0})
+checkNumber Passed = gives tt
+checkNumber (Failed why) = refuses why
 
 -- "0x33 set tilt: 2 octets, low first, signed": exactly these octets, nothing moves or waits, and the tilt they ask is in
 -- range

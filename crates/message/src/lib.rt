@@ -3,11 +3,14 @@
 // or waits, and the tilt asked is in range (proofs/Moves.antt); each return code is given exactly when 01 says
 // (proofs/Exact.antt).
 ghost use mathlib.Core.Path.{_≡_};
-ghost use lib.ListN.{getD};
+ghost use Prim.Native.Nat.{_≤_};
+ghost use lib.ListN.{length, getD};
 ghost use Rattle.octets.specs.Octets.{holds};
-ghost use Rattle.message.specs.Messages.{unsupported, askedOf};
-ghost use Rattle.message.specs.Carried.{unanswered, quieted, carriedOf};
-ghost use Rattle.message.specs.Steps.{repliedOf, fitsOf, checkedOf, setOf, getOf, operatedOf, performedOf};
+ghost use Rattle.refusal.specs.Answer.{answered};
+ghost use Rattle.antenna.specs.declared.Angle.{Angle};
+ghost use Rattle.record.specs.declared.Plate.{Plate};
+ghost use Rattle.message.specs.Messages.{unsupported, askedOf, ownChecks, checkNumber};
+ghost use Rattle.message.specs.Carried.{repliedOf, unanswered, quieted, performedBy, carriedOf};
 use antenna::Aim;
 use antenna::Alarms;
 use antenna::Angle;
@@ -31,10 +34,41 @@ const UNSUPPORTED: [u8; 12] = [
     0x90,
 ];
 
-// The codes that it does, and how many octets of data each has.
-const CODES: [u8; 6] = [0x04, 0x05, 0x06, 0x12, 0x33, 0x34];
+// The codes that it does.
+const ALARM_STATUS: u8 = 0x04;
 
+const INFORMATION: u8 = 0x05;
+
+const CLEAR_ALARMS: u8 = 0x06;
+
+const SUBSCRIBE: u8 = 0x12;
+
+const SET_TILT: u8 = 0x33;
+
+const GET_TILT: u8 = 0x34;
+
+const CODES: [u8; 6] = [
+    ALARM_STATUS,
+    INFORMATION,
+    CLEAR_ALARMS,
+    SUBSCRIBE,
+    SET_TILT,
+    GET_TILT,
+];
+
+// How many octets of data each has.
 const TAKES: [usize; 6] = [0, 0, 0, 0, 2, 0];
+
+// The return codes.
+const BUSY: u8 = 0x05;
+
+const OUT_OF_RANGE: u8 = 0x13;
+
+const UNKNOWN: u8 = 0x19;
+
+const WRONG_LENGTH: u8 = 0x24;
+
+const NOT_SUPPORTED: u8 = 0x25;
 
 pub enum Reply {
     None,
@@ -82,33 +116,30 @@ fn is_unsupported(code: u8) -> bool
     octets::find(code, &codes) < 12
 }
 
-// The checks by the table: the code, then the data length.
-fn fits(code: u8, size: usize) -> Check
-    ensures { λ r. ⌜ r ≡ fitsOf code size ⌝ }
+// The checks that the message alone decides, in 01's order.
+fn checked(m: &[u8]) -> Check
+    requires { ⌜ 3 ≤ length (now m) ⌝ }
+    ensures { λ r. ⌜ checkNumber r ≡ answered (ownChecks (now (m .entry))) tt ⌝ }
 {
+    let code = octet(m, 0);
+    let said = octets::pair(octet(m, 1), octet(m, 2)) as usize;
+    let size = m.len() - 3;
+    if said != size {
+        return Check::Failed(WRONG_LENGTH);
+    }
+    if is_unsupported(code) {
+        return Check::Failed(NOT_SUPPORTED);
+    }
     let codes = CODES;
     let takes = TAKES;
     let place = octets::find(code, &codes);
-    if place < 6 {
-        if size == takes[place] {
-            return Check::Passed;
-        }
-        return Check::Failed(0x24);
+    if place >= 6 {
+        return Check::Failed(UNKNOWN);
     }
-    Check::Failed(0x19)
-}
-
-// The checks that the message alone decides: `said` is its length field, `size` the length of its data.
-fn checked(code: u8, said: usize, size: usize) -> Check
-    ensures { λ r. ⌜ r ≡ checkedOf code said size ⌝ }
-{
-    if said == size {
-        if is_unsupported(code) {
-            return Check::Failed(0x25);
-        }
-        return fits(code, size);
+    if size != takes[place] {
+        return Check::Failed(WRONG_LENGTH);
     }
-    Check::Failed(0x24)
+    Check::Passed
 }
 
 // ---- what comes of it
@@ -128,11 +159,9 @@ fn replied(payload: Payload, antenna: Antenna, told: Alarms, subscribed: bool) -
 fn silent(antenna: Antenna, told: Alarms, subscribed: bool) -> Carried
     ensures { λ r. ⌜ r ≡ unanswered antenna told subscribed ⌝ }
 {
-    let octets = [0u8; 74];
-    let payload = Payload { octets, len: 0 };
     Carried {
         reply: Reply::None,
-        payload,
+        payload: record::NO_REPLY,
         antenna,
         told,
         subscribed,
@@ -150,55 +179,36 @@ fn quiet(antenna: Antenna) -> Antenna
 }
 
 fn set_tilt(antenna: Antenna, told: Alarms, subscribed: bool, t: Angle) -> Carried
-    ensures { λ r. ⌜ r ≡ setOf antenna told subscribed t ⌝ }
+    ensures { λ r. ⌜ ((p : Plate) → r ≡ performedBy p antenna told subscribed 0x33 t) ⌝ }
 {
     let aimed = aim::aim_at(antenna, t);
     let aim = aimed.aim;
     let next = aimed.antenna;
     match aim {
-        Aim::Busy => replied(payload::failure(0x33, 0x05), antenna, told, subscribed),
-        Aim::Outside => replied(payload::failure(0x33, 0x13), antenna, told, subscribed),
+        Aim::Busy => replied(payload::failure(SET_TILT, BUSY), antenna, told, subscribed),
+        Aim::Outside => replied(
+            payload::failure(SET_TILT, OUT_OF_RANGE),
+            antenna,
+            told,
+            subscribed,
+        ),
         Aim::Started => silent(next, told, subscribed),
     }
 }
 
 fn get_tilt(antenna: Antenna, told: Alarms, subscribed: bool) -> Carried
-    ensures { λ r. ⌜ r ≡ getOf antenna told subscribed ⌝ }
+    ensures { λ r. ⌜ ((p : Plate) (t : Angle) → r ≡ performedBy p antenna told subscribed 0x34 t) ⌝ }
 {
     let motion = antenna.motion;
     let drive = antenna.drive;
     let tilt = drive.tilt;
     if antenna::busy(motion) {
-        return replied(payload::failure(0x34, 0x05), antenna, told, subscribed);
+        return replied(payload::failure(GET_TILT, BUSY), antenna, told, subscribed);
     }
     replied(tilt::tilt(tilt), antenna, told, subscribed)
 }
 
-// The codes that change something or ask the drive.
-fn operate(antenna: Antenna, told: Alarms, subscribed: bool, code: u8, t: Angle) -> Carried
-    ensures { λ r. ⌜ r ≡ operatedOf antenna told subscribed code t ⌝ }
-{
-    if code == 0x06 {
-        return replied(
-            payload::done(0x06),
-            quiet(antenna),
-            antenna::CALM,
-            subscribed,
-        );
-    }
-    if code == 0x12 {
-        return replied(payload::done(0x12), antenna, told, true);
-    }
-    if code == 0x33 {
-        return set_tilt(antenna, told, subscribed, t);
-    }
-    if code == 0x34 {
-        return get_tilt(antenna, told, subscribed);
-    }
-    silent(antenna, told, subscribed)
-}
-
-// The codes that only tell, and the others.
+// What the table says of a code, if the drive lets it.
 fn perform(
     plate: Plate,
     antenna: Antenna,
@@ -207,17 +217,34 @@ fn perform(
     code: u8,
     t: Angle,
 ) -> Carried
-    ensures { λ r. ⌜ r ≡ performedOf plate antenna told subscribed code t ⌝ }
+    ensures { λ r. ⌜ r ≡ performedBy plate antenna told subscribed code t ⌝ }
 {
-    if code == 0x04 {
+    if code == ALARM_STATUS {
         let drive = antenna.drive;
         let raised = drive.raised;
         return replied(report::alarms(raised), antenna, told, subscribed);
     }
-    if code == 0x05 {
+    if code == INFORMATION {
         return replied(information::information(plate), antenna, told, subscribed);
     }
-    operate(antenna, told, subscribed, code, t)
+    if code == CLEAR_ALARMS {
+        return replied(
+            payload::done(CLEAR_ALARMS),
+            quiet(antenna),
+            antenna::CALM,
+            subscribed,
+        );
+    }
+    if code == SUBSCRIBE {
+        return replied(payload::done(SUBSCRIBE), antenna, told, true);
+    }
+    if code == SET_TILT {
+        return set_tilt(antenna, told, subscribed, t);
+    }
+    if code == GET_TILT {
+        return get_tilt(antenna, told, subscribed);
+    }
+    silent(antenna, told, subscribed)
 }
 
 // A message is checked and carried out.
@@ -228,9 +255,7 @@ pub fn carry(plate: Plate, antenna: Antenna, told: Alarms, subscribed: bool, m: 
         return silent(antenna, told, subscribed);
     }
     let code = octet(m, 0);
-    let said = octets::pair(octet(m, 1), octet(m, 2));
-    let check = checked(code, said as usize, m.len() - 3);
-    match check {
+    match checked(m) {
         Check::Passed => perform(plate, antenna, told, subscribed, code, asked(m)),
         Check::Failed(why) => replied(payload::failure(code, why), antenna, told, subscribed),
     }

@@ -31,11 +31,6 @@ pub failure-is : (code why : ℕ) → failureOf code why ≡ code ∷ 2 ∷ 0 �
 unfolding failureOf
 failure-is code why = refl
 
--- a failure is the message whose data is 0x0B and the return code
-pub failure-message : (code why : ℕ) → failureOf code why ≡ messageOf code (0x0B ∷ why ∷ [])
-unfolding failureOf messageOf
-failure-message code why = refl
-
 -- what a payload says is what was laid into it
 pub payload-says : (b : List ℕ) → take (payloadOf b .len) (payloadOf b .octets) ≡ b
 unfolding payloadOf
@@ -47,10 +42,6 @@ unfolding payloadOf
 laid-fits code d =
     let few : length (take bodyMost d) ≤ 71 = simp length-take (omega arith) in
     omega (arith, few, length-message code (take bodyMost d))
-
-pub failure-fits : (code why : ℕ) → payloadOf (failureOf code why) .len ≡ 5
-unfolding payloadOf failureOf
-failure-fits code why = refl
 
 -- "Stopped at 50 ..: 33 01 00 00", "Stopped at 49: 33 02 00 0B 02"
 pub result-reached : resultOf true ≡ 0x33 ∷ 0x01 ∷ 0x00 ∷ 0x00 ∷ []

@@ -4,7 +4,6 @@ use Rattle.octets.proofs.Only.{AsksNothing, Settles}
 use Rattle.payload.proofs.laid.Reads as laid-reads
 use Rattle.payload.proofs.failure.Reads as failure-reads
 use Rattle.payload.proofs.done.Reads as done-reads
-use Rattle.payload.proofs.result.Reads as result-reads
 
 pub laid-only : Settles laid-reads.Learnt
 laid-only κs a r q s t = only
@@ -15,9 +14,6 @@ failure-only κs a r q s t = only
 pub done-only : Settles done-reads.Learnt
 done-only κs a r q s t = only
 
-pub result-only : Settles result-reads.Learnt
-result-only κs a r q s t = only
-
 pub laid-asks : AsksNothing laid-reads.Asked
 laid-asks κs a = tt
 
@@ -26,6 +22,3 @@ failure-asks κs a = tt
 
 pub done-asks : AsksNothing done-reads.Asked
 done-asks κs a = tt
-
-pub result-asks : AsksNothing result-reads.Asked
-result-asks κs a = tt

@@ -1,10 +1,10 @@
-// Payloads of layer 7: code, length and data at the start of 74 zeros; successes, failures, the tilt result.
+// Payloads of layer 7: code, length and data at the start of 74 zeros; successes and failures.
 // Assumes nothing of its caller.
 // Headline: no payload has more than 74 octets (proofs/Laws.antt).
 ghost use mathlib.Core.Path.{_≡_};
 ghost use mathlib.Core.List.{[]};
 ghost use lib.ListN.{take};
-ghost use Rattle.payload.specs.Payloads.{payloadOf, messageOf, successOf, failureOf, resultOf, bodyMost};
+ghost use Rattle.payload.specs.Payloads.{payloadOf, messageOf, successOf, failureOf, bodyMost};
 use record::Payload;
 
 // Code, data length (low octet first), data; of more than 71 octets of data, the first 71.
@@ -34,14 +34,4 @@ pub fn done(code: u8) -> Payload
 {
     let body = [0x00];
     laid(code, &body)
-}
-
-// The result of a set tilt whose movement has ended.
-pub fn result(reached: bool) -> Payload
-    ensures { λ r. ⌜ r ≡ payloadOf (resultOf reached) ⌝ }
-{
-    if reached {
-        return done(0x33);
-    }
-    failure(0x33, 0x02)
 }

@@ -3,7 +3,7 @@ use mathlib.Core.Path.{_≡_}
 use mathlib.Core.Bool.{true}
 use mathlib.Core.Logic.{_↔_}
 use lib.ListN.{length}
-use Rattle.identity.proofs.Identities.{and-parts}
+use Rattle.octets.proofs.Words.{and-parts}
 use Rattle.antenna.specs.declared.Drive.{Drive}
 use Rattle.antenna.specs.Alarms.{anyDiffer}
 use Rattle.antenna.proofs.Differences.{differ-exactly}

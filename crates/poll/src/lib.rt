@@ -2,6 +2,7 @@
 // Assumes nothing of its caller.
 ghost use mathlib.Core.Path.{_≡_};
 ghost use Rattle.antenna.specs.Motions.{Awaits};
+ghost use Rattle.payload.specs.Payloads.{payloadOf, resultOf};
 ghost use Rattle.poll.specs.Poll.{toTell, indicates, indicating, idlePoll, waitingPoll, pollOf};
 use antenna::Alarms;
 use antenna::Antenna;
@@ -11,6 +12,7 @@ use antenna::Waits;
 use record::Desk;
 use record::Device;
 use record::Link;
+use record::Payload;
 use record::Pending;
 use record::Session;
 use record::Station;
@@ -86,6 +88,16 @@ fn poll_idle(device: Device, s: Session) -> Turn
     }
 }
 
+// The result of a set tilt whose movement has ended.
+fn result(reached: bool) -> Payload
+    ensures { λ r. ⌜ r ≡ payloadOf (resultOf reached) ⌝ }
+{
+    if reached {
+        return payload::done(0x33);
+    }
+    payload::failure(0x33, 0x02)
+}
+
 fn poll_waiting(device: Device, s: Session, waits: Waits) -> Turn
     ensures { λ r. ⌜ r ≡ waitingPoll device s waits ⌝ }
 {
@@ -104,7 +116,7 @@ fn poll_waiting(device: Device, s: Session, waits: Waits) -> Turn
                     drive,
                 },
             };
-            station::answer(rested, s, payload::result(reached))
+            station::answer(rested, s, result(reached))
         }
     }
 }

@@ -9,10 +9,9 @@ use native.Mathlib.Omega.{arith}
 use borrow.Author.Tests.{ltb-true, ltb-false, leb-true, le-leb, lt-ltb, eqb-true, eq-eqb, not-true}
 use lib.Dec.{ltb, leb}
 use lib.ListN.{length}
-use Rattle.octets.proofs.Words.{true-not-false}
+use Rattle.octets.proofs.Words.{true-not-false, and-parts}
 use Rattle.refusal.specs.Answer.{refuses}
 use Rattle.identity.specs.Identity.{width, allowedIdentity}
-use Rattle.identity.proofs.Identities.{and-parts}
 use Rattle.identity.proofs.Exactly.{identity-exactly}
 use Rattle.antenna.specs.declared.Motion.{Motion}
 use Rattle.antenna.specs.declared.Motion.the-variants as motion

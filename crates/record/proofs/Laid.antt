@@ -10,7 +10,8 @@ use lib.Seq.{sets}
 use Rattle.octets.specs.Octets.{_atStartOf_}
 use Rattle.octets.proofs.Stores.{sets-start}
 use Rattle.identity.specs.Identity.{allowedIdentity}
-use Rattle.identity.proofs.Identities.{and-parts, allowed-parts}
+use Rattle.octets.proofs.Words.{and-parts}
+use Rattle.identity.proofs.Identities.{allowed-parts}
 use Rattle.record.specs.Allowed.{productMost, versionMost}
 use Rattle.record.specs.Fresh.{textsAllowed, identityFrom, productFrom, versionFrom}
 

@@ -9,11 +9,11 @@ use lib.Dec.{leb}
 use lib.ListN.{length, take, replicate}
 use Rattle.octets.specs.Octets.{_atStartOf_}
 use Rattle.octets.proofs.Stores.{take-start}
-use Rattle.octets.proofs.Words.{true-not-false}
+use Rattle.octets.proofs.Words.{true-not-false, and-parts}
 use Rattle.refusal.specs.Answer.{gives, Clear}
 use Rattle.refusal.proofs.Exactly.{exactly-given}
 use Rattle.identity.specs.Identity.{width}
-use Rattle.identity.proofs.Identities.{and-parts, allowed-parts}
+use Rattle.identity.proofs.Identities.{allowed-parts}
 use Rattle.antenna.specs.declared.Angle.{Angle}
 use Rattle.antenna.specs.declared.Antenna.{Antenna}
 use Rattle.antenna.specs.declared.Motion.{Motion}

@@ -1,21 +1,19 @@
 -- What an accepted I-frame, a good N(R) and an acknowledgement need, and what a session counts, in 01's words.
 -- Assumes nothing.
 use mathlib.Core.Path.{_≡_, refl, sym}
-use mathlib.Core.Bool.{Bool, true, false, cond, not, _||_, or-true}
-use mathlib.Core.Logic.{_↔_, _⊎_, inl, inr, ⊎-map, ⊎-elim}
+use mathlib.Core.Bool.{true, false, cond, not, or-true}
+use mathlib.Core.Logic.{_↔_, _⊎_, ⊎-map, ⊎-elim}
 use Prim.Native.Nat.{ℕ, _+_, _*_, _<_}
 use native.Mathlib.Nat.{mod-eq-of-lt}
 use native.Mathlib.Omega.{arith}
 use borrow.Author.Tests.{eqb-true, eq-eqb, not-true}
 use lib.Dec.{eqb}
-use Rattle.octets.proofs.Words.{true-not-false}
-use Rattle.identity.proofs.Identities.{and-parts}
+use Rattle.octets.proofs.Words.{true-not-false, and-parts, or-parts}
 use Rattle.control.specs.Control.{nextOf}
-use Rattle.control.proofs.Named.{next-below}
 use Rattle.record.specs.declared.Pending.{Pending}
 use Rattle.record.specs.declared.Pending.the-variants.{Nothing, Answer, Indication}
 use Rattle.record.specs.declared.Session.{Session}
-use Rattle.session.specs.Session.{pends, acknowledges, goodNumber, accepts, taken, vsOf, countsOf}
+use Rattle.session.specs.Session.{pends, acknowledges, goodNumber, accepts, vsOf, countsOf}
 
 -- "at most one pending answer": one is, or none is
 pub pends-exactly : (p : Pending) → pends p ≡ true ↔ (p ≡ Nothing → ⊥)
@@ -43,16 +41,12 @@ acknowledges-exactly s n = (
   λ w. rw (w .0, eq-eqb n (nextOf (s .s)) (w .1)),
 )
 
-or-either : (a b : Bool) → (a || b) ≡ true → (a ≡ true) ⊎ (b ≡ true)
-or-either true b e = inl refl
-or-either false b e = inr e
-
 -- "N(R) must be S, or S+1 where an answer is pending"
 pub good-exactly : (s : Session) (n : ℕ)
     → goodNumber s n ≡ true ↔ ((n ≡ s .s) ⊎ ((pends (s .pending) ≡ true) × (n ≡ nextOf (s .s))))
 unfolding goodNumber
 good-exactly s n = (
-  λ e. ⊎-map (eqb-true n (s .s)) (acknowledges-exactly s n .0) (or-either (eqb n (s .s)) (acknowledges s n) e),
+  λ e. ⊎-map (eqb-true n (s .s)) (acknowledges-exactly s n .0) (or-parts (eqb n (s .s)) (acknowledges s n) e),
   ⊎-elim (λ e. rw (eq-eqb n (s .s) e))
       (λ w. rw (acknowledges-exactly s n .1 w) (or-true (eqb n (s .s)))),
 )
@@ -62,8 +56,3 @@ pub counts-is : (s : Session) → s .r < 8 → s .s < 8
     → countsOf s ≡ 2 * cond (pends (s .pending)) (nextOf (s .s)) (s .s) + 32 * s .r
 unfolding countsOf vsOf
 counts-is s hr hs = rw (mod-eq-of-lt hr, mod-eq-of-lt hs) (omega arith)
-
--- the numbers of a session stay 0 to 7
-pub taken-below : (s : Session) → taken s .r < 8
-unfolding taken
-taken-below s = next-below (s .r)

@@ -1,21 +1,16 @@
 -- What a tilt is as octets, and the rows that 01 spells out. Assumes nothing.
 use mathlib.Core.Path.{_≡_, refl}
 use mathlib.Core.List.{[], _∷_}
-use native.Mathlib.Omega.{arith}
 use lib.IntN.{pos, negsuc}
 use mir.Val.{SFits, ofZ}
 use mir.Syntax.{w16}
 use mir.Facts.{toZ-ofZ}
-use Rattle.octets.specs.Octets.{Octets, lowOf, highOf}
+use Rattle.octets.specs.Octets.{lowOf, highOf}
 use Rattle.octets.proofs.Bounds.{pair-parts}
 use Rattle.antenna.specs.declared.Angle.{Angle}
-use Rattle.payload.specs.Payloads.{messageOf, successOf, payloadOf}
+use Rattle.payload.specs.Payloads.{messageOf, successOf}
 use Rattle.tilt.specs.Tilts.{tiltOctets, angleOf}
 use Rattle.tilt.proofs.Signs.{fits}
-
-pub tilt-fits : (t : Angle) → payloadOf (successOf 0x34 (tiltOctets t)) .len ≡ 6
-unfolding payloadOf successOf messageOf tiltOctets
-tilt-fits t = refl
 
 -- "Tilt -15: get tilt gives 34 03 00 00 F1 FF"
 pub tilt-minus-15 : successOf 0x34 (tiltOctets (record { tenths = negsuc 14 }))
@@ -39,7 +34,3 @@ unfolding angleOf
 angle-tilt t f =
     let e = pair-parts (ofZ w16 (t .tenths)) (fits (t .tenths) f) in
     rw (e, toZ-ofZ f)
-
-pub tilt-octets : (t : Angle) → Octets (tiltOctets t)
-unfolding tiltOctets
-tilt-octets t = (omega arith, (omega arith, tt))

@@ -9,8 +9,7 @@ use Prim.Native.Nat.{ℕ, zero, suc}
 use native.Mathlib.Omega.{arith}
 use borrow.Author.Tests.{not-true}
 use Rattle.identity.specs.Bits.{Bits}
-use Rattle.identity.proofs.Identities.{and-parts}
-use Rattle.octets.proofs.Words.{or-parts}
+use Rattle.octets.proofs.Words.{or-parts, and-parts}
 use Rattle.walk.specs.Beginnings.{then}
 use Rattle.walk.specs.Probes.{pass, hit, order, Doubt}
 

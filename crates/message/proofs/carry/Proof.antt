@@ -1,5 +1,4 @@
--- `message::carry` meets its promise: what the code reads and checks is what the rows of the definition say. Assumes
--- nothing.
+-- `message::carry` meets its promise: its own checks decide, or the drive's and the table. Assumes nothing.
 use borrow.Author.Needs.{needs}
 use mathlib.Core.Path.{sym, _∙_}
 use Rattle.message.proofs.Judged.{reply-is, carried-none, carried-passed, carried-failed}
@@ -10,25 +9,11 @@ silent-requires : tie.Need-silent-requires
 silent-requires c κs = search needs
 
 returns : tie.Need-returns
-returns c = c .silent .ensures ∙ sym (carried-none _ _ _ _ _ (c .before .if1 .taken))
+returns c =
+    c .silent .ensures ∙ sym (carried-none _ _ _ _ _ (c .before .if1 .taken))
 
 octet-requires : tie.Need-octet-requires
 octet-requires c κs = search needs
-
-octet-requires-2 : tie.Need-octet-requires-2
-octet-requires-2 c κs = search needs
-
-octet-requires-3 : tie.Need-octet-requires-3
-octet-requires-3 c κs = search needs
-
-pair-requires : tie.Need-pair-requires
-pair-requires c κs = search needs
-
-cast-checked : tie.Need-cast-checked
-cast-checked c = search needs
-
-sub-checked : tie.Need-sub-checked
-sub-checked c = search needs
 
 checked-requires : tie.Need-checked-requires
 checked-requires c κs = search needs
@@ -42,8 +27,8 @@ asked-requires c κs = search needs
 perform-requires : tie.Need-perform-requires
 perform-requires c κs = search needs
 
-enum-known-check : tie.Need-enum-known-check
-enum-known-check c = search needs
+enum-known-why : tie.Need-enum-known-why
+enum-known-why c = search needs
 
 failure-requires : tie.Need-failure-requires
 failure-requires c κs = search needs
@@ -54,21 +39,14 @@ replied-requires c κs = search needs
 returns-2 : tie.Need-returns-2
 returns-2 c =
     let seen = c .before .before .before .before in
-    let read = seen .before in
-    let first = read .before .before .before in
-    carried-passed _ _ _ _ _ (first .before .if1 .left) (first .octet .ensures)
-    (read .before .before .octet2 .ensures) (read .before .octet3 .ensures) (read .pair .ensures)
-    (seen .checked .ensures) (c .before .before .enum-told .given .1) (c .before .asked .ensures) (c .perform .ensures)
+    carried-passed _ _ _ _ _ (seen .before .before .if1 .left) (seen .before .octet .ensures) (seen .checked .ensures)
+    (c .before .before .enum-told .given .1) (c .before .asked .ensures) (c .perform .ensures)
 
 returns-3 : tie.Need-returns-3
 returns-3 c =
     let seen = c .before .before .before .before .before in
-    let read = seen .before in
-    let first = read .before .before .before in
-    carried-failed _ _ _ _ _ (first .before .if1 .left) (first .octet .ensures)
-    (read .before .before .octet2 .ensures) (read .before .octet3 .ensures) (read .pair .ensures)
-    (seen .checked .ensures) (c .before .before .before .check .given .1)
-    (reply-is _ _ _ _ (c .before .failure .ensures) (c .replied .ensures))
+    carried-failed _ _ _ _ _ (seen .before .before .if1 .left) (seen .before .octet .ensures) (seen .checked .ensures)
+    (c .before .before .before .why .given .1) (reply-is _ _ _ _ (c .before .failure .ensures) (c .replied .ensures))
 
 pub carry-spec : {M : Type 1} → statement M
 carry-spec =
@@ -77,16 +55,11 @@ carry-spec =
     silent-requires
     returns
     octet-requires
-    octet-requires-2
-    octet-requires-3
-    pair-requires
-    cast-checked
-    sub-checked
     checked-requires
     enum-told
     asked-requires
     perform-requires
-    enum-known-check
+    enum-known-why
     failure-requires
     replied-requires
     returns-2

@@ -2,8 +2,8 @@
 use borrow.Author.Needs.{needs}
 use mathlib.Core.Path.{sym, _∙_}
 use Rattle.refusal.specs.Answer.{answered}
-use Rattle.message.specs.Carried.{outcome}
-use Rattle.message.specs.Steps.{getOf}
+use Rattle.message.specs.Messages.{driveChecks}
+use Rattle.message.specs.Carried.{doneBy, outcome, performedBy}
 use Rattle.message.proofs.Judged.{reply-is}
 use Rattle.message.proofs.get_tilt.Statement.{statement}
 use Rattle.message.proofs.get_tilt.Tie as tie
@@ -18,8 +18,8 @@ replied-requires : tie.Need-replied-requires
 replied-requires c κs = search needs
 
 returns : tie.Need-returns
-unfolding getOf answered outcome
-returns c =
+unfolding performedBy driveChecks doneBy answered outcome
+returns c p t =
     rw (sym (c .before .before .before .busy .ensures) ∙ c .before .before .if1 .taken)
     (reply-is _ _ _ _ (c .before .failure .ensures) (c .replied .ensures))
 
@@ -30,8 +30,8 @@ replied-requires-2 : tie.Need-replied-requires-2
 replied-requires-2 c κs = search needs
 
 returns-2 : tie.Need-returns-2
-unfolding getOf answered outcome
-returns-2 c =
+unfolding performedBy driveChecks doneBy answered outcome
+returns-2 c p t =
     rw (sym (c .before .before .before .busy .ensures) ∙ c .before .before .if1 .left)
     (reply-is _ _ _ _ (c .before .tilt2 .ensures) (c .replied2 .ensures))
 

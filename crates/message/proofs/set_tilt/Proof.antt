@@ -1,8 +1,8 @@
 -- `message::set_tilt` meets its promise: what becomes of the aim is what comes of the message. Assumes nothing.
 use borrow.Author.Needs.{needs}
+use mathlib.Core.Path.{sym, _∙_}
 use Rattle.antenna.proofs.Aims.{busy-told, outside-told, started-told}
-use Rattle.message.specs.Steps.{aimed, setOf}
-use Rattle.message.proofs.Judged.{reply-is}
+use Rattle.message.proofs.Judged.{reply-is, set-refused, set-started}
 use Rattle.message.proofs.set_tilt.Statement.{statement}
 use Rattle.message.proofs.set_tilt.Tie as tie
 
@@ -34,24 +34,21 @@ silent-requires : tie.Need-silent-requires
 silent-requires c κs = search needs
 
 returns : tie.Need-returns
-unfolding setOf aimed
-returns c =
+returns c p =
     let aim = c .before .before .before .before .before .aim-at .ensures in
-    rw (busy-told aim (c .before .before .enum-told .given .1))
-    (reply-is _ _ _ _ (c .before .failure .ensures) (c .replied .ensures))
+    reply-is _ _ _ _ (c .before .failure .ensures) (c .replied .ensures)
+    ∙ sym (set-refused _ _ _ p _ (busy-told aim (c .before .before .enum-told .given .1)))
 
 returns-2 : tie.Need-returns-2
-unfolding setOf aimed
-returns-2 c =
+returns-2 c p =
     let aim = c .before .before .before .before .before .aim-at .ensures in
-    rw (outside-told aim (c .before .before .enum-told2 .given .1))
-    (reply-is _ _ _ _ (c .before .failure2 .ensures) (c .replied2 .ensures))
+    reply-is _ _ _ _ (c .before .failure2 .ensures) (c .replied2 .ensures)
+    ∙ sym (set-refused _ _ _ p _ (outside-told aim (c .before .before .enum-told2 .given .1)))
 
 returns-3 : tie.Need-returns-3
-unfolding setOf aimed
-returns-3 c =
-    rw (started-told (c .before .before .before .before .aim-at .ensures) (c .before .enum-told3 .given .1))
-    (c .silent .ensures)
+returns-3 c p =
+    let aim = c .before .before .before .before .aim-at .ensures in
+    c .silent .ensures ∙ sym (set-started _ _ _ p _ (started-told aim (c .before .enum-told3 .given .1)))
 
 pub set-tilt-spec : {M : Type 1} → statement M
 set-tilt-spec =

@@ -1,11 +1,10 @@
--- `payload::result` meets its promise: by whether the tilt was reached. Assumes nothing.
+-- `poll::result` meets its promise: by whether the tilt was reached. Assumes nothing.
 use borrow.Author.Needs.{needs}
 use mathlib.Core.Path.{sym}
 use Rattle.octets.proofs.Rules.{tests}
-use Rattle.payload.specs.Payloads.{resultOf}
-use Rattle.payload.specs.Payloads.{payloadOf}
-use Rattle.payload.proofs.result.Statement.{statement}
-use Rattle.payload.proofs.result.Tie as tie
+use Rattle.payload.specs.Payloads.{payloadOf, resultOf}
+use Rattle.poll.proofs.result.Statement.{statement}
+use Rattle.poll.proofs.result.Tie as tie
 
 done-requires : tie.Need-done-requires
 done-requires c κs = search needs
