@@ -16,7 +16,7 @@ use Rattle.record.specs.Allowed.{replyMost}
 use Rattle.params.specs.Field.{xidPayload, rightLength, identifiers, WellFormed, noneTwice}
 use Rattle.params.proofs.Exact.{once-different}
 use Rattle.params.proofs.Kept.{of-both}
-use Rattle.xid.specs.Addressing.{addressing}
+use Rattle.xid.specs.Addressing.{identityId, addressId, kindId, addressing}
 use Rattle.xid_answer.specs.Answer.{scanParams, assignmentParams, scanAnswer, assignmentAnswer}
 use Rattle.payload.specs.Payloads.{payloadOf as held}
 use Rattle.xid_answer.proofs.Stored.{scan-length, assignment-length, length-scan, length-assignment}
@@ -46,11 +46,11 @@ module _ (i : List ℕ) (ok : allowedIdentity i ≡ true) where
   pub scan-formed : (a : ℕ) → WellFormed addressing (scanAnswer i a) (scanParams i a)
   unfolding scanAnswer scanParams rightLength identifiers noneTwice holds
   scan-formed a =
-      record { octets = refl; right = (long, (refl, (refl, tt))); once = once-different (1 ∷ 2 ∷ 4 ∷ []) refl }
+      record { octets = refl; right = (long, (refl, (refl, tt))); once = once-different (identityId ∷ addressId ∷ kindId ∷ []) refl }
 
   pub assignment-formed : WellFormed addressing (assignmentAnswer i) (assignmentParams i)
   unfolding assignmentAnswer assignmentParams rightLength identifiers noneTwice holds
-  assignment-formed = record { octets = refl; right = (long, (refl, tt)); once = once-different (1 ∷ 4 ∷ []) refl }
+  assignment-formed = record { octets = refl; right = (long, (refl, tt)); once = once-different (identityId ∷ kindId ∷ []) refl }
 
 -- the octets of an answer stand at the start of its payload
 pub held-octets : (b : List ℕ) → take (held b .len) (held b .octets) ≡ b

@@ -1,5 +1,6 @@
 -- `xid_answer::put_assignment_answer` meets its promise: the opening and two triples, one behind the other.
 -- Assumes nothing.
+use Rattle.xid.specs.Addressing.{identityId}
 use Rattle.xid_answer.proofs.Stored.{length-triple, assignment-stored}
 use native.Mathlib.Omega.{arith}
 use borrow.Author.Needs.{needs}
@@ -29,7 +30,7 @@ put-param-requires-2 : tie.Need-put-param-requires-2
 put-param-requires-2 c κs =
     let own = c .before .before .before .before in
     let start = own .before .before .before .before .before .before .before .before in
-    let long = length-triple 1 (start .args .identity .now) in
+    let long = length-triple identityId (start .args .identity .now) in
     (omega (arith, own .put-param .ensures .count, long, start .pre), omega arith)
 
 same-length : tie.Need-same-length
