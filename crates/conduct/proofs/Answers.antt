@@ -7,13 +7,12 @@ use mathlib.Core.List.{List, [], _∷_}
 use mathlib.Core.Option.{Option}
 use Prim.Native.Nat.{ℕ, _+_, _≤_}
 use native.Mathlib.Omega.{arith}
-use borrow.Author.Tests.{ltb-true, eq-eqb, ne-eqb}
-use lib.Dec.{ltb, eqb}
+use borrow.Author.Tests.{eq-eqb, ne-eqb}
+use lib.Dec.{eqb}
 use lib.ListN.{length, drop}
 use Rattle.octets.proofs.Words.{true-not-false}
 use Rattle.identity.specs.Bits.{masked}
 use Rattle.identity.specs.Identity.{padded, answersScan}
-use Rattle.identity.proofs.Identities.{and-parts}
 use Rattle.identity.proofs.Scans.{same-is}
 use Rattle.control.specs.Control.{polled, askedBy}
 use Rattle.control.specs.declared.Order.the-variants.{Snrm}

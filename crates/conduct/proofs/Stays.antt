@@ -1,7 +1,7 @@
 -- An allowed record stays allowed under every frame: the device never makes a record that it would refuse.
 -- Assumes nothing.
 use mathlib.Core.Path.{_≡_, refl, ap}
-use mathlib.Core.Bool.{Bool, true, false, false≢true}
+use mathlib.Core.Bool.{Bool, true, false}
 use mathlib.Core.List.{List}
 use Prim.Native.Nat.{ℕ}
 use native.Mathlib.Omega.{arith}
@@ -13,9 +13,7 @@ use Rattle.antenna.specs.declared.Motion.the-variants.{Still}
 use Rattle.antenna.specs.Motions.{inRange, moves}
 use Rattle.record.specs.declared.Pending.the-variants.{Answer, Indication}
 use Rattle.record.specs.declared.Session.{Session}
-use Rattle.record.specs.declared.Link.{Link}
-use Rattle.record.specs.declared.Link.the-variants.{NoAddress, AddressAssigned, Connected}
-use Rattle.record.specs.declared.Station.{Station}
+use Rattle.record.specs.declared.Link.the-variants.{AddressAssigned, Connected}
 use Rattle.record.specs.declared.Device.{Device}
 use Rattle.record.specs.Allowed.{identityOf, numbersAllowed, pendingFits, sessionAllowed, addressed, linkAllowed}
 use Rattle.record.specs.Allowed.{stationAllowed, allowedDevice, replyMost}

@@ -6,18 +6,14 @@ use Prim.Native.Nat.{ℕ}
 use Rattle.refusal.specs.Answer.{gives, refuses, answered}
 use Rattle.refusal.proofs.Answers.{answered-here}
 use Rattle.identity.proofs.Identities.{and-parts}
-use Rattle.antenna.specs.declared.Alarms.{Alarms}
 use Rattle.antenna.specs.declared.Antenna.{Antenna}
-use Rattle.record.specs.Desk.{calm, noReply}
 use Rattle.record.specs.Fresh.{identityFrom, productFrom, versionFrom, plateFrom}
 use Rattle.record.specs.Fresh.{freshFrom, textsAllowed, dataAllowed, antennaFrom, freshOf}
 use Rattle.record.specs.declared.Identity.{Identity}
 use Rattle.record.specs.declared.Product.{Product}
 use Rattle.record.specs.declared.Version.{Version}
-use Rattle.record.specs.declared.Payload.{Payload}
 use Rattle.record.specs.declared.Plate.{Plate}
 use Rattle.record.specs.declared.Span.{Span}
-use Rattle.record.specs.declared.Link.the-variants.{NoAddress}
 use Rattle.record.specs.declared.Device.{Device}
 
 -- the plate of four texts

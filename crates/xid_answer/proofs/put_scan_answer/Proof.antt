@@ -7,10 +7,6 @@ use mathlib.Core.List.{[], _∷_}
 use borrow.Author.Needs.{needs}
 use Rattle.xid_answer.proofs.put_scan_answer.Statement.{statement}
 use Rattle.xid_answer.proofs.put_scan_answer.Tie as tie
-use Rattle.xid_answer.proofs.put_scan_answer.Reads as reads
-use Rattle.xid_answer.proofs.put_scan_answer.Lts as lts
-use Rattle.xid_answer.proofs.put_opening.Reads as put-opening-reads
-use Rattle.xid_answer.proofs.put_param.Reads as put-param-reads
 
 cast-put-opening : tie.Need-cast-put-opening
 cast-put-opening c = search needs
