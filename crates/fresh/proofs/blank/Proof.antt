@@ -1,6 +1,7 @@
 -- `fresh::blank` meets its promise: each way out, by the tests that lead to it. Assumes nothing.
 use mathlib.Core.Path.{ap, _∙_}
 use Rattle.antenna.specs.declared.Antenna.{Antenna}
+use Rattle.octets.specs.Octets.{_atStartOf_}
 use Rattle.record.specs.Fresh.{identityFrom, productFrom, versionFrom, plateFrom, freshFrom, blankDevice}
 use borrow.Author.Needs.{needs}
 use Rattle.fresh.proofs.blank.Statement.{statement}
