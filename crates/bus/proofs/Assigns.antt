@@ -16,7 +16,7 @@ use Rattle.identity.specs.Identity.{width, allowedIdentity, same}
 use Rattle.octets.proofs.Words.{and-parts}
 use Rattle.identity.proofs.Identities.{allowed-parts, printable-octets}
 use Rattle.identity.proofs.Scans.{same-is, is-same}
-use Rattle.compare.specs.Rows.{rightmost, endsWith}
+use Rattle.xid.specs.Match.{rightmost, endsWith}
 use Rattle.record.specs.declared.Device.{Device}
 use Rattle.record.specs.declared.Link.the-variants.{AddressAssigned}
 use Rattle.record.specs.Allowed.{addressed, allowedDevice}
@@ -24,7 +24,7 @@ use Rattle.record.specs.Changes.{endedAs}
 use Rattle.params.specs.Field.{_is_, tripleOf, fieldOf, xidPayload, rightLength, identifiers, noneTwice, valueFor}
 use Rattle.params.proofs.Exact.{once-different}
 use Rattle.params.proofs.Kept.{of-both}
-use Rattle.xid.specs.Addressing.{addressing, valuesOf}
+use Rattle.xid.specs.Addressing.{identityId, addressId, addressing, valuesOf}
 use Rattle.xid.specs.Match.{readOf, identityMatches, kindMatches, vendorMatches}
 use Rattle.xid.specs.Meaning.{AssignmentOf, EndOf}
 use Rattle.xid.specs.declared.Xid.{Xid}
@@ -54,7 +54,7 @@ ends-exactly i v = (
 
 module _ (v : List ℕ) (a : ℕ) (whole : allowedIdentity v ≡ true) (least : 1 ≤ a) (most : a ≤ 254) where
   abbrev payload : List ℕ
-  payload = xidPayload addressing (1 is v ∷ 2 is (a ∷ []) ∷ [])
+  payload = xidPayload addressing (identityId is v ∷ addressId is (a ∷ []) ∷ [])
 
   payload-long : length payload ≡ length v + 8
   unfolding xidPayload fieldOf tripleOf
@@ -75,7 +75,7 @@ module _ (v : List ℕ) (a : ℕ) (whole : allowedIdentity v ≡ true) (least : 
   assignment-formed =
       let parts = allowed-parts v whole in
       record {
-        params = 1 is v ∷ 2 is (a ∷ []) ∷ [];
+        params = identityId is v ∷ addressId is (a ∷ []) ∷ [];
         formed = record {
           octets = refl;
           right = (

@@ -9,7 +9,7 @@ use native.Mathlib.Omega.{arith}
 use borrow.Author.Tests.{lt-ltb}
 use lib.ListN.{length, getD}
 use Rattle.identity.specs.Identity.{unpadded, allowedIdentity, padded}
-use Rattle.compare.specs.Rows.{endsWith}
+use Rattle.xid.specs.Match.{endsWith}
 use Rattle.record.specs.declared.Device.{Device}
 use Rattle.record.specs.declared.Link.the-variants.{AddressAssigned}
 use Rattle.record.specs.declared.Plate.{Plate}

@@ -10,7 +10,7 @@ use native.Mathlib.Nat.{not-suc-le-zero, le-of-suc-le-suc}
 use native.Mathlib.Omega.{arith}
 use lib.ListN.{length, getD}
 use Rattle.identity.proofs.Lists.{map-in, map-out}
-use Rattle.compare.specs.Rows.{endsWith}
+use Rattle.xid.specs.Match.{endsWith}
 use Rattle.record.specs.declared.Device.{Device}
 use Rattle.record.specs.declared.Link.the-variants.{AddressAssigned}
 use Rattle.record.specs.declared.Plate.{Plate}

@@ -24,7 +24,7 @@ use Rattle.identity.specs.Order.{lower, Ascending, Different}
 use Rattle.record.specs.declared.Link.the-variants.{AddressAssigned}
 use Rattle.record.specs.declared.Device.{Device}
 use Rattle.params.specs.Field.{_is_, xidPayload}
-use Rattle.xid.specs.Addressing.{addressing}
+use Rattle.xid.specs.Addressing.{identityId, addressId, addressing}
 use Rattle.xid.specs.Meaning.{EndOf}
 use Rattle.states.specs.States.{begun}
 use Rattle.scan.specs.declared.State.the-variants.{Complete}
@@ -35,7 +35,7 @@ use Rattle.bus.specs.Scanning.{scanned}
 
 -- 01: "Assignment: 2 present, 3 absent"; to 0xFF, control 0xBF
 unfoldable pub assignmentFor : List ℕ → ℕ → List ℕ
-assignmentFor i a = 0xFF ∷ 0xBF ∷ xidPayload addressing (1 is i ∷ 2 is (a ∷ []) ∷ [])
+assignmentFor i a = 0xFF ∷ 0xBF ∷ xidPayload addressing (identityId is i ∷ addressId is (a ∷ []) ∷ [])
 
 abbrev pub assigning : ℕ → List ℕ → List ℕ
 assigning a x = lineFor (assignmentFor (unpadded x) a)

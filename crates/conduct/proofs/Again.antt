@@ -114,13 +114,6 @@ nothing-starts e f same =
     go false = refl
 
 module _ (d : Device) (f : List ℕ) (s : Session) (n r : ℕ) (w : Accepted d f s n r) where
-  pub never-starts-again : (a : Antenna) → starts (withAntenna (after d f) a) f ≡ false
-  unfolding saying
-  never-starts-again a =
-      let counted = accepted-counted d f s n r w in
-      nothing-starts (withAntenna (after d f) a) f
-      (ap (λ (x : Turn). x .device) (accepted-again d f s n r w (counted .session) (counted .link) a))
-
   pub never-starts-again-after : (es : List Event) → starts (occurAll (after d f) es) f ≡ false
   unfolding saying
   never-starts-again-after es =

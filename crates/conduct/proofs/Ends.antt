@@ -8,14 +8,12 @@ use Prim.Native.Nat.{ℕ}
 use Rattle.antenna.specs.Motions.{moves}
 use Rattle.antenna.proofs.Movements.{unowed-owes, unowed-runs}
 use Rattle.record.specs.declared.Pending.the-variants.{Nothing}
-use Rattle.record.specs.declared.Session.{Session}
 use Rattle.record.specs.declared.Link.{Link}
 use Rattle.record.specs.declared.Link.the-variants.{AddressAssigned, Connected}
 use Rattle.record.specs.declared.Device.{Device}
 use Rattle.record.specs.Changes.{unsaidAt, endedAs}
 use Rattle.poll.specs.Poll.{toTell}
-use Rattle.station.specs.Turns.{saying}
-use Rattle.states.specs.States.{newSession, begun, renewed, released, rejected}
+use Rattle.states.specs.States.{newSession, begun, released}
 use Rattle.states.proofs.Renews.{renewed-ends}
 use Rattle.conduct.specs.Conduct.{after}
 use Rattle.conduct.specs.Endings.{pendingIn, Ends, renews, leaves, miscounts, unknown, assigns, endedBy}
@@ -41,45 +39,6 @@ module _ (d : Device) where
         tilt = refl;
         running = unowed-runs (d .antenna .motion);
       }
-
-  -- a first SNRM
-  pub begun-drops : Dropped (begun d)
-  unfolding begun
-  begun-drops = ended-drops (d .station .desk .address) (Connected newSession) refl
-
-  pub begun-survives : Survives d (begun d)
-  unfolding begun
-  begun-survives = ended-survives (d .station .desk .address) (Connected newSession)
-
-  -- SNRM in a session
-  pub renewed-drops : Dropped (renewed d)
-  renewed-drops =
-      rw (renewed-ends d) (ended-drops (d .station .desk .address) (Connected newSession) refl)
-
-  pub renewed-survives : Survives d (renewed d)
-  renewed-survives = rw (renewed-ends d) (ended-survives (d .station .desk .address) (Connected newSession))
-
-  -- DISC
-  pub released-drops : Dropped (released d)
-  unfolding released
-  released-drops = ended-drops (d .station .desk .address) AddressAssigned refl
-
-  pub released-survives : Survives d (released d)
-  unfolding released
-  released-survives = ended-survives (d .station .desk .address) AddressAssigned
-
-  -- FRMR
-  pub rejected-drops : (s : Session) (c why : ℕ) → Dropped (rejected d s c why .device)
-  unfolding rejected saying
-  rejected-drops s c why = released-drops
-
-  pub rejected-survives : (s : Session) (c why : ℕ) → Survives d (rejected d s c why .device)
-  unfolding rejected saying
-  rejected-survives s c why = released-survives
-
-  -- an assignment
-  pub assigned-drops : (a : ℕ) → Dropped (endedAs d a AddressAssigned)
-  assigned-drops a = ended-drops a AddressAssigned refl
 
   module _ (f : List ℕ) where
     -- each of them leaves a device whose session has ended
@@ -108,9 +67,6 @@ module _ (d : Device) where
     drops-tell e = let k = drops-survive e in rw (k .subscribed, k .raised, k .told)
 
     -- so the end of a session
-    pub ends-as : Ends d f → (a : ℕ) × (l : Link) × (pendingIn l ≡ Nothing) × (after d f ≡ endedAs d a l)
-    ends-as e = drops-as (inl e)
-
     pub ends-drop : Ends d f → Dropped (after d f)
     ends-drop e = drops-drop (inl e)
 

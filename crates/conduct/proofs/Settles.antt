@@ -50,10 +50,6 @@ nothing-pends Answer e = absurd (true-not-false e)
 nothing-pends Indication e = absurd (true-not-false e)
 
 module _ (d : Device) (s : Session) (r : ℕ) where
-  pub antenna-kept : acknowledged d s r .antenna ≡ d .antenna
-  unfolding acknowledged deviceOf
-  antenna-kept = refl
-
   pub address-kept : acknowledged d s r .station .desk .address ≡ d .station .desk .address
   unfolding acknowledged deviceOf stationAfter relieved unsaidAt
   address-kept = go (acknowledges s r)

@@ -25,7 +25,6 @@ use Rattle.record.specs.declared.Pending.{Pending}
 use Rattle.record.specs.declared.Pending.the-variants.{Nothing, Answer, Indication}
 use Rattle.record.specs.declared.Session.{Session}
 use Rattle.record.specs.declared.Desk.{Desk}
-use Rattle.record.specs.declared.Station.{Station}
 use Rattle.record.specs.declared.Device.{Device}
 use Rattle.record.specs.Allowed.{identityOf}
 use Rattle.acknowledge.specs.Acknowledge.{stationAfter}

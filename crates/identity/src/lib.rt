@@ -6,6 +6,9 @@ ghost use lib.ListN.{take, drop, getD};
 ghost use Rattle.identity.specs.Bits.{word, digit};
 ghost use Rattle.identity.specs.Identity.{depth, allPrintable, allowedIdentity, octetsOf};
 
+// The octets of the vendor, at the start of an identity.
+pub const VENDOR: usize = 2;
+
 // The octets of a padded identity, and its bits.
 pub const OCTETS: usize = 19;
 

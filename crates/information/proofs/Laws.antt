@@ -8,6 +8,7 @@ use borrow.Author.Tests.{leb-true}
 use lib.Dec.{leb}
 use lib.ListN.{length, take, drop, length-take, length-drop, length-append}
 use Rattle.octets.proofs.Words.{and-parts}
+use Rattle.identity.specs.Identity.{vendor, width}
 use Rattle.record.specs.Allowed.{identityOf, productOf, hardwareOf, softwareOf, platesAllowed, identityAllowed}
 use Rattle.record.specs.declared.Plate.{Plate}
 use Rattle.payload.specs.Payloads.{successOf}
@@ -29,7 +30,7 @@ module _ (p s h w : List ℕ) where
 pub information-is : (p : Plate) (product identity hardware software : List ℕ) → productOf p ≡ product
     → identityOf p ≡ identity → hardwareOf p ≡ hardware → softwareOf p ≡ software
     → informationOf p
-    ≡ (length product ∷ product) ++ ((length (drop 2 identity) ∷ drop 2 identity)
+    ≡ (length product ∷ product) ++ ((length (drop vendor identity) ∷ drop vendor identity)
     ++ ((length hardware ∷ hardware) ++ (length software ∷ software)))
 unfolding informationOf textOf
 information-is p product identity hardware software e i h s = rw (e, i, h, s)
@@ -58,7 +59,7 @@ information-fits p s =
 taken : (n k : ℕ) (s : List ℕ) → leb n k ≡ true → length (take n s) ≤ k
 taken n k s e = simp length-take (omega (arith, leb-true n k e))
 
-behind : (i : List ℕ) → length i ≤ 19 → length (withoutVendor i) ≤ 17
+behind : (i : List ℕ) → length i ≤ width → length (withoutVendor i) ≤ 17
 behind i h = simp length-drop (omega arith)
 
 -- the texts of a plate that is allowed are so short
@@ -68,7 +69,7 @@ allowed-short p h =
     let first = and-parts _ _ h in
     let second = and-parts _ _ (first .1) in
     let third = and-parts _ _ (second .1) in
-    let name = taken (p .identity .len) 19 (p .identity .octets) (and-parts _ _ (first .0) .0) in
+    let name = taken (p .identity .len) width (p .identity .octets) (and-parts _ _ (first .0) .0) in
     record {
       product = taken (p .product .len) 20 (p .product .octets) (second .0);
       serial = behind (identityOf p) name;
@@ -77,7 +78,7 @@ allowed-short p h =
     }
 
 -- and those of any plate whose arrays are as long as their types say
-pub sized-short : (p : Plate) → length (p .identity .octets) ≡ 19 → length (p .product .octets) ≡ 20
+pub sized-short : (p : Plate) → length (p .identity .octets) ≡ width → length (p .product .octets) ≡ 20
     → length (p .hardware .octets) ≡ 14 → length (p .software .octets) ≡ 14 → Short p
 sized-short p i q h s =
     record {

@@ -11,6 +11,7 @@ use lib.Seq.{sets, take-all}
 use Rattle.octets.proofs.Takes.{take-within}
 use Rattle.octets.proofs.Runs.{Run, run-all, run-one, run-some, run-put, run-done}
 use Rattle.octets.specs.Puts.{Puts}
+use Rattle.identity.specs.Identity.{vendor, width}
 use Rattle.payload.proofs.Backs.{success-put}
 use Rattle.information.specs.Information.{textOf, withoutVendor}
 use Rattle.information.proofs.Laws.{length-text}
@@ -31,20 +32,20 @@ drop-take (suc k) (suc n) [] = sym (take-all (suc n - suc k) [] (omega arith))
 drop-take (suc k) (suc n) (x ∷ xs) = let e : suc n - suc k ≡ n - k = omega arith in rw e (drop-take k n xs)
 
 -- the part of an identity behind its vendor
-module _ (s : List ℕ) (len : ℕ) {n from : ℕ} (whole : length s ≡ 19) (e : n ≡ min len 19) (f : from ≡ min 2 n) where
+module _ (s : List ℕ) (len : ℕ) {n from : ℕ} (whole : length s ≡ width) (e : n ≡ min len width) (f : from ≡ min vendor n) where
   pub serial-part : take (n - from) (drop from s) ≡ withoutVendor (take len s)
-  serial-part = go (leb 2 n) refl
+  serial-part = go (leb vendor n) refl
     where
       same : take n s ≡ take len s
       same = rw e (take-fewer s len whole)
 
-      go : (t : Bool) → leb 2 n ≡ t → take (n - from) (drop from s) ≡ drop 2 (take len s)
+      go : (t : Bool) → leb vendor n ≡ t → take (n - from) (drop from s) ≡ drop vendor (take len s)
       go true t =
-          let two : from ≡ 2 = omega (arith, leb-true 2 n t) in
-          rw two (sym (drop-take 2 n s) ∙ ap (drop 2) same)
+          let two : from ≡ vendor = omega (arith, leb-true vendor n t) in
+          rw two (sym (drop-take vendor n s) ∙ ap (drop vendor) same)
       go false t =
-          let none : n - from ≡ 0 = omega (arith, leb-false 2 n t) in
-          let short : length (take len s) ≤ 2 = simp length-take (omega (arith, leb-false 2 n t)) in
+          let none : n - from ≡ 0 = omega (arith, leb-false vendor n t) in
+          let short : length (take len s) ≤ vendor = simp length-take (omega (arith, leb-false vendor n t)) in
           rw none (sym (drop-of-length-le (take len s) short))
 
   pub length-serial : length (withoutVendor (take len s)) ≤ 17

@@ -8,6 +8,7 @@
 use mathlib.Core.List.{List, _∷_, _++_}
 use Prim.Native.Nat.{ℕ}
 use lib.ListN.{length, drop}
+use Rattle.identity.specs.Identity.{vendor}
 use Rattle.record.specs.Allowed.{identityOf, productOf, hardwareOf, softwareOf}
 use Rattle.record.specs.declared.Plate.{Plate}
 
@@ -17,7 +18,7 @@ textOf t = length t ∷ t
 
 -- "Identity: 2 vendor octets and 1 to 17 serial octets"
 abbrev pub withoutVendor : List ℕ → List ℕ
-withoutVendor i = drop 2 i
+withoutVendor i = drop vendor i
 
 abbrev pub serialOf : Plate → List ℕ
 serialOf p = withoutVendor (identityOf p)

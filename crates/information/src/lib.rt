@@ -7,6 +7,8 @@ ghost use lib.ListN.{length, take};
 ghost use Rattle.payload.specs.Payloads.{payloadOf, successOf};
 ghost use Rattle.octets.specs.Puts.{Puts};
 ghost use Rattle.information.specs.Information.{textOf, withoutVendor, informationOf};
+use identity::OCTETS;
+use identity::VENDOR;
 use record::Payload;
 use record::Plate;
 
@@ -39,13 +41,13 @@ fn put_version(text: [u8; 14], len: usize, out: &mut [u8], at: usize) -> usize
 }
 
 // The serial number: what follows the two vendor octets.
-fn put_serial(name: [u8; 19], len: usize, out: &mut [u8], at: usize) -> usize
+fn put_serial(name: [u8; OCTETS], len: usize, out: &mut [u8], at: usize) -> usize
     requires { ⌜ at ≤ 71 ⌝ }
     ensures few { λ _. ⌜ length (withoutVendor (take len name)) ≤ 17 ⌝ }
     ensures put { λ r. ⌜ Puts (now (out .entry)) at (textOf (withoutVendor (take len name))) r (now (out .exit)) ⌝ }
 {
-    let n = octets::fewer(len, 19);
-    let from = octets::fewer(2, n);
+    let n = octets::fewer(len, OCTETS);
+    let from = octets::fewer(VENDOR, n);
     put_text(&name[from..n], out, at)
 }
 

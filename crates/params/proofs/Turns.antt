@@ -1,5 +1,5 @@
 -- One turn of the walk: what is left from a place on, and what becomes of what stands there. Assumes nothing.
-use mathlib.Core.Path.{_≡_, refl, sym, ap, _∙_}
+use mathlib.Core.Path.{_≡_, refl, sym, _∙_}
 use mathlib.Core.Bool.{true, false}
 use mathlib.Core.List.{List, [], _∷_}
 use mathlib.Core.Logic.{⊎-elim}
@@ -14,7 +14,7 @@ use lib.Seq.{take-all, take-nil, drop-drop, length-take-le}
 use Rattle.octets.proofs.Takes.{take-rest}
 use Rattle.octets.proofs.Rest.{rest}
 use Rattle.reader.specs.declared.Stands.the-variants.{End, Broken, Triple}
-use Rattle.reader.proofs.Steps.{Means}
+use Rattle.reader.proofs.Steps.{Means, two-on}
 use Rattle.params.specs.Field.{Param, _is_, before, triplesAfter, triplesOf, opened, format}
 use Rattle.params.specs.Walk.{placeIn, slot, unformed}
 use Rattle.params.specs.declared.Part.the-variants.{At}
@@ -62,13 +62,6 @@ module _ (m : List ℕ) (at : ℕ) where
   unfolding triplesAfter
   triples-end h = rw (drop-of-length-le m h)
 
-  two-on : at + 2 ≤ length m → drop at m ≡ getD m at 0 ∷ getD m (at + 1) 0 ∷ drop (at + 2) m
-  two-on h =
-      let n : at + 1 + 1 ≡ at + 2 = omega arith in
-      rest m at (omega arith)
-      ∙ ap (λ (l : List ℕ). getD m at 0 ∷ l)
-      (rest m (at + 1) (omega arith) ∙ ap (λ (j : ℕ). getD m (at + 1) 0 ∷ drop j m) n)
-
   pub triples-broken : Means m at Broken → triplesOf (drop at m) ≡ none
   unfolding triplesAfter before
   triples-broken h =
@@ -76,7 +69,7 @@ module _ (m : List ℕ) (at : ℕ) where
       (λ (k : length m < at + 2). rw (rest m at (h .0), drop-of-length-le m {i = at + 1} (omega arith)))
       (λ (k : (at + 2 ≤ length m) × (length m < at + 2 + getD m (at + 1) 0)).
       let past : length (drop (at + 2) m) < getD m (at + 1) 0 = rw length-drop (omega (arith, k .0, k .1)) in
-      rw (two-on (k .0), skip-past (getD m (at + 1) 0) (drop (at + 2) m) past))
+      rw (two-on m at (k .0), skip-past (getD m (at + 1) 0) (drop (at + 2) m) past))
       (h .1)
 
   pub triples-whole : {n from len : ℕ} → Means m at (Triple n from len)
@@ -84,7 +77,7 @@ module _ (m : List ℕ) (at : ℕ) where
   unfolding triplesAfter
   triples-whole {n} {from} {len} h =
       let fits : len ≤ length (drop (at + 2) m) = rw length-drop (omega (arith, h .0)) in
-      rw (h .2, h .1, two-on (omega (arith, h .0)), ← h .3, skip len (drop (at + 2) m) fits, drop-drop)
+      rw (h .2, h .1, two-on m at (omega (arith, h .0)), ← h .3, skip len (drop (at + 2) m) fits, drop-drop)
 
   pub value-whole : {n from len : ℕ} → Means m at (Triple n from len) → length (take len (drop from m)) ≡ len
   value-whole {n} {from} {len} h = length-take-le len (drop from m) (rw length-drop (omega (arith, h .0, h .2)))

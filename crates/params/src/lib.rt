@@ -13,7 +13,7 @@ use reader::Stands;
 pub const ROWS: usize = 5;
 
 // The octet that every payload begins with.
-const FORMAT: u8 = 0x81;
+pub const FORMAT: u8 = 0x81;
 
 // An identifier of a group, and how many octets its value may have.
 pub struct Identifier {
@@ -168,13 +168,6 @@ fn walk_from(s: &[u8], start: usize, table: [Identifier; ROWS]) -> Found
     }
 }
 
-// An octet as a length.
-fn wide(x: u8) -> usize
-    ensures { λ r. ⌜ r ≡ x ⌝ }
-{
-    x as usize
-}
-
 // Whether the payload opens as it must: 0x81, the group's octet, a length equal to all that follows.
 fn opens(payload: &[u8], octet: u8) -> bool
     ensures { λ r. ⌜ r ≡ opened octet (now (payload .entry)) ⌝ }
@@ -189,7 +182,7 @@ fn opens(payload: &[u8], octet: u8) -> bool
     if payload[1] != octet {
         return false;
     }
-    wide(payload[2]) == n - 3
+    octets::wide(payload[2]) == n - 3
 }
 
 // The parameters of a payload of this group, if it is well formed.

@@ -1,36 +1,50 @@
 -- What it says that something stands at a place; one step of the reader: what it finds, and where its cursor goes. Assumes nothing.
 use mathlib.Core.Path.{_≡_, refl, sym, ap, _∙_, subst}
 use mathlib.Core.Bool.{Bool, true, false, cond}
-use mathlib.Core.List.{List}
+use mathlib.Core.List.{List, [], _∷_}
 use mathlib.Core.Logic.{_⊎_, inl, inr}
 use Prim.Native.Nat.{ℕ, _+_, _-_, _<_, _≤_}
+use native.Mathlib.Nat.{add-zero}
 use native.Mathlib.Omega.{arith}
-use borrow.Author.Tests.{leb-true, leb-false, ltb-true, ltb-false, lt-leb, le-ltb, lt-ltb}
-use lib.Dec.{ltb, leb}
-use lib.ListN.{length, getD}
-use Rattle.reader.specs.Read.{standsAt, behind, stepAt}
+use borrow.Author.Tests.{leb-true, leb-false, le-leb, lt-leb}
+use lib.Dec.{leb}
+use lib.ListN.{length, getD, drop, drop-of-length-le, length-drop}
+use lib.Seq.{getD-drop}
+use Rattle.octets.proofs.Rest.{rest}
+use Rattle.reader.specs.Read.{standsIn, standsAt, behind, stepAt}
 use Rattle.reader.specs.declared.Step.{Step}
 use Rattle.reader.specs.declared.Stands.{Stands}
 use Rattle.reader.specs.declared.Stands.the-variants.{End, Broken, Triple}
 
--- the octets of a triple: the test that is left once it is known that there are two
-module _ (s : List ℕ) (at : ℕ) (inside : at < length s) (two : 2 ≤ length s - at) where
-  pub stands-short : (n : ℕ) → n ≡ getD s (at + 1) 0 → length s - at - 2 < n → Broken ≡ standsAt s at
-  unfolding standsAt
-  stands-short n e h =
-      let a = lt-leb (length s) at inside in
-      let b = le-ltb (length s - at) 2 two in
-      let d = lt-ltb (length s - at - 2) n h in
-      simp (a, b, sym e, d)
+-- what stands at a place, by the number of octets from there on
+module _ (s : List ℕ) (at : ℕ) where
+  pub stands-end : length s ≤ at → End ≡ standsAt s at
+  unfolding standsAt standsIn
+  stands-end h = rw (drop-of-length-le s h)
 
-  pub stands-whole : (n : ℕ) → n ≡ getD s (at + 1) 0 → n ≤ length s - at - 2
-      → Triple (getD s at 0) (at + 2) n ≡ standsAt s at
-  unfolding standsAt
-  stands-whole n e h =
-      let a = lt-leb (length s) at inside in
-      let b = le-ltb (length s - at) 2 two in
-      let d = le-ltb (length s - at - 2) n h in
-      simp (a, b, sym e, d)
+  pub stands-one : at < length s → length s - at < 2 → Broken ≡ standsAt s at
+  unfolding standsAt standsIn
+  stands-one h k = rw (rest s at h, drop-of-length-le s {i = at + 1} (omega arith))
+
+  pub two-on : at + 2 ≤ length s → drop at s ≡ getD s at 0 ∷ getD s (at + 1) 0 ∷ drop (at + 2) s
+  two-on h =
+      let n : at + 1 + 1 ≡ at + 2 = omega arith in
+      rest s at (omega arith)
+      ∙ ap (λ (l : List ℕ). getD s at 0 ∷ l)
+      (rest s (at + 1) (omega arith) ∙ ap (λ (j : ℕ). getD s (at + 1) 0 ∷ drop j s) n)
+
+  module _ (inside : at < length s) (two : 2 ≤ length s - at) (n : ℕ) (e : n ≡ getD s (at + 1) 0) where
+    pub stands-short : length s - at - 2 < n → Broken ≡ standsAt s at
+    unfolding standsAt standsIn
+    stands-short h =
+        let past = lt-leb n (length (drop (at + 2) s)) (rw length-drop (omega arith)) in
+        rw (two-on (omega arith), ← e, past)
+
+    pub stands-whole : n ≤ length s - at - 2 → Triple (getD s at 0) (at + 2) n ≡ standsAt s at
+    unfolding standsAt standsIn
+    stands-whole h =
+        let whole = le-leb n (length (drop (at + 2) s)) (rw length-drop (omega arith)) in
+        rw (two-on (omega arith), ← e, whole)
 
 -- what it says that this stands at a place
 abbrev pub Means : List ℕ → ℕ → Stands → Type 0
@@ -41,28 +55,32 @@ Means m at (Triple n from len) =
     (at + 2 + len ≤ length m) × (n ≡ getD m at 0) × (from ≡ at + 2) × (len ≡ getD m (at + 1) 0)
 
 pub means : (m : List ℕ) (at : ℕ) → Means m at (standsAt m at)
-unfolding standsAt
-means m at =
-    go (leb (length m) at) refl (ltb (length m - at) 2) refl (ltb (length m - at - 2) (getD m (at + 1) 0)) refl
+unfolding standsAt standsIn
+means m at = go (drop at m) refl
   where
-    go : (a : Bool) → leb (length m) at ≡ a → (b : Bool) → ltb (length m - at) 2 ≡ b
-        → (d : Bool) → ltb (length m - at - 2) (getD m (at + 1) 0) ≡ d
-        → Means m at (cond a End (cond b Broken (cond d Broken (Triple (getD m at 0) (at + 2) (getD m (at + 1) 0)))))
-    go true e b f d g = leb-true _ _ e
-    go false e true f d g =
-        let h = leb-false (length m) at e in
-        let i = ltb-true (length m - at) 2 f in
-        (h, inl (omega arith))
-    go false e false f true g =
-        let h = leb-false (length m) at e in
-        let i = ltb-false (length m - at) 2 f in
-        let j = ltb-true (length m - at - 2) (getD m (at + 1) 0) g in
-        (h, inr (omega arith, omega arith))
-    go false e false f false g =
-        let h = leb-false (length m) at e in
-        let i = ltb-false (length m - at) 2 f in
-        let j = ltb-false (length m - at - 2) (getD m (at + 1) 0) g in
-        (omega arith, refl, refl, refl)
+    go : (l : List ℕ) → drop at m ≡ l → Means m at (standsIn at l)
+    go [] e = let long = sym (length-drop at m) ∙ ap length e in omega (arith, long)
+    go (n ∷ []) e =
+        let long = sym (length-drop at m) ∙ ap length e in
+        (omega (arith, long), inl (omega (arith, long)))
+    go (n ∷ k ∷ xs) e = fits (leb k (length xs)) refl
+      where
+        long : length m - at ≡ length (n ∷ k ∷ xs)
+        long = sym (length-drop at m) ∙ ap length e
+
+        first : n ≡ getD m at 0
+        first = sym (ap (λ (l : List ℕ). getD l 0 0) e) ∙ (rw add-zero at (getD-drop at m 0 0))
+
+        second : k ≡ getD m (at + 1) 0
+        second = sym (ap (λ (l : List ℕ). getD l 1 0) e) ∙ getD-drop at m 1 0
+
+        fits : (b : Bool) → leb k (length xs) ≡ b → Means m at (cond b (Triple n (at + 2) k) Broken)
+        fits true f =
+            let h = leb-true k (length xs) f in
+            (omega (arith, long), first, refl, second)
+        fits false f =
+            let h = leb-false k (length xs) f in
+            (omega (arith, long), inr (omega (arith, long), omega (arith, long, second)))
 
 pub told : (m : List ℕ) (at : ℕ) {r x : Stands} → r ≡ standsAt m at → r ≡ x → Means m at x
 told m at e f = subst (Means m at) (sym e ∙ f) (means m at)

@@ -1,4 +1,5 @@
 -- The parameter reader: the frame's slice and the cursor, a place in it.
+--   standsIn at s == what stands at the place `at`, where the octets from there on are s
 --   standsAt s at == what stands at the place `at` of s
 --   behind at x   == the place behind what stands at `at`: behind a triple; the end, and less than a triple, stay
 --   stepAt s at   == what stands at the place `at` of s, and the place behind it
@@ -6,23 +7,24 @@
 --   nextIn d      == what the reader d finds next; readerAfter d == the reader d after that
 -- Assumes nothing.
 use mathlib.Core.Bool.{cond}
-use mathlib.Core.List.{List}
-use Prim.Native.Nat.{ℕ, _+_, _-_}
-use lib.Dec.{ltb, leb}
-use lib.ListN.{length, getD}
+use mathlib.Core.List.{List, [], _∷_}
+use Prim.Native.Nat.{ℕ, _+_}
+use lib.Dec.{leb}
+use lib.ListN.{length, drop}
 use denote.Ref.{RefT, now}
 use Rattle.reader.specs.declared.Reader.{Reader}
 use Rattle.reader.specs.declared.Step.{Step}
 use Rattle.reader.specs.declared.Stands.{Stands}
 use Rattle.reader.specs.declared.Stands.the-variants.{End, Broken, Triple}
 
--- an identifier, a length, and as many octets as it says
+-- "triples of identifier, length, value": an identifier, a length, and as many octets as it says
+unfoldable pub standsIn : ℕ → List ℕ → Stands
+standsIn at [] = End
+standsIn at (n ∷ []) = Broken
+standsIn at (n ∷ k ∷ xs) = cond (leb k (length xs)) (Triple n (at + 2) k) Broken
+
 unfoldable pub standsAt : List ℕ → ℕ → Stands
-standsAt s at =
-    cond (leb (length s) at) End
-    (cond (ltb (length s - at) 2) Broken
-    (cond (ltb (length s - at - 2) (getD s (at + 1) 0)) Broken
-    (Triple (getD s at 0) (at + 2) (getD s (at + 1) 0))))
+standsAt s at = standsIn at (drop at s)
 
 unfoldable pub behind : ℕ → Stands → ℕ
 behind at End = at

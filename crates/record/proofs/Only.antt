@@ -19,6 +19,7 @@ use Rattle.record.specs.declared.Device.{Device}
 use Rattle.record.specs.declared.Event.{Event}
 use Rattle.octets.proofs.Only.{AsksNothing, Settles}
 use Rattle.record.proofs.allowed.Reads as allowed-reads
+use Rattle.record.proofs.is_addressed.Reads as is-addressed-reads
 
 -- 6: "device data .. not allowed", of a fresh device
 pub fresh-6 : (i p h s : List ℕ) (w : Span) → freshOf i p h s w ≡ refuses 6 ↔ dataAllowed i p h s (antennaFrom w) ≡
@@ -51,3 +52,9 @@ allowed-only κs a r q s t = only
 
 pub allowed-asks : AsksNothing allowed-reads.Asked
 allowed-asks κs a = tt
+
+pub is-addressed-only : Settles is-addressed-reads.Learnt
+is-addressed-only κs a r q s t = only
+
+pub is-addressed-asks : AsksNothing is-addressed-reads.Asked
+is-addressed-asks κs a = tt

@@ -5,7 +5,6 @@
 --   unsaid k == the desk k with nothing pending: what a pending answer or indication left is erased
 -- Assumes nothing.
 use mathlib.Core.Bool.{Bool}
-use mathlib.Core.List.{List}
 use Prim.Native.Nat.{ℕ}
 use lib.ListN.{replicate}
 use Rattle.antenna.specs.declared.Alarms.{Alarms}

@@ -179,7 +179,8 @@ fn pending_allowed(desk: Desk, pending: Pending) -> bool
     }
 }
 
-fn is_addressed(address: u8) -> bool
+// Whether an address is one that a device may have: 1 to 254.
+pub fn is_addressed(address: u8) -> bool
     ensures { λ r. ⌜ r ≡ addressed address ⌝ }
 {
     if 0 < address { address < 255 } else { false }

@@ -15,12 +15,12 @@ use Rattle.octets.proofs.Words.{true-not-false}
 use Rattle.identity.specs.Bits.{masked}
 use Rattle.identity.specs.Identity.{vendor, same, padded, answersScan}
 use Rattle.identity.proofs.Scans.{same-is, is-same}
-use Rattle.compare.specs.Rows.{rightmost, endsWith}
 use Rattle.record.specs.Allowed.{addressed}
 use Rattle.params.specs.Field.{given, octetsIn}
 use Rattle.params.proofs.Exact.{one-reading}
 use Rattle.params.proofs.Kept.{both-of, of-both}
 use Rattle.xid.specs.Addressing.{addressing, Values, valuesOf}
+use Rattle.xid.specs.Match.{rightmost, endsWith}
 use Rattle.xid.specs.Match.{deviceType, isScan, scanShape, isAssignment, assignmentShape, scanMatches, addressOf}
 use Rattle.xid.specs.Match.{identityMatches, kindMatches, vendorMatches, badAddress, otherIdentity, otherType}
 use Rattle.xid.specs.Match.{otherVendor, otherScan, readOf}

@@ -7,12 +7,12 @@ use Prim.Native.Nat.{ℕ}
 use Rattle.octets.specs.Octets.{holds}
 use Rattle.identity.specs.Bits.{masked}
 use Rattle.identity.specs.Identity.{padded, same, answersScan}
-use Rattle.compare.specs.Rows.{endsWith}
 use Rattle.record.specs.Allowed.{addressed}
 use Rattle.params.specs.Field.{opened, triplesAfter, before, checked, allRight, rightLength, identifiers}
 use Rattle.params.specs.Field.{noneTwice, paramsOf, valueFor, given, octetsIn}
 use Rattle.refusal.specs.Answer.{Answer, gives, refuses, answered}
 use Rattle.xid.specs.Addressing.{valuesOf}
+use Rattle.xid.specs.Match.{endsWith}
 use Rattle.xid.specs.Match.{isScan, scanShape, assignmentShape, scanMatches, identityMatches, kindMatches}
 use Rattle.xid.specs.Match.{vendorMatches, noParams, malformed, valuesIn, neither, badAddress, otherIdentity}
 use Rattle.xid.specs.Match.{otherType, otherVendor, otherScan, valueRows, payloadRows, meaningOf}

@@ -8,8 +8,7 @@ use native.Mathlib.Omega.{arith}
 use lib.ListN.{length, getD, take, drop}
 use Rattle.octets.proofs.Takes.{take-min, take-within}
 use Rattle.identity.specs.Bits.{masked}
-use Rattle.identity.specs.Identity.{padded, same, answersScan}
-use Rattle.compare.specs.Rows.{endsWith}
+use Rattle.identity.specs.Identity.{vendor, width, padded, same, answersScan}
 use Rattle.record.specs.Allowed.{addressed}
 use Rattle.params.specs.Field.{Param, paramsOf, octetsIn}
 use Rattle.params.specs.Walk.{valueAt}
@@ -17,6 +16,7 @@ use Rattle.params.specs.declared.Part.{Part}
 use Rattle.params.specs.declared.Part.the-variants.{Absent, At}
 use Rattle.xid.specs.declared.Parts.{Parts}
 use Rattle.xid.specs.Addressing.{addressing, valuesOf, valuesAt}
+use Rattle.xid.specs.Match.{deviceType, endsWith}
 use Rattle.xid.specs.Match.{isScan, isAssignment, scanMatches, identityMatches, kindMatches}
 use Rattle.xid.specs.Match.{vendorMatches, meantTo, readOf}
 use Rattle.xid.specs.declared.Xid.{Xid}
@@ -40,20 +40,20 @@ module _ (m : List ℕ) {p : Part} where
   kind-absent e = rw e
 
   module _ {from len : ℕ} {v : List ℕ} (e : p ≡ At from len) (f : v ≡ take len (drop from m)) where
-    pub kind-given : {r : Bool} → r ≡ same v (0x01 ∷ []) → r ≡ kindMatches (valueAt m p)
+    pub kind-given : {r : Bool} → r ≡ same v (deviceType ∷ []) → r ≡ kindMatches (valueAt m p)
     unfolding kindMatches valueAt
     kind-given g = g ∙ rw (e, f)
 
-    module _ (octets : List ℕ) (count : ℕ) (h : length octets ≡ 19) {n : ℕ} where
-      pub identity-given : {r : Bool} → n ≡ min count 19 → r ≡ endsWith (take n octets) v
+    module _ (octets : List ℕ) (count : ℕ) (h : length octets ≡ width) {n : ℕ} where
+      pub identity-given : {r : Bool} → n ≡ min count width → r ≡ endsWith (take n octets) v
           → r ≡ identityMatches (take count octets) (valueAt m p)
       unfolding identityMatches valueAt
-      identity-given k g = g ∙ rw (e, f, k, take-within count 19 octets (omega arith))
+      identity-given k g = g ∙ rw (e, f, k, take-within count width octets (omega arith))
 
-      pub vendor-given : {r : Bool} → n ≡ min count 2 → r ≡ same v (take n octets)
+      pub vendor-given : {r : Bool} → n ≡ min count vendor → r ≡ same v (take n octets)
           → r ≡ vendorMatches (take count octets) (valueAt m p)
       unfolding vendorMatches valueAt
-      vendor-given k g = g ∙ rw (e, f, k, take-min count 2 octets)
+      vendor-given k g = g ∙ rw (e, f, k, take-min count vendor octets)
 
 -- ---- the scan's comparison
 

@@ -1,5 +1,6 @@
 -- The laws of scan and assignment that the layers above cite.
 pub mod Found
+pub mod Octetwise
 pub mod Shapes
 pub mod Rows
 pub mod Judging

@@ -3,7 +3,7 @@
 use mathlib.Core.Path.{_≡_, refl, sym, ap, ap₂, _∙_}
 use mathlib.Core.Bool.{cond}
 use mathlib.Core.List.{List, [], _∷_, _++_, append-nil}
-use Prim.Native.Nat.{ℕ, _+_}
+use Prim.Native.Nat.{ℕ}
 use native.Mathlib.Omega.{arith}
 use lib.ListN.{length, length-append}
 use Rattle.octets.specs.Octets.{holds}
@@ -11,7 +11,7 @@ use Rattle.identity.specs.Identity.{width, answersScan}
 use Rattle.params.specs.Field.{_is_, tripleOf, fieldOf, xidPayload, rightLength, identifiers}
 use Rattle.params.specs.Field.{noneTwice, valueFor}
 use Rattle.params.proofs.Exact.{once-different}
-use Rattle.xid.specs.Addressing.{valuesOf}
+use Rattle.xid.specs.Addressing.{identityId, maskId, valuesOf}
 use Rattle.xid.specs.Match.{readOf}
 use Rattle.xid.specs.Meaning.{ScanOf}
 use Rattle.xid.specs.declared.Xid.the-variants.{Silence, Scan}
@@ -24,11 +24,11 @@ probePayload v k = (0x81 ∷ 0xF0 ∷ 0x2A ∷ 1 ∷ width ∷ []) ++ (v ++ ((3 
 pub probe-scan : (v k : List ℕ) → length v ≡ width → length k ≡ width → ScanOf (probePayload v k) v k
 unfolding xidPayload fieldOf tripleOf rightLength identifiers noneTwice holds valuesOf valueFor
 probe-scan v k e f =
-    let field : fieldOf (1 is v ∷ 3 is k ∷ []) ≡ 1 ∷ width ∷ (v ++ 3 ∷ width ∷ k) = rw (e, f, append-nil k) in
+    let field : fieldOf (identityId is v ∷ maskId is k ∷ []) ≡ 1 ∷ width ∷ (v ++ 3 ∷ width ∷ k) = rw (e, f, append-nil k) in
     let long : length (1 ∷ width ∷ (v ++ 3 ∷ width ∷ k)) ≡ 0x2A =
     omega (arith, length-append v (3 ∷ width ∷ k), e, f) in
     record {
-      params = 1 is v ∷ 3 is k ∷ [];
+      params = identityId is v ∷ maskId is k ∷ [];
       formed = record {
         octets = ap (λ (s : List ℕ). 0x81 ∷ 0xF0 ∷ s)
             (ap₂ (λ (n : ℕ) (s : List ℕ). n ∷ s) (sym (ap length field ∙ long)) (sym field));

@@ -7,7 +7,7 @@ use mathlib.Core.Option.{Option, none, some}
 use Prim.Native.Nat.{ℕ}
 use native.Mathlib.Omega.{arith}
 use borrow.Author.Tests.{eqb-true, leb-true, not-true}
-use lib.Dec.{eqb, leb}
+use lib.Dec.{leb}
 use lib.ListN.{length, getD}
 use Rattle.octets.proofs.Words.{true-not-false}
 use Rattle.params.specs.Field.{Param, rightLength, AllRight, WellFormed, paramsOf, valueFor, given, octetsIn}
@@ -15,7 +15,7 @@ use Rattle.params.proofs.Exact.{params-exactly}
 use Rattle.params.proofs.Kept.{both-of, of-both}
 use Rattle.params.proofs.Values.{value-right}
 use Rattle.record.specs.Allowed.{addressed}
-use Rattle.xid.specs.Addressing.{addressing, Values, valuesOf}
+use Rattle.xid.specs.Addressing.{addressId, addressing, Values, valuesOf}
 use Rattle.refusal.specs.Answer.{Answer, gives, refuses, Given, Clear}
 use Rattle.refusal.proofs.Exactly.{exactly, exactly-given, answered-all}
 use Rattle.xid.specs.Match.{isScan, scanShape, isAssignment, scanMatches, addressOf, identityMatches, kindMatches}
@@ -84,15 +84,15 @@ one-octet (x ∷ []) e = refl
 one-octet (x ∷ y ∷ v) e = let no : ⊥ = omega (arith, e) in absurd no
 
 -- the address is one octet
-pub address-one : (ps : List Param) → AllRight (addressing .table) ps → given (valueFor 2 ps) ≡ true
-    → valueFor 2 ps ≡ some (getD (octetsIn (valueFor 2 ps)) 0 0 ∷ [])
+pub address-one : (ps : List Param) → AllRight (addressing .table) ps → given (valueFor addressId ps) ≡ true
+    → valueFor addressId ps ≡ some (getD (octetsIn (valueFor addressId ps)) 0 0 ∷ [])
 unfolding rightLength
 address-one ps r g =
-    let e = given-some (valueFor 2 ps) g in
-    let k = length (octetsIn (valueFor 2 ps)) in
+    let e = given-some (valueFor addressId ps) g in
+    let k = length (octetsIn (valueFor addressId ps)) in
     let (least, most) = both-of (leb 1 k) (leb k 1) (value-right (addressing .table) 2 ps r e) in
     let one : k ≡ 1 = omega (arith, leb-true 1 k least, leb-true k 1 most) in
-    e ∙ ap some (one-octet (octetsIn (valueFor 2 ps)) one)
+    e ∙ ap some (one-octet (octetsIn (valueFor addressId ps)) one)
 
 -- ---- what is judged so
 

@@ -1,5 +1,6 @@
 -- The group of scans and assignments: its octet and its five identifiers, and what is given of them, by name. 01, "XID:
 -- scan and assignment".
+--   groupOctet   == 0xF0; identityId, addressId, maskId, kindId, vendorId == the identifiers 1, 2, 3, 4, 6
 --   addressing   == the group: 0xF0, and the table of its identifiers with their lengths
 --   valuesOf ps  == what the parameters ps give, by name: the five `Values`
 --   partFor n s  == the part of the identifier n among the parts s that a walk found; partsBy s == of all five, by name
@@ -17,11 +18,31 @@ use Rattle.params.specs.Walk.{placeIn, partIn, valueAt}
 use Rattle.xid.specs.declared.Parts.{Parts}
 
 -- "Identifiers 1 (identity, 1 to 19), 2 (address, 1), 3 (mask, 1 to 19), 4 (type, 1), 6 (vendor, 2)"
+abbrev pub identityId : ℕ
+identityId = 1
+
+abbrev pub addressId : ℕ
+addressId = 2
+
+abbrev pub maskId : ℕ
+maskId = 3
+
+abbrev pub kindId : ℕ
+kindId = 4
+
+abbrev pub vendorId : ℕ
+vendorId = 6
+
+abbrev pub groupOctet : ℕ
+groupOctet = 0xF0
+
 abbrev pub addressing : Group
 addressing =
     record {
-      octet = 0xF0;
-      table = 1 has 1 to width ∷ 2 has 1 to 1 ∷ 3 has 1 to width ∷ 4 has 1 to 1 ∷ 6 has vendor to vendor ∷ [];
+      octet = groupOctet;
+      table = identityId has 1 to width
+          ∷ addressId has 1 to 1
+          ∷ maskId has 1 to width ∷ kindId has 1 to 1 ∷ vendorId has vendor to vendor ∷ [];
     }
 
 pub record Values : Type 0 where
@@ -35,11 +56,11 @@ pub record Values : Type 0 where
 unfoldable pub valuesOf : List Param → Values
 valuesOf ps =
     record {
-      identity = valueFor 1 ps;
-      address = valueFor 2 ps;
-      mask = valueFor 3 ps;
-      kind = valueFor 4 ps;
-      vendor = valueFor 6 ps;
+      identity = valueFor identityId ps;
+      address = valueFor addressId ps;
+      mask = valueFor maskId ps;
+      kind = valueFor kindId ps;
+      vendor = valueFor vendorId ps;
     }
 
 abbrev pub partFor : ℕ → List Slot → Part
@@ -48,11 +69,11 @@ partFor n s = partIn s (placeIn n (addressing .table))
 unfoldable pub partsBy : List Slot → Parts
 partsBy s =
     record {
-      identity = partFor 1 s;
-      address = partFor 2 s;
-      mask = partFor 3 s;
-      kind = partFor 4 s;
-      vendor = partFor 6 s;
+      identity = partFor identityId s;
+      address = partFor addressId s;
+      mask = partFor maskId s;
+      kind = partFor kindId s;
+      vendor = partFor vendorId s;
     }
 
 unfoldable pub valuesAt : List ℕ → Parts → Values

@@ -5,6 +5,8 @@
 --   isAssignment w      == w is an assignment: "2 present, 3 absent"; assignmentShape == the same of what is given
 --   scanMatches i w     == the scan w is answered by the identity i
 --   addressOf w         == the address value; `addressed` says whether it is 1 to 254
+--   rightmost k s       == the k right-most octets of s
+--   endsWith s t        == t isn't longer than s and equals its right-most octets
 --   identityMatches i x == "If 1 is given": its value x is the end of the identity i
 --   kindMatches x       == "If 4 .. is given": its value x is the device's type
 --   vendorMatches i x   == "If .. 6 is given": its value x is the vendor of the identity i
@@ -28,12 +30,11 @@
 use mathlib.Core.Bool.{Bool, true, false, cond, not, _&&_, _||_}
 use mathlib.Core.List.{List, [], _∷_}
 use mathlib.Core.Option.{Option, none, some, Option·getD}
-use Prim.Native.Nat.{ℕ}
-use lib.Dec.{eqb}
-use lib.ListN.{length, getD, take}
+use Prim.Native.Nat.{ℕ, _-_}
+use lib.Dec.{eqb, leb}
+use lib.ListN.{length, getD, take, drop}
 use Rattle.refusal.specs.Answer.{Answer, gives, refuses, Row, _when_, answered}
 use Rattle.identity.specs.Identity.{vendor, same, answersScan}
-use Rattle.compare.specs.Rows.{endsWith}
 use Rattle.record.specs.Allowed.{addressed}
 use Rattle.params.specs.declared.Part.{Part}
 use Rattle.params.specs.declared.Part.the-variants.{Absent, At}
@@ -76,7 +77,14 @@ scanMatches i w = answersScan i (octetsIn (w .mask)) (octetsIn (w .identity))
 abbrev pub addressOf : Values → ℕ
 addressOf w = getD (octetsIn (w .address)) 0 0
 
--- "If 1 is given, it isn't longer than the unpadded identity and equals its right-most octets."
+abbrev pub rightmost : ℕ → List ℕ → List ℕ
+rightmost k s = drop (length s - k) s
+
+-- "it isn't longer than the unpadded identity and equals its right-most octets"
+unfoldable pub endsWith : List ℕ → List ℕ → Bool
+endsWith s t = leb (length t) (length s) && same t (rightmost (length t) s)
+
+-- "If 1 is given": so
 unfoldable pub identityMatches : List ℕ → Option (List ℕ) → Bool
 identityMatches i none = true
 identityMatches i (some v) = endsWith i v

@@ -16,10 +16,9 @@ use Prim.Native.Nat.{ℕ, _≤_}
 use lib.ListN.{length, take}
 use Rattle.identity.specs.Bits.{masked}
 use Rattle.identity.specs.Identity.{vendor, padded}
-use Rattle.compare.specs.Rows.{rightmost}
 use Rattle.params.specs.Field.{Param, WellFormed}
 use Rattle.xid.specs.Addressing.{addressing, valuesOf}
-use Rattle.xid.specs.Match.{deviceType}
+use Rattle.xid.specs.Match.{deviceType, rightmost}
 
 pub record ScanOf (m v k : List ℕ) : Type 0 where
   pub params : List Param

@@ -4,12 +4,17 @@
 ghost use mathlib.Core.Path.{_≡_};
 ghost use mathlib.Core.Bool.{true};
 ghost use lib.ListN.{take, getD};
-ghost use Rattle.record.specs.Allowed.{addressed, identityOf};
+ghost use Rattle.identity.specs.Bits.{masked};
+ghost use Rattle.identity.specs.Identity.{padded, same};
+ghost use Rattle.record.specs.Allowed.{identityOf};
 ghost use Rattle.params.specs.Field.{octetsIn};
 ghost use Rattle.params.specs.Walk.{valueAt};
 ghost use Rattle.xid.specs.Addressing.{addressing, partsBy, valuesAt};
 ghost use Rattle.xid.specs.Match.{isGiven, scanShape, assignmentShape, isScan, isAssignment, scanMatches};
-ghost use Rattle.xid.specs.Match.{identityMatches, kindMatches, vendorMatches, meantTo, readOf};
+ghost use Rattle.xid.specs.Match.{endsWith, identityMatches, kindMatches, vendorMatches, meantTo, readOf};
+use identity::BLANK;
+use identity::OCTETS;
+use identity::VENDOR;
 use params::Group;
 use params::Identifier;
 use params::Part;
@@ -18,6 +23,19 @@ use record::Plate;
 
 // The device's type: a single-antenna tilt device.
 pub const KIND: u8 = 0x01;
+
+// The octet of the group of scans and assignments, and its identifiers.
+pub const GROUP_OCTET: u8 = 0xF0;
+
+pub const IDENTITY_ID: u8 = 1;
+
+pub const ADDRESS_ID: u8 = 2;
+
+const MASK_ID: u8 = 3;
+
+pub const KIND_ID: u8 = 4;
+
+const VENDOR_ID: u8 = 6;
 
 // One part for each identifier of the group.
 struct Parts {
@@ -43,32 +61,35 @@ fn addressing() -> Group
 {
     let table = [
         Identifier {
-            id: 1,
+            id: IDENTITY_ID,
             least: 1,
-            most: identity::OCTETS,
+            most: OCTETS,
         },
         Identifier {
-            id: 2,
-            least: 1,
-            most: 1,
-        },
-        Identifier {
-            id: 3,
-            least: 1,
-            most: identity::OCTETS,
-        },
-        Identifier {
-            id: 4,
+            id: ADDRESS_ID,
             least: 1,
             most: 1,
         },
         Identifier {
-            id: 6,
-            least: 2,
-            most: 2,
+            id: MASK_ID,
+            least: 1,
+            most: OCTETS,
+        },
+        Identifier {
+            id: KIND_ID,
+            least: 1,
+            most: 1,
+        },
+        Identifier {
+            id: VENDOR_ID,
+            least: VENDOR,
+            most: VENDOR,
         },
     ];
-    Group { octet: 0xF0, table }
+    Group {
+        octet: GROUP_OCTET,
+        table,
+    }
 }
 
 // The parts that the walk found, by name.
@@ -141,15 +162,46 @@ fn is_scan(payload: &[u8], parts: Parts) -> bool
     false
 }
 
-fn scan_matches(octets: [u8; 19], len: usize, payload: &[u8], parts: Parts) -> bool
+// The identity, its first `len` octets, padded with 0x20.
+fn padded(octets: [u8; OCTETS], len: usize) -> [u8; OCTETS]
+    ensures { λ r. ⌜ r ≡ padded (take len octets) ⌝ }
+{
+    let mut row = octets;
+    let mut i = len;
+    while i < OCTETS {
+        row[i] = BLANK;
+        i += 1;
+    }
+    row
+}
+
+// Whether octets under a mask are the value, which isn't masked.
+fn under_mask(s: &[u8], mask: &[u8], value: &[u8]) -> bool
+    ensures { λ r. ⌜ r ≡ same (masked (now (s .entry)) (now (mask .entry))) (now (value .entry)) ⌝ }
+{
+    let n = octets::fewer(s.len(), mask.len());
+    if value.len() != n {
+        return false;
+    }
+    let mut i = 0;
+    while i < n {
+        if s[i] & mask[i] != value[i] {
+            return false;
+        }
+        i += 1;
+    }
+    true
+}
+
+fn scan_matches(octets: [u8; OCTETS], len: usize, payload: &[u8], parts: Parts) -> bool
     ensures { λ r. ⌜ r ≡ scanMatches (take len octets) (valuesAt (now (payload .entry)) parts) ⌝ }
 {
     let identity = parts.identity;
     let mask = parts.mask;
-    let row = compare::padded(octets, len);
+    let row = padded(octets, len);
     let m = value(payload, mask);
     let v = value(payload, identity);
-    compare::under_mask(&row, m, v)
+    under_mask(&row, m, v)
 }
 
 // ---- an assignment
@@ -174,21 +226,26 @@ fn first_octet(s: &[u8]) -> u8
     s[0]
 }
 
-fn is_addressed(address: u8) -> bool
-    ensures { λ r. ⌜ r ≡ addressed address ⌝ }
+// Whether `s` ends with `tail`.
+fn ends_with(s: &[u8], tail: &[u8]) -> bool
+    ensures { λ r. ⌜ r ≡ endsWith (now (s .entry)) (now (tail .entry)) ⌝ }
 {
-    if 0 < address { address < 255 } else { false }
+    if s.len() < tail.len() {
+        return false;
+    }
+    let start = s.len() - tail.len();
+    compare::same(tail, &s[start..])
 }
 
-fn identity_matches(octets: [u8; 19], len: usize, payload: &[u8], part: Part) -> bool
+fn identity_matches(octets: [u8; OCTETS], len: usize, payload: &[u8], part: Part) -> bool
     ensures { λ r. ⌜ r ≡ identityMatches (take len octets) (valueAt (now (payload .entry)) part) ⌝ }
 {
     match part {
         Part::Absent => true,
         Part::At { from, len: count } => {
-            let n = octets::fewer(len, 19);
+            let n = octets::fewer(len, OCTETS);
             let tail = params::value_at(payload, from, count);
-            compare::ends_with(&octets[..n], tail)
+            ends_with(&octets[..n], tail)
         }
     }
 }
@@ -206,20 +263,20 @@ fn kind_matches(payload: &[u8], part: Part) -> bool
     }
 }
 
-fn vendor_matches(octets: [u8; 19], len: usize, payload: &[u8], part: Part) -> bool
+fn vendor_matches(octets: [u8; OCTETS], len: usize, payload: &[u8], part: Part) -> bool
     ensures { λ r. ⌜ r ≡ vendorMatches (take len octets) (valueAt (now (payload .entry)) part) ⌝ }
 {
     match part {
         Part::Absent => true,
         Part::At { from, len: count } => {
-            let n = octets::fewer(len, 2);
+            let n = octets::fewer(len, VENDOR);
             let asked = params::value_at(payload, from, count);
             compare::same(asked, &octets[..n])
         }
     }
 }
 
-fn assign(octets: [u8; 19], len: usize, payload: &[u8], parts: Parts) -> Xid
+fn assign(octets: [u8; OCTETS], len: usize, payload: &[u8], parts: Parts) -> Xid
     requires { ⌜ isAssignment (valuesAt (now payload) parts) ≡ true ⌝ }
     ensures { λ r. ⌜ r ≡ meantTo (take len octets) (valuesAt (now (payload .entry)) parts) ⌝ }
 {
@@ -228,7 +285,7 @@ fn assign(octets: [u8; 19], len: usize, payload: &[u8], parts: Parts) -> Xid
     let vendor = parts.vendor;
     let given = parts.address;
     let address = first_octet(value(payload, given));
-    if is_addressed(address) {
+    if record::is_addressed(address) {
         if identity_matches(octets, len, payload, identity) {
             if kind_matches(payload, kind) {
                 if vendor_matches(octets, len, payload, vendor) {
@@ -242,7 +299,7 @@ fn assign(octets: [u8; 19], len: usize, payload: &[u8], parts: Parts) -> Xid
 
 // ---- either, or neither
 
-fn judge(octets: [u8; 19], len: usize, payload: &[u8], parts: Parts) -> Xid
+fn judge(octets: [u8; OCTETS], len: usize, payload: &[u8], parts: Parts) -> Xid
     ensures { λ r. ⌜ r ≡ meantTo (take len octets) (valuesAt (now (payload .entry)) parts) ⌝ }
 {
     if is_scan(payload, parts) {

@@ -1,5 +1,5 @@
 -- The answers' lengths: n+8 and n+5 in the length field for an identity of n octets, and at most 74 octets for an
--- allowed one. They are well formed themselves, and the payload's first octets are theirs. Assumes nothing.
+-- allowed one. They are well formed themselves. Assumes nothing.
 use mathlib.Core.Path.{_≡_, refl}
 use mathlib.Core.Bool.{true, _&&_}
 use mathlib.Core.List.{List, [], _∷_}
@@ -7,18 +7,16 @@ use Prim.Native.Nat.{ℕ, _+_, _≤_}
 use native.Mathlib.Omega.{arith}
 use borrow.Author.Tests.{le-leb}
 use lib.Dec.{leb}
-use lib.ListN.{length, getD, take, replicate}
+use lib.ListN.{length, getD}
 use Rattle.octets.specs.Octets.{holds}
-use Rattle.octets.proofs.Stores.{take-start}
 use Rattle.identity.specs.Identity.{width, allowedIdentity}
 use Rattle.identity.proofs.Identities.{allowed-parts}
 use Rattle.record.specs.Allowed.{replyMost}
 use Rattle.params.specs.Field.{xidPayload, rightLength, identifiers, WellFormed, noneTwice}
 use Rattle.params.proofs.Exact.{once-different}
 use Rattle.params.proofs.Kept.{of-both}
-use Rattle.xid.specs.Addressing.{addressing}
+use Rattle.xid.specs.Addressing.{identityId, addressId, kindId, addressing}
 use Rattle.xid_answer.specs.Answer.{scanParams, assignmentParams, scanAnswer, assignmentAnswer}
-use Rattle.payload.specs.Payloads.{payloadOf as held}
 use Rattle.xid_answer.proofs.Stored.{scan-length, assignment-length, length-scan, length-assignment}
 
 -- "length field n+8"
@@ -46,13 +44,8 @@ module _ (i : List ℕ) (ok : allowedIdentity i ≡ true) where
   pub scan-formed : (a : ℕ) → WellFormed addressing (scanAnswer i a) (scanParams i a)
   unfolding scanAnswer scanParams rightLength identifiers noneTwice holds
   scan-formed a =
-      record { octets = refl; right = (long, (refl, (refl, tt))); once = once-different (1 ∷ 2 ∷ 4 ∷ []) refl }
+      record { octets = refl; right = (long, (refl, (refl, tt))); once = once-different (identityId ∷ addressId ∷ kindId ∷ []) refl }
 
   pub assignment-formed : WellFormed addressing (assignmentAnswer i) (assignmentParams i)
   unfolding assignmentAnswer assignmentParams rightLength identifiers noneTwice holds
-  assignment-formed = record { octets = refl; right = (long, (refl, tt)); once = once-different (1 ∷ 4 ∷ []) refl }
-
--- the octets of an answer stand at the start of its payload
-pub held-octets : (b : List ℕ) → take (held b .len) (held b .octets) ≡ b
-unfolding held
-held-octets b = take-start b (replicate replyMost 0)
+  assignment-formed = record { octets = refl; right = (long, (refl, tt)); once = once-different (identityId ∷ kindId ∷ []) refl }

@@ -8,7 +8,10 @@ use lib.ListN.{length, take, set, replicate, length-append, length-take}
 use lib.Seq.{sets}
 use Rattle.octets.proofs.Runs.{Run, run-all, run-two, run-some, run-put, run-done}
 use Rattle.octets.proofs.Stores.{sets-start}
-use Rattle.params.specs.Field.{_is_, tripleOf, fieldOf, xidPayload}
+use Rattle.identity.specs.Identity.{width}
+use Rattle.record.specs.Allowed.{replyMost}
+use Rattle.params.specs.Field.{_is_, format, tripleOf, fieldOf, xidPayload}
+use Rattle.xid.specs.Addressing.{identityId, addressId, kindId, groupOctet}
 use Rattle.xid.specs.Match.{deviceType}
 use Rattle.octets.proofs.Takes.{take-within}
 use Rattle.xid_answer.specs.Answer.{opening, scanParams, assignmentParams, scanAnswer, assignmentAnswer}
@@ -25,7 +28,7 @@ param-stored at n v o {o₃ = o₃} s₁ s₂ s₃ =
     run-some v s₃ refl (sym (append-nil v)) (run-two n (length v) s₁ s₂ refl all) in
     run-done refl done
 
-pub opening-stored : (k : ℕ) (o : List ℕ) {o₁ o₂ o₃ : List ℕ} → o₁ ≡ set o 0 0x81 → o₂ ≡ set o₁ 1 0xF0
+pub opening-stored : (k : ℕ) (o : List ℕ) {o₁ o₂ o₃ : List ℕ} → o₁ ≡ set o 0 format → o₂ ≡ set o₁ 1 groupOctet
     → o₃ ≡ set o₂ 2 k → o₃ ≡ sets o 0 (opening k)
 opening-stored k o {o₃ = o₃} s₁ s₂ s₃ = rw (s₃, s₂, s₁)
 
@@ -45,13 +48,13 @@ assignment-length i = simp length-append (omega arith)
 -- all of them, one behind the other
 module _ (i o : List ℕ) {o₁ o₂ o₃ : List ℕ} {a : ℕ} where
   pub scan-stored : (address : ℕ) {o₄ : List ℕ} {b n : ℕ} → o₁ ≡ sets o 0 (opening (length i + 8))
-      → Puts o₁ 3 (tripleOf (1 is i)) a o₂ → Puts o₂ a (tripleOf (2 is (address ∷ []))) b o₃
-      → Puts o₃ b (tripleOf (4 is (deviceType ∷ []))) n o₄ → Puts o 0 (scanAnswer i address) n o₄
+      → Puts o₁ 3 (tripleOf (identityId is i)) a o₂ → Puts o₂ a (tripleOf (addressId is (address ∷ []))) b o₃
+      → Puts o₃ b (tripleOf (kindId is (deviceType ∷ []))) n o₄ → Puts o 0 (scanAnswer i address) n o₄
   unfolding scanAnswer xidPayload scanParams fieldOf
   scan-stored address {o₄} {b} {n} s p q r =
-      let own = tripleOf (1 is i) in
-      let from = tripleOf (2 is (address ∷ [])) in
-      let kind = tripleOf (4 is (deviceType ∷ [])) in
+      let own = tripleOf (identityId is i) in
+      let from = tripleOf (addressId is (address ∷ [])) in
+      let kind = tripleOf (kindId is (deviceType ∷ [])) in
       let xs = opening (length i + 8) ++ (own ++ (from ++ (kind ++ []))) in
       let all : Run o 0 xs o 0 xs = run-all in
       let opened : Run o₁ 3 (own ++ (from ++ (kind ++ []))) o 0 xs =
@@ -61,12 +64,12 @@ module _ (i o : List ℕ) {o₁ o₂ o₃ : List ℕ} {a : ℕ} where
       let third : Run o₄ n [] o 0 xs = run-put kind r refl second in
       rw (scan-length i address) (run-done refl third)
 
-  pub assignment-stored : {n : ℕ} → o₁ ≡ sets o 0 (opening (length i + 5)) → Puts o₁ 3 (tripleOf (1 is i)) a o₂
-      → Puts o₂ a (tripleOf (4 is (deviceType ∷ []))) n o₃ → Puts o 0 (assignmentAnswer i) n o₃
+  pub assignment-stored : {n : ℕ} → o₁ ≡ sets o 0 (opening (length i + 5)) → Puts o₁ 3 (tripleOf (identityId is i)) a o₂
+      → Puts o₂ a (tripleOf (kindId is (deviceType ∷ []))) n o₃ → Puts o 0 (assignmentAnswer i) n o₃
   unfolding assignmentAnswer xidPayload assignmentParams fieldOf
   assignment-stored {n} s p r =
-      let own = tripleOf (1 is i) in
-      let kind = tripleOf (4 is (deviceType ∷ [])) in
+      let own = tripleOf (identityId is i) in
+      let kind = tripleOf (kindId is (deviceType ∷ [])) in
       let xs = opening (length i + 5) ++ (own ++ (kind ++ [])) in
       let all : Run o 0 xs o 0 xs = run-all in
       let opened : Run o₁ 3 (own ++ (kind ++ [])) o 0 xs = run-some (opening (length i + 5)) s refl refl all in
@@ -84,24 +87,24 @@ pub length-assignment : (i : List ℕ) → length (assignmentAnswer i) ≡ lengt
 unfolding assignmentAnswer xidPayload
 length-assignment i = omega (arith, assignment-length i)
 
-held-is : (b : List ℕ) {n : ℕ} {o : List ℕ} → Puts (replicate 74 0) 0 b n o → length b ≤ 74
+held-is : (b : List ℕ) {n : ℕ} {o : List ℕ} → Puts (replicate replyMost 0) 0 b n o → length b ≤ replyMost
     → record { octets = o; len = n } ≡ held b
 unfolding held
-held-is b w h = rw (w .octets ∙ sets-start b (replicate 74 0) h, w .count, zero-add (length b))
+held-is b w h = rw (w .octets ∙ sets-start b (replicate replyMost 0) h, w .count, zero-add (length b))
 
-module _ (row : List ℕ) (count : ℕ) (h : length row ≡ 19) {n : ℕ} (e : n ≡ min count 19) where
+module _ (row : List ℕ) (count : ℕ) (h : length row ≡ width) {n : ℕ} (e : n ≡ min count width) where
   within : take n row ≡ take count row
-  within = rw e (take-within count 19 row (omega arith))
+  within = rw e (take-within count width row (omega arith))
 
-  few : length (take count row) ≤ 19
+  few : length (take count row) ≤ width
   few = omega (arith, length-take count row)
 
-  pub scan-held : (a : ℕ) {r : ℕ} {o : List ℕ} → Puts (replicate 74 0) 0 (scanAnswer (take n row) a) r o
+  pub scan-held : (a : ℕ) {r : ℕ} {o : List ℕ} → Puts (replicate replyMost 0) 0 (scanAnswer (take n row) a) r o
       → record { octets = o; len = r } ≡ held (scanAnswer (take count row) a)
   scan-held a w =
       held-is (scanAnswer (take count row) a) (rw within at w) (omega (arith, few, length-scan (take count row) a))
 
-  pub assignment-held : {r : ℕ} {o : List ℕ} → Puts (replicate 74 0) 0 (assignmentAnswer (take n row)) r o
+  pub assignment-held : {r : ℕ} {o : List ℕ} → Puts (replicate replyMost 0) 0 (assignmentAnswer (take n row)) r o
       → record { octets = o; len = r } ≡ held (assignmentAnswer (take count row))
   assignment-held w =
       held-is (assignmentAnswer (take count row)) (rw within at w)

@@ -6,16 +6,16 @@
 use mathlib.Core.List.{List, [], _∷_}
 use Prim.Native.Nat.{ℕ}
 use Rattle.params.specs.Field.{Param, _is_, format, xidPayload}
-use Rattle.xid.specs.Addressing.{addressing}
+use Rattle.xid.specs.Addressing.{identityId, addressId, kindId, addressing}
 use Rattle.xid.specs.Match.{deviceType}
 
 -- "Answer, in any state: 1 (unpadded, n octets), 2, 4 in that order"
 unfoldable pub scanParams : List ℕ → ℕ → List Param
-scanParams i a = 1 is i ∷ 2 is (a ∷ []) ∷ 4 is (deviceType ∷ []) ∷ []
+scanParams i a = identityId is i ∷ addressId is (a ∷ []) ∷ kindId is (deviceType ∷ []) ∷ []
 
 -- "the answer from the new address has 1 and 4"
 unfoldable pub assignmentParams : List ℕ → List Param
-assignmentParams i = 1 is i ∷ 4 is (deviceType ∷ []) ∷ []
+assignmentParams i = identityId is i ∷ kindId is (deviceType ∷ []) ∷ []
 
 -- "Answers .. begin 0x81, 0xF0, length"
 unfoldable pub scanAnswer : List ℕ → ℕ → List ℕ

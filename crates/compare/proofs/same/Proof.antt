@@ -7,8 +7,6 @@ use Rattle.identity.specs.Identity.{same}
 use Rattle.compare.proofs.Laws.{same-differ, same-not, same-more, same-done}
 use Rattle.compare.proofs.same.Statement.{statement}
 use Rattle.compare.proofs.same.Tie as tie
-use Rattle.compare.proofs.same.Reads as reads
-use Rattle.compare.proofs.same.Lts as lts
 
 abbrev Inv-loop : tie.InvT-loop
 Inv-loop a b i₀ i = (i ≤ length a) × (same (drop i a) (drop i b) ≡ same a b)

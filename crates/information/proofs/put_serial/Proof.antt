@@ -3,6 +3,7 @@
 use borrow.Author.Needs.{needs}
 use mathlib.Core.Path.{_≡_}
 use lib.ListN.{length}
+use Rattle.identity.specs.Identity.{width}
 use Rattle.information.proofs.Parts.{serial-part, length-serial}
 use Rattle.information.proofs.put_serial.Statement.{statement}
 use Rattle.information.proofs.put_serial.Tie as tie
@@ -32,7 +33,7 @@ returns : tie.Need-returns
 returns c =
     let mid = c .before .before .before .before .before .before in
     let start = mid .before .before .before .args in
-    let whole : length (start .t1) ≡ 19 = search needs in
+    let whole : length (start .t1) ≡ width = search needs in
     let n = mid .before .fewer .ensures in
     let from = mid .fewer2 .ensures in (
       length-serial (start .t1) (start .len) whole n from,

@@ -8,8 +8,6 @@ use Rattle.octets.specs.Octets.{placeOf}
 use Rattle.octets.proofs.Words.{place-here, place-more, place-done}
 use Rattle.octets.proofs.find.Statement.{statement}
 use Rattle.octets.proofs.find.Tie as tie
-use Rattle.octets.proofs.find.Reads as reads
-use Rattle.octets.proofs.find.Lts as lts
 
 abbrev Inv-loop : tie.InvT-loop
 Inv-loop octet s i₀ i = (i ≤ length s) × (i + placeOf octet (drop i s) ≡ placeOf octet s)

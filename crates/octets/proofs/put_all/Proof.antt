@@ -9,9 +9,6 @@ use lib.Seq.{sets}
 use Rattle.octets.proofs.Stores.{sets-past, sets-more, sets-done}
 use Rattle.octets.proofs.put_all.Statement.{statement}
 use Rattle.octets.proofs.put_all.Tie as tie
-use Rattle.octets.proofs.put_all.Reads as reads
-use Rattle.octets.proofs.put_all.Lts as lts
-use Rattle.octets.proofs.fewer.Reads as fewer-reads
 
 abbrev Inv-loop : tie.InvT-loop
 Inv-loop out₀ at s count i₀ out i =

@@ -1,21 +1,17 @@
 -- `reader::stands_at` meets its promise: one test after the other. Assumes nothing.
-use Rattle.reader.proofs.Steps.{stands-short, stands-whole}
-use Rattle.reader.specs.Read.{standsAt}
-use Rattle.octets.proofs.Rules.{tests}
+use Rattle.reader.proofs.Steps.{stands-end, stands-one, stands-short, stands-whole}
 use borrow.Author.Needs.{needs}
 use Rattle.reader.proofs.stands_at.Statement.{statement}
 use Rattle.reader.proofs.stands_at.Tie as tie
 
 returns : tie.Need-returns
-unfolding standsAt
-returns c = search tests
+returns c = stands-end _ _ (c .if1 .taken)
 
 sub-left : tie.Need-sub-left
 sub-left c = search needs
 
 returns-2 : tie.Need-returns-2
-unfolding standsAt
-returns-2 c = search tests
+returns-2 c = stands-one _ _ (c .before .if1 .left) (c .if2 .taken)
 
 add-wide : tie.Need-add-wide
 add-wide c = search needs

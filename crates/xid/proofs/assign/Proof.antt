@@ -6,14 +6,6 @@ use Prim.Native.Nat.{ℕ}
 use lib.ListN.{getD}
 use Rattle.xid.proofs.assign.Statement.{statement}
 use Rattle.xid.proofs.assign.Tie as tie
-use Rattle.xid.proofs.assign.Reads as reads
-use Rattle.xid.proofs.assign.Lts as lts
-use Rattle.xid.proofs.first_octet.Reads as first-octet-reads
-use Rattle.xid.proofs.identity_matches.Reads as identity-matches-reads
-use Rattle.xid.proofs.is_addressed.Reads as is-addressed-reads
-use Rattle.xid.proofs.kind_matches.Reads as kind-matches-reads
-use Rattle.xid.proofs.value.Reads as value-reads
-use Rattle.xid.proofs.vendor_matches.Reads as vendor-matches-reads
 
 value-requires : tie.Need-value-requires
 value-requires c κs = tt

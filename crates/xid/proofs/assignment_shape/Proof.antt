@@ -4,9 +4,6 @@ use mathlib.Core.Path.{sym, _∙_}
 use Rattle.octets.proofs.Rules.{tests}
 use Rattle.xid.proofs.assignment_shape.Statement.{statement}
 use Rattle.xid.proofs.assignment_shape.Tie as tie
-use Rattle.xid.proofs.assignment_shape.Reads as reads
-use Rattle.xid.proofs.assignment_shape.Lts as lts
-use Rattle.xid.proofs.is_given.Reads as is-given-reads
 
 is-given-requires : tie.Need-is-given-requires
 is-given-requires c κs = tt

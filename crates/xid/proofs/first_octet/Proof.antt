@@ -5,8 +5,6 @@ use borrow.Author.Needs.{needs}
 use Rattle.octets.proofs.Rules.{tests}
 use Rattle.xid.proofs.first_octet.Statement.{statement}
 use Rattle.xid.proofs.first_octet.Tie as tie
-use Rattle.xid.proofs.first_octet.Reads as reads
-use Rattle.xid.proofs.first_octet.Lts as lts
 
 returns : tie.Need-returns
 returns c = sym (List·getD-eq-default (c .before .args .s .now) 0 (search needs))

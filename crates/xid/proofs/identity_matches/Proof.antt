@@ -5,11 +5,6 @@ use lib.ListN.{length-take}
 use borrow.Author.Needs.{needs}
 use Rattle.xid.proofs.identity_matches.Statement.{statement}
 use Rattle.xid.proofs.identity_matches.Tie as tie
-use Rattle.xid.proofs.identity_matches.Reads as reads
-use Rattle.xid.proofs.identity_matches.Lts as lts
-use Rattle.params.proofs.value_at.Reads as value-at-reads
-use Rattle.compare.proofs.ends_with.Reads as ends-with-reads
-use Rattle.octets.proofs.fewer.Reads as fewer-reads
 
 enum-told : tie.Need-enum-told
 enum-told c = search needs

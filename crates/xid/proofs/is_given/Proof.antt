@@ -4,8 +4,6 @@ use Rattle.octets.proofs.Rules.{tests}
 use borrow.Author.Needs.{needs}
 use Rattle.xid.proofs.is_given.Statement.{statement}
 use Rattle.xid.proofs.is_given.Tie as tie
-use Rattle.xid.proofs.is_given.Reads as reads
-use Rattle.xid.proofs.is_given.Lts as lts
 
 enum-told : tie.Need-enum-told
 enum-told c = search needs

@@ -3,10 +3,6 @@ use mathlib.Core.Path.{sym, _∙_}
 use Rattle.xid.proofs.Shapes.{scan-lengths, scan-not}
 use Rattle.xid.proofs.is_scan.Statement.{statement}
 use Rattle.xid.proofs.is_scan.Tie as tie
-use Rattle.xid.proofs.is_scan.Reads as reads
-use Rattle.xid.proofs.is_scan.Lts as lts
-use Rattle.xid.proofs.scan_shape.Reads as scan-shape-reads
-use Rattle.xid.proofs.value.Reads as value-reads
 
 scan-shape-requires : tie.Need-scan-shape-requires
 scan-shape-requires c κs = tt

@@ -4,12 +4,6 @@ use Rattle.xid.proofs.Shapes.{assignment-shaped}
 use mathlib.Core.Path.{sym, _∙_}
 use Rattle.xid.proofs.judge.Statement.{statement}
 use Rattle.xid.proofs.judge.Tie as tie
-use Rattle.xid.proofs.judge.Reads as reads
-use Rattle.xid.proofs.judge.Lts as lts
-use Rattle.xid.proofs.assign.Reads as assign-reads
-use Rattle.xid.proofs.assignment_shape.Reads as assignment-shape-reads
-use Rattle.xid.proofs.is_scan.Reads as is-scan-reads
-use Rattle.xid.proofs.scan_matches.Reads as scan-matches-reads
 
 is-scan-requires : tie.Need-is-scan-requires
 is-scan-requires c κs = tt

@@ -3,10 +3,6 @@ use Rattle.xid.proofs.Judging.{kind-absent, kind-given}
 use borrow.Author.Needs.{needs}
 use Rattle.xid.proofs.kind_matches.Statement.{statement}
 use Rattle.xid.proofs.kind_matches.Tie as tie
-use Rattle.xid.proofs.kind_matches.Reads as reads
-use Rattle.xid.proofs.kind_matches.Lts as lts
-use Rattle.params.proofs.value_at.Reads as value-at-reads
-use Rattle.compare.proofs.same.Reads as same-reads
 
 enum-told : tie.Need-enum-told
 enum-told c = search needs

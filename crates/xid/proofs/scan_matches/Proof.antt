@@ -3,11 +3,6 @@ use Rattle.xid.proofs.Judging.{scan-given}
 use borrow.Author.Needs.{needs}
 use Rattle.xid.proofs.scan_matches.Statement.{statement}
 use Rattle.xid.proofs.scan_matches.Tie as tie
-use Rattle.xid.proofs.scan_matches.Reads as reads
-use Rattle.xid.proofs.scan_matches.Lts as lts
-use Rattle.compare.proofs.padded.Reads as padded-reads
-use Rattle.compare.proofs.under_mask.Reads as under-mask-reads
-use Rattle.xid.proofs.value.Reads as value-reads
 
 padded-requires : tie.Need-padded-requires
 padded-requires c κs = tt

@@ -3,9 +3,6 @@ use mathlib.Core.Path.{sym, _∙_}
 use Rattle.xid.proofs.Shapes.{no-identity, no-mask, an-address, a-kind, a-vendor}
 use Rattle.xid.proofs.scan_shape.Statement.{statement}
 use Rattle.xid.proofs.scan_shape.Tie as tie
-use Rattle.xid.proofs.scan_shape.Reads as reads
-use Rattle.xid.proofs.scan_shape.Lts as lts
-use Rattle.xid.proofs.is_given.Reads as is-given-reads
 
 is-given-requires : tie.Need-is-given-requires
 is-given-requires c κs = tt

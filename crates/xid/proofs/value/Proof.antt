@@ -6,9 +6,6 @@ use Rattle.octets.proofs.Rules.{tests}
 use borrow.Author.Needs.{needs}
 use Rattle.xid.proofs.value.Statement.{statement}
 use Rattle.xid.proofs.value.Tie as tie
-use Rattle.xid.proofs.value.Reads as reads
-use Rattle.xid.proofs.value.Lts as lts
-use Rattle.params.proofs.value_at.Reads as value-at-reads
 
 enum-told : tie.Need-enum-told
 enum-told c = search needs

@@ -6,10 +6,6 @@ use lib.ListN.{length-take}
 use borrow.Author.Needs.{needs}
 use Rattle.xid_answer.proofs.assignment_payload.Statement.{statement}
 use Rattle.xid_answer.proofs.assignment_payload.Tie as tie
-use Rattle.xid_answer.proofs.assignment_payload.Reads as reads
-use Rattle.xid_answer.proofs.assignment_payload.Lts as lts
-use Rattle.octets.proofs.fewer.Reads as fewer-reads
-use Rattle.xid_answer.proofs.put_assignment_answer.Reads as put-assignment-answer-reads
 
 fewer-requires : tie.Need-fewer-requires
 fewer-requires c κs = search needs

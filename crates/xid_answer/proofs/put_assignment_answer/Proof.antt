@@ -1,14 +1,11 @@
 -- `xid_answer::put_assignment_answer` meets its promise: the opening and two triples, one behind the other.
 -- Assumes nothing.
+use Rattle.xid.specs.Addressing.{identityId}
 use Rattle.xid_answer.proofs.Stored.{length-triple, assignment-stored}
 use native.Mathlib.Omega.{arith}
 use borrow.Author.Needs.{needs}
 use Rattle.xid_answer.proofs.put_assignment_answer.Statement.{statement}
 use Rattle.xid_answer.proofs.put_assignment_answer.Tie as tie
-use Rattle.xid_answer.proofs.put_assignment_answer.Reads as reads
-use Rattle.xid_answer.proofs.put_assignment_answer.Lts as lts
-use Rattle.xid_answer.proofs.put_opening.Reads as put-opening-reads
-use Rattle.xid_answer.proofs.put_param.Reads as put-param-reads
 
 cast-put-opening : tie.Need-cast-put-opening
 cast-put-opening c = search needs
@@ -29,7 +26,7 @@ put-param-requires-2 : tie.Need-put-param-requires-2
 put-param-requires-2 c κs =
     let own = c .before .before .before .before in
     let start = own .before .before .before .before .before .before .before .before in
-    let long = length-triple 1 (start .args .identity .now) in
+    let long = length-triple identityId (start .args .identity .now) in
     (omega (arith, own .put-param .ensures .count, long, start .pre), omega arith)
 
 same-length : tie.Need-same-length

@@ -4,9 +4,6 @@ use Rattle.xid_answer.proofs.Stored.{opening-stored}
 use borrow.Author.Needs.{needs}
 use Rattle.xid_answer.proofs.put_opening.Statement.{statement}
 use Rattle.xid_answer.proofs.put_opening.Tie as tie
-use Rattle.xid_answer.proofs.put_opening.Reads as reads
-use Rattle.xid_answer.proofs.put_opening.Lts as lts
-use Rattle.octets.proofs.put.Reads as put-reads
 
 put-requires : tie.Need-put-requires
 put-requires c κs = search needs

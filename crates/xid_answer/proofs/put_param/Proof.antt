@@ -4,10 +4,6 @@ use Rattle.xid_answer.proofs.Stored.{param-stored}
 use borrow.Author.Needs.{needs}
 use Rattle.xid_answer.proofs.put_param.Statement.{statement}
 use Rattle.xid_answer.proofs.put_param.Tie as tie
-use Rattle.xid_answer.proofs.put_param.Reads as reads
-use Rattle.xid_answer.proofs.put_param.Lts as lts
-use Rattle.octets.proofs.put.Reads as put-reads
-use Rattle.octets.proofs.put_all.Reads as put-all-reads
 
 put-requires : tie.Need-put-requires
 put-requires c κs = search needs

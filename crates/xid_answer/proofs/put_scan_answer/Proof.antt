@@ -1,15 +1,12 @@
 -- `xid_answer::put_scan_answer` meets its promise: the opening and three triples, one behind the other.
 -- Assumes nothing.
+use Rattle.xid.specs.Addressing.{identityId, addressId}
 use Rattle.xid_answer.proofs.Stored.{length-triple, scan-stored}
 use native.Mathlib.Omega.{arith}
 use mathlib.Core.List.{[], _∷_}
 use borrow.Author.Needs.{needs}
 use Rattle.xid_answer.proofs.put_scan_answer.Statement.{statement}
 use Rattle.xid_answer.proofs.put_scan_answer.Tie as tie
-use Rattle.xid_answer.proofs.put_scan_answer.Reads as reads
-use Rattle.xid_answer.proofs.put_scan_answer.Lts as lts
-use Rattle.xid_answer.proofs.put_opening.Reads as put-opening-reads
-use Rattle.xid_answer.proofs.put_param.Reads as put-param-reads
 
 cast-put-opening : tie.Need-cast-put-opening
 cast-put-opening c = search needs
@@ -30,7 +27,7 @@ put-param-requires-2 : tie.Need-put-param-requires-2
 put-param-requires-2 c κs =
     let own = c .before .before .before .before in
     let start = own .before .before .before .before .before .before .before .before in
-    let long = length-triple 1 (start .args .identity .now) in
+    let long = length-triple identityId (start .args .identity .now) in
     (omega (arith, own .put-param .ensures .count, long, start .pre), omega arith)
 
 slice-aggregate-put-param-2 : tie.Need-slice-aggregate-put-param-2
@@ -41,8 +38,8 @@ put-param-requires-3 c κs =
     let from = c .before .before .before .before in
     let own = from .before .before .before .before .before in
     let start = own .before .before .before .before .before .before .before .before in
-    let long = length-triple 1 (start .args .identity .now) in
-    let more = length-triple 2 (start .args .address ∷ []) in
+    let long = length-triple identityId (start .args .identity .now) in
+    let more = length-triple addressId (start .args .address ∷ []) in
     let count = own .put-param .ensures .count in
     (omega (arith, from .put-param2 .ensures .count, more, count, long, start .pre), omega arith)
 

@@ -1,4 +1,4 @@
--- `compare::under_mask` meets its promise: what is left, masked, is what is left of the value exactly if all is.
+-- `xid::under_mask` meets its promise: what is left, masked, is what is left of the value exactly if all is.
 -- Assumes nothing.
 use borrow.Author.Needs.{needs}
 use mathlib.Core.Path.{_≡_, refl, sym, _∙_}
@@ -6,12 +6,10 @@ use Prim.Native.Nat.{_-_, _≤_}
 use lib.ListN.{drop}
 use Rattle.identity.specs.Bits.{masked}
 use Rattle.identity.specs.Identity.{same}
-use Rattle.compare.proofs.Laws.{same-differ, length-masked, masked-not, masked-more, masked-done}
-use Rattle.compare.proofs.under_mask.Statement.{statement}
-use Rattle.compare.proofs.under_mask.Tie as tie
-use Rattle.compare.proofs.under_mask.Reads as reads
-use Rattle.compare.proofs.under_mask.Lts as lts
-use Rattle.octets.proofs.fewer.Reads as fewer-reads
+use Rattle.compare.proofs.Laws.{same-differ}
+use Rattle.xid.proofs.Octetwise.{length-masked, masked-not, masked-more, masked-done}
+use Rattle.xid.proofs.under_mask.Statement.{statement}
+use Rattle.xid.proofs.under_mask.Tie as tie
 
 abbrev Inv-loop : tie.InvT-loop
 Inv-loop s mask value n i₀ i =

@@ -1,12 +1,9 @@
--- `compare::ends_with` meets its promise: the right-most octets are those from the start on. Assumes nothing.
-use Rattle.compare.proofs.Laws.{ends-longer, ends-right}
+-- `xid::ends_with` meets its promise: the right-most octets are those from the start on. Assumes nothing.
+use Rattle.xid.proofs.Octetwise.{ends-longer, ends-right}
 use mathlib.Core.Path.{_∙_}
 use borrow.Author.Needs.{needs}
-use Rattle.compare.proofs.ends_with.Statement.{statement}
-use Rattle.compare.proofs.ends_with.Tie as tie
-use Rattle.compare.proofs.ends_with.Reads as reads
-use Rattle.compare.proofs.ends_with.Lts as lts
-use Rattle.compare.proofs.same.Reads as same-reads
+use Rattle.xid.proofs.ends_with.Statement.{statement}
+use Rattle.xid.proofs.ends_with.Tie as tie
 
 returns : tie.Need-returns
 returns c = ends-longer _ _ (c .if1 .taken)

@@ -1,13 +1,13 @@
--- `compare::padded` meets its promise: what is left to pad comes to the same as all. Assumes nothing.
+-- `xid::padded` meets its promise: what is left to pad comes to the same as all. Assumes nothing.
 use borrow.Author.Needs.{needs}
 use mathlib.Core.Path.{_≡_, refl, _∙_}
 use Prim.Native.Nat.{_-_}
 use lib.ListN.{replicate}
 use lib.Seq.{sets}
 use Rattle.identity.specs.Identity.{width, blank}
-use Rattle.compare.proofs.Laws.{pad-more, pad-done, padded-is}
-use Rattle.compare.proofs.padded.Statement.{statement}
-use Rattle.compare.proofs.padded.Tie as tie
+use Rattle.xid.proofs.Octetwise.{pad-more, pad-done, padded-is}
+use Rattle.xid.proofs.padded.Statement.{statement}
+use Rattle.xid.proofs.padded.Tie as tie
 
 abbrev Inv-loop : tie.InvT-loop
 Inv-loop len row₀ i₀ row i = sets row i (replicate (width - i) blank) ≡ sets row₀ len (replicate (width - len) blank)

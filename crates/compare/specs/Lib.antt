@@ -1,2 +1,0 @@
--- What the other crates cite of rows compared.
-pub mod Rows
