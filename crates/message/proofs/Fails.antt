@@ -1,8 +1,8 @@
 -- The answer says a return code exactly if the checks give it: no success, and no other failure, looks like it.
 -- Assumes nothing.
 use mathlib.Core.Path.{_≡_, refl, sym, ap, _∙_}
-use mathlib.Core.Bool.{Bool, true, false, cond}
-use mathlib.Core.List.{List, []}
+use mathlib.Core.Bool.{Bool, true, false}
+use mathlib.Core.List.{List}
 use mathlib.Core.Logic.{_↔_}
 use Prim.Native.Nat.{ℕ, _≤_}
 use native.Mathlib.Omega.{arith}
@@ -15,17 +15,11 @@ use Rattle.refusal.proofs.Exactly.{exactly-given}
 use Rattle.antenna.specs.declared.Alarms.{Alarms}
 use Rattle.antenna.specs.declared.Angle.{Angle}
 use Rattle.antenna.specs.declared.Antenna.{Antenna}
-use Rattle.antenna.specs.declared.Aim.the-variants.{Started}
-use Rattle.antenna.specs.Alarms.{codesOf}
-use Rattle.antenna.specs.Motions.{started}
 use Rattle.record.specs.declared.Plate.{Plate}
-use Rattle.record.specs.Desk.{calm}
 use Rattle.payload.specs.Payloads.{payloadOf, messageOf, successOf, failureOf}
-use Rattle.tilt.specs.Tilts.{tiltOctets}
-use Rattle.information.specs.Information.{informationOf}
 use Rattle.message.specs.declared.Carried.{Carried}
 use Rattle.message.specs.Messages.{codeOf, askedOf, checks}
-use Rattle.message.specs.Carried.{replies, unanswered, quieted, doneBy, outcome, carriedOf}
+use Rattle.message.specs.Carried.{replies, unanswered, doneBy, outcome, carriedOf}
 
 -- the octet at a place of what is answered
 abbrev octetAt : ℕ → Carried → ℕ
@@ -35,23 +29,19 @@ module _ (p : Plate) (n : Antenna) (told : Alarms) (sub : Bool) where
   -- what is done is never answered by a failure: its fourth octet is 0x00
   done-says : (c : ℕ) (t : Angle) → octetAt 3 (doneBy p n told sub c t) ≡ 0
   unfolding doneBy replies unanswered payloadOf successOf messageOf _atStartOf_
-  done-says c t = go (eqb c 0x04) (eqb c 0x05) (eqb c 0x06) (eqb c 0x12) (eqb c 0x33) (eqb c 0x34)
+  done-says c t =
+      go (eqb c 0x04) refl (eqb c 0x05) refl (eqb c 0x06) refl (eqb c 0x12) refl (eqb c 0x33) refl (eqb c 0x34) refl
     where
-      go : (b₁ b₂ b₃ b₄ b₅ b₆ : Bool) → octetAt 3
-          (cond b₁ (replies (successOf 0x04 (codesOf (n .drive .raised .flags))) n told sub)
-          (cond b₂ (replies (successOf 0x05 (informationOf p)) n told sub)
-          (cond b₃ (replies (successOf 0x06 []) (quieted n) calm sub)
-          (cond b₄ (replies (successOf 0x12 []) n told true)
-          (cond b₅ (unanswered (started n t Started) told sub)
-          (cond b₆ (replies (successOf 0x34 (tiltOctets (n .drive .tilt))) n told sub) (unanswered n told sub)))))))
-          ≡ 0
-      go true b₂ b₃ b₄ b₅ b₆ = refl
-      go false true b₃ b₄ b₅ b₆ = refl
-      go false false true b₄ b₅ b₆ = refl
-      go false false false true b₅ b₆ = refl
-      go false false false false true b₆ = refl
-      go false false false false false true = refl
-      go false false false false false false = refl
+      go : (b₁ : Bool) → eqb c 0x04 ≡ b₁ → (b₂ : Bool) → eqb c 0x05 ≡ b₂ → (b₃ : Bool) → eqb c 0x06 ≡ b₃
+          → (b₄ : Bool) → eqb c 0x12 ≡ b₄ → (b₅ : Bool) → eqb c 0x33 ≡ b₅ → (b₆ : Bool) → eqb c 0x34 ≡ b₆
+          → octetAt 3 (doneBy p n told sub c t) ≡ 0
+      go true e₁ b₂ e₂ b₃ e₃ b₄ e₄ b₅ e₅ b₆ e₆ = rw e₁
+      go false e₁ true e₂ b₃ e₃ b₄ e₄ b₅ e₅ b₆ e₆ = rw (e₁, e₂)
+      go false e₁ false e₂ true e₃ b₄ e₄ b₅ e₅ b₆ e₆ = rw (e₁, e₂, e₃)
+      go false e₁ false e₂ false e₃ true e₄ b₅ e₅ b₆ e₆ = rw (e₁, e₂, e₃, e₄)
+      go false e₁ false e₂ false e₃ false e₄ true e₅ b₆ e₆ = rw (e₁, e₂, e₃, e₄, e₅)
+      go false e₁ false e₂ false e₃ false e₄ false e₅ true e₆ = rw (e₁, e₂, e₃, e₄, e₅, e₆)
+      go false e₁ false e₂ false e₃ false e₄ false e₅ false e₆ = rw (e₁, e₂, e₃, e₄, e₅, e₆)
 
   failure-says : (c k : ℕ) → octetAt 3 (replies (failureOf c k) n told sub) ≡ 0x0B
   unfolding replies payloadOf failureOf _atStartOf_
