@@ -22,6 +22,7 @@ pub use Rattle.whole_scan.proofs.Run.{run-ends}
 pub use Rattle.whole_scan.proofs.Exactly.{run-exactly, new-run-exactly}
 -- ---- XID: which payloads are scans and assignments, and whom they mean; the scanner's probe is a scan
 pub use Rattle.params.proofs.Exact.{params-exactly, one-reading}
+pub use Rattle.xid.proofs.Table.{table-exactly, is-scan-exactly, is-assignment-exactly}
 pub use Rattle.xid.proofs.Exactly.{scan-exactly, assignment-exactly, never-both, address-edge}
 pub use Rattle.xid.proofs.Probe.{probe-scan, probe-read}
 -- ---- why a device does not answer an XID frame: each condition, both ways, each number, both ways, and the device by them

@@ -5,6 +5,7 @@ pub mod Shapes
 pub mod Rows
 pub mod Judging
 pub mod Told
+pub mod Table
 pub mod Exactly
 pub mod Probe
 pub mod Examples

@@ -1,4 +1,5 @@
 -- Scans and assignments, of any device, in the words of 01: what the theorems of this crate speak of.
+--   Allows n k             == there is a parameter n, and it may have k octets
 --   ScanOf m v k           == the payload m is a scan for the value v under the mask k: "exactly 1 and 3, of equal
 --                             length"
 --   AssignmentOf m a x y z == the payload m is an assignment of the address value a: "2 present, 3 absent"; x, y and
@@ -19,6 +20,14 @@ use Rattle.identity.specs.Identity.{vendor, padded}
 use Rattle.params.specs.Field.{Param, WellFormed}
 use Rattle.xid.specs.Addressing.{addressing, valuesOf}
 use Rattle.xid.specs.Match.{deviceType, rightmost}
+
+-- "Identifiers 1 (identity, 1 to 19), 2 (address, 1), 3 (mask, 1 to 19), 4 (type, 1), 6 (vendor, 2)"
+pub data Allows (n k : ℕ) : Type 0 where
+  an-identity : n ≡ 1 → 1 ≤ k → k ≤ 19 → Allows n k
+  an-address : n ≡ 2 → k ≡ 1 → Allows n k
+  a-mask : n ≡ 3 → 1 ≤ k → k ≤ 19 → Allows n k
+  a-type : n ≡ 4 → k ≡ 1 → Allows n k
+  a-vendor : n ≡ 6 → k ≡ 2 → Allows n k
 
 pub record ScanOf (m v k : List ℕ) : Type 0 where
   pub params : List Param
