@@ -8,7 +8,7 @@ use native.Mathlib.Omega.{arith}
 use lib.Dec.{ltb, eqb}
 use lib.ListN.{length, take, drop, getD, set, length-take, drop-of-length-le}
 use lib.Seq.{sets, getD-take}
-use borrow.Author.Tests.{lt-ltb, le-ltb, eq-eqb, ne-eqb}
+use borrow.Author.Tests.{le-leb, lt-leb, eq-eqb, ne-eqb}
 use Rattle.octets.specs.Octets.{lastOf, placeOf}
 use Rattle.octets.proofs.Rest.{rest}
 use Rattle.octets.proofs.Words.{last-at, last-empty}
@@ -16,6 +16,7 @@ use Rattle.refusal.specs.declared.Outcome.{Outcome}
 use Rattle.refusal.specs.declared.Handed.{Handed}
 use Rattle.refusal.specs.Answer.{Changes, stateAfter, answered, Hands}
 use Rattle.refusal.proofs.Answers.{hands-is}
+use Rattle.frame.specs.Line.{frameLimit}
 use Rattle.frame.specs.Decode.{decoded}
 use Rattle.frame.specs.Write.{written}
 use Rattle.identity.specs.Identity.{allowedIdentity}
@@ -25,12 +26,14 @@ use Rattle.record.specs.Fresh.{freshOf, dataAllowed, textsAllowed, blankDevice}
 use Rattle.scan.specs.declared.Scan.{Scan}
 use Rattle.scan.specs.Scan.{fresh, probed, reported}
 use Rattle.script.specs.declared.Asked.{Asked}
+use Rattle.script.specs.Commands as command
 use Rattle.bus.specs.declared.Row.{Row}
 use Rattle.drives.specs.declared.Obeyed.{Obeyed}
 use Rattle.drives.specs.Drives.{After, Obeys, obeyed}
 use Rattle.mast.specs.Mast.{swept}
 use Rattle.bench.specs.Bench.{hexIn, valueIn, lentOf, rowDriven, rowAfter, scanAfter, handsOut}
 use Rattle.bench.specs.Written.{digitOf, hexed}
+use Rattle.bench.specs.Input.{lineKept, runMost}
 use Rattle.bench.specs.Input.{restOf, takenTo, lineTaken, refilled, anew, Run, afterRuns, Arrives, withoutReturn}
 use Rattle.bench.specs.declared.input.Input.{Input}
 
@@ -85,8 +88,8 @@ module _ (s : List ℕ) where
   return-other false h d = refl
 
 pub taken-is : (i : Input) {rest line : List ℕ} {n at from len : ℕ} → rest ≡ restOf i → n ≡ placeOf 0x0A rest
-    → line ≡ sets (i .line) (i .len) (take n rest) → at ≡ min (i .from + n) 4096 → from ≡ min (at + 1) 4096
-    → len ≡ min (i .len + n) 2002
+    → line ≡ sets (i .line) (i .len) (take n rest) → at ≡ min (i .from + n) runMost → from ≡ min (at + 1) runMost
+    → len ≡ min (i .len + n) lineKept
     → record { whole = ltb n (length rest); run = i .run; from = from; end = i .end; line = line; len = len } ≡ lineTaken i
 unfolding lineTaken takenTo
 taken-is i e f g h k l = rw (k, h, l, g, f, e)
@@ -113,19 +116,20 @@ module _ (i : Input) {next : Input} (reads : Reads (anew i) next) where
 -- ---- what is handed out
 
 module _ (c : ℕ) (s : Scan) (a : Asked) (room : ℕ) {o o' : List ℕ} {r : Handed} where
-  pub hands-probe : c ≡ 9 → Hands (probed s room) o r o' → Hands (handsOut c s a room) o r o'
+  pub hands-probe : c ≡ command.probe → Hands (probed s room) o r o' → Hands (handsOut c s a room) o r o'
   unfolding handsOut
-  hands-probe e = hands-is (rw (eq-eqb c 9 e))
+  hands-probe e = hands-is (rw (eq-eqb c command.probe e))
 
-  module _ {os : List ℕ} (n : c ≡ 9 → ⊥) (h : os ≡ hexIn a) where
-    pub hands-decode : c ≡ 11 → Hands (decoded 78 os room) o r o' → Hands (handsOut c s a room) o r o'
+  module _ {os : List ℕ} (n : c ≡ command.probe → ⊥) (h : os ≡ hexIn a) where
+    pub hands-decode : c ≡ command.decode → Hands (decoded frameLimit os room) o r o'
+        → Hands (handsOut c s a room) o r o'
     unfolding handsOut
-    hands-decode e = hands-is (rw (ne-eqb c 9 n, eq-eqb c 11 e, h))
+    hands-decode e = hands-is (rw (ne-eqb c command.probe n, eq-eqb c command.decode e, h))
 
-    pub hands-write : {x y : ℕ} → (c ≡ 11 → ⊥) → x ≡ valueIn a 1 % 256 → y ≡ valueIn a 2 % 256
-        → Hands (written 78 x y os room) o r o' → Hands (handsOut c s a room) o r o'
+    pub hands-write : {x y : ℕ} → (c ≡ command.decode → ⊥) → x ≡ valueIn a 1 % 256 → y ≡ valueIn a 2 % 256
+        → Hands (written frameLimit x y os room) o r o' → Hands (handsOut c s a room) o r o'
     unfolding handsOut
-    hands-write m e f = hands-is (rw (ne-eqb c 9 n, ne-eqb c 11 m, e, f, h))
+    hands-write m e f = hands-is (rw (ne-eqb c command.probe n, ne-eqb c command.decode m, e, f, h))
 
 -- ---- the row
 
@@ -143,29 +147,30 @@ driven-is c row a e f h =
     ∙ ap₂ (λ (os o : List ℕ). obeyed c row (a .values) os o .after .row) e f
 
 module _ (c : ℕ) (row : Row) (a : Asked) where
-  pub row-driven : c < 7 → rowDriven c row a ≡ rowAfter c row a
+  pub row-driven : c ≤ command.device → rowDriven c row a ≡ rowAfter c row a
   unfolding rowAfter
-  row-driven h = rw (lt-ltb c 7 h)
+  row-driven h = rw (le-leb c command.device h)
 
-  pub row-swept : {v : ℕ} → 7 ≤ c → c ≡ 7 → v ≡ valueIn a 1 → swept row (v % 65536) .row ≡ rowAfter c row a
+  pub row-swept : command.device < c → c ≡ command.scan → swept row (valueIn a 1 % 65536) .row ≡ rowAfter c row a
   unfolding rowAfter
-  row-swept h e f = rw (le-ltb c 7 h, eq-eqb c 7 e, f)
+  row-swept h e = rw (lt-leb c command.device h, eq-eqb c command.scan e)
 
-  pub row-kept : 7 ≤ c → (c ≡ 7 → ⊥) → row ≡ rowAfter c row a
+  pub row-kept : command.device < c → (c ≡ command.scan → ⊥) → row ≡ rowAfter c row a
   unfolding rowAfter
-  row-kept h n = rw (le-ltb c 7 h, ne-eqb c 7 n)
+  row-kept h n = rw (lt-leb c command.device h, ne-eqb c command.scan n)
 
 -- ---- the scan by hand
 
 module _ (c : ℕ) (s : Scan) (v : ℕ) where
-  pub scan-begun : {w : ℕ} → c ≡ 8 → w ≡ v → fresh (w % 65536) ≡ scanAfter c s v
+  pub scan-begun : c ≡ command.begin → fresh (v % 65536) ≡ scanAfter c s v
   unfolding scanAfter
-  scan-begun e f = rw (eq-eqb c 8 e, f)
+  scan-begun e = rw (eq-eqb c command.begin e)
 
-  pub scan-reported : {w : ℕ} → (c ≡ 8 → ⊥) → c ≡ 10 → w ≡ v → stateAfter (reported s (eqb w 1)) s ≡ scanAfter c s v
+  pub scan-reported : (c ≡ command.begin → ⊥) → c ≡ command.report
+      → stateAfter (reported s (eqb v 1)) s ≡ scanAfter c s v
   unfolding scanAfter
-  scan-reported n e f = rw (ne-eqb c 8 n, eq-eqb c 10 e, f)
+  scan-reported n e = rw (ne-eqb c command.begin n, eq-eqb c command.report e)
 
-  pub scan-kept : (c ≡ 8 → ⊥) → (c ≡ 10 → ⊥) → s ≡ scanAfter c s v
+  pub scan-kept : (c ≡ command.begin → ⊥) → (c ≡ command.report → ⊥) → s ≡ scanAfter c s v
   unfolding scanAfter
-  scan-kept n m = rw (ne-eqb c 8 n, ne-eqb c 10 m)
+  scan-kept n m = rw (ne-eqb c command.begin n, ne-eqb c command.report m)

@@ -1,8 +1,8 @@
 // `probe`, `decode` and `write`: octets at the start of a lent output, and the whole of that. Assumes nothing of the
 // caller.
-ghost use lib.ListN.{length, take};
+ghost use lib.ListN.{length};
 ghost use Rattle.refusal.specs.Answer.{Hands};
-ghost use Rattle.bench.specs.Bench.{handsOut, hexIn};
+ghost use Rattle.bench.specs.Bench.{handsOut};
 use crate::answers;
 use crate::answers::FILL;
 use crate::answers::ROOM;
@@ -16,15 +16,15 @@ fn handed_by(scan: Scan, command: usize, asked: Asked, lent: &mut [u8]) -> Hande
     ensures { λ r. ⌜ Hands (handsOut command scan asked (length (now (lent .entry)))) (now (lent .entry)) r
         (now (lent .exit)) ⌝ }
 {
-    if command == 9 {
+    if command == script::PROBE {
         return scan::probe(scan, lent);
     }
     let values = asked.values;
-    let hex = rows::part(&asked.octets, 0, asked.len as usize);
-    if command == 11 {
+    let hex = script::part(&asked.octets, 0, asked.len as usize);
+    if command == script::DECODE {
         return frame::decode(hex, lent);
     }
-    writer::write(rows::octet(values, 1), rows::octet(values, 2), hex, lent)
+    writer::write(rows::octet(values[1]), rows::octet(values[2]), hex, lent)
 }
 
 // The word for what was handed out, and the whole of the lent output.
@@ -39,16 +39,16 @@ fn hand_out(scan: Scan, command: usize, asked: Asked, room: usize) {
     answers::say_buffer(lent, room);
 }
 
-// The commands at the places 9, 11 and 12.
+// Any other command hands out nothing.
 pub fn obey(scan: Scan, command: usize, asked: Asked) {
     let values = asked.values;
-    if command == 9 {
-        return hand_out(scan, command, asked, rows::value(values, 1));
+    if command == script::PROBE {
+        return hand_out(scan, command, asked, values[1]);
     }
-    if command == 11 {
-        return hand_out(scan, command, asked, rows::value(values, 2));
+    if command == script::DECODE {
+        return hand_out(scan, command, asked, values[2]);
     }
-    if command == 12 {
-        hand_out(scan, command, asked, rows::value(values, 4));
+    if command == script::WRITE {
+        hand_out(scan, command, asked, values[4]);
     }
 }

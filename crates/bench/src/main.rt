@@ -24,10 +24,10 @@ use script::Asked;
 use script::Line;
 use terms::Term;
 
-// Behind the places of the 13 commands: a line with a fault, and one that gets no answer.
-const NONE: usize = 13;
+// Behind the places of the commands: a line with a fault, and one that gets no answer.
+const FAULTY: usize = script::COMMANDS;
 
-const NOTHING: usize = 14;
+const UNANSWERED: usize = script::COMMANDS + 1;
 
 // No device, so the blank record of a refusal everywhere.
 fn no_devices() -> Row
@@ -52,16 +52,16 @@ fn no_devices() -> Row
     }
 }
 
-// The command that a line asks for, by its place among the names. One with a fault, which is said, asks for none of the
-// 13, and one that gets no answer for nothing.
+// The command that a line asks for. One with a fault, which is said, asks for none, and one that gets no answer for
+// nothing.
 fn command_of(line: Line) -> usize
     ensures { λ r. ⌜ r ≡ commandIn line ⌝ }
 {
     match line {
-        Line::Silent => NOTHING,
+        Line::Silent => UNANSWERED,
         Line::Faulty(fault) => {
             answers::say(Term::Fault(fault));
-            NONE
+            FAULTY
         }
         Line::Asks(command) => command,
     }
@@ -83,14 +83,14 @@ fn say_behind(answer: Answer, row: Row, lent: [u8; answers::ROOM], room: usize) 
     }
 }
 
-// The commands at the places 0 to 6.
+// The commands of `drives`: to a device, and `device`.
 fn drive(row: Row, command: usize, asked: Asked) -> Row
     ensures { λ r. ⌜ r ≡ rowDriven command row asked ⌝ }
 {
     let values = asked.values;
-    let room = rows::value(values, 3);
+    let room = values[3];
     let mut lent = [answers::FILL; answers::ROOM];
-    let hex = rows::part(&asked.octets, 0, asked.len as usize);
+    let hex = script::part(&asked.octets, 0, asked.len as usize);
     let obeyed = drives::obey(row, command, values, hex, rows::front(&mut lent, room));
     let answer = obeyed.answer;
     let next = obeyed.row;
@@ -112,18 +112,18 @@ fn sweep(row: Row, limit: usize) -> Row
 fn obey(row: Row, command: usize, asked: Asked) -> Row
     ensures { λ r. ⌜ r ≡ rowAfter command row asked ⌝ }
 {
-    if command < 7 {
+    if command <= script::DEVICE {
         return drive(row, command, asked);
     }
-    if command == 7 {
+    if command == script::SCAN {
         let values = asked.values;
-        return sweep(row, rows::value(values, 1));
+        return sweep(row, values[1]);
     }
     row
 }
 
 fn end_answer(command: usize) {
-    if command < NOTHING {
+    if command < UNANSWERED {
         answers::say_octets(b"\n");
     }
 }

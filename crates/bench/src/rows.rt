@@ -1,32 +1,13 @@
-// Parts of rows of octets, and the values of a line's words. Total, so nothing is assumed of the caller.
+// Places in rows of octets. Total, so nothing is assumed of the caller.
 ghost use mathlib.Core.Path.{_≡_};
 ghost use Prim.Native.Nat.{_+_, _%_, min};
-ghost use lib.ListN.{getD, take, drop};
+ghost use lib.ListN.{take};
 
-// The value of a word by its place, 0 past the last.
-pub fn value(values: [usize; 8], place: usize) -> usize
-    ensures { λ r. ⌜ r ≡ getD values place 0 ⌝ }
+// The octet of a number, its last 8 bits.
+pub fn octet(value: usize) -> u8
+    ensures { λ r. ⌜ r ≡ value % 256 ⌝ }
 {
-    if place < 8 {
-        return values[place];
-    }
-    0
-}
-
-// An octet, of a word of two hex digits.
-pub fn octet(values: [usize; 8], place: usize) -> u8
-    ensures { λ r. ⌜ r ≡ getD values place 0 % 256 ⌝ }
-{
-    (value(values, place) % 256) as u8
-}
-
-// Part of a row, as far as there is any.
-pub fn part(s: &[u8], from: usize, end: usize) -> &[u8]
-    ensures { λ r. ⌜ now r ≡ drop from (take end (now (s .entry))) ⌝ }
-{
-    let last = octets::fewer(end, s.len());
-    let first = octets::fewer(from, last);
-    &s[first..last]
+    (value % 256) as u8
 }
 
 // The first octets of a row, to be written to; all of it where it is shorter.

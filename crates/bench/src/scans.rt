@@ -5,7 +5,6 @@ ghost use Rattle.refusal.specs.Answer.{stateAfter};
 ghost use Rattle.scan.specs.Scan.{reported};
 ghost use Rattle.bench.specs.Bench.{scanAfter};
 use crate::answers;
-use crate::rows;
 use crate::scanned;
 use refusal::Outcome;
 use scan::Scan;
@@ -28,17 +27,17 @@ fn report(scan: Scan, heard: bool) -> Scan
     scan
 }
 
-// The commands at the places 8 and 10; any other leaves the scan alone.
+// Any other command leaves the scan alone.
 pub fn by_hand(scan: Scan, command: usize, asked: Asked) -> Scan
     ensures { λ r. ⌜ r ≡ scanAfter command scan (getD (asked .values) 1 0) ⌝ }
 {
     let values = asked.values;
-    let value = rows::value(values, 1);
-    if command == 8 {
+    let value = values[1];
+    if command == script::BEGIN {
         answers::say(Term::Begun);
         return scanner::new((value % 65536) as u16);
     }
-    if command == 10 {
+    if command == script::REPORT {
         return report(scan, value == 1);
     }
     scan

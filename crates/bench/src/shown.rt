@@ -2,7 +2,6 @@
 ghost use mathlib.Core.Path.{_≡_};
 ghost use Rattle.conduct.specs.Endings.{pendingIn};
 use crate::answers;
-use crate::rows;
 use antenna::Alarms;
 use antenna::Motion;
 use record::Desk;
@@ -28,7 +27,7 @@ fn say_link(link: Link) {
 
 // The octets of a payload, from a place on.
 fn say_payload(mark: u8, payload: Payload, from: usize) {
-    answers::say_hex(mark, rows::part(&payload.octets, from, payload.len));
+    answers::say_hex(mark, script::part(&payload.octets, from, payload.len));
 }
 
 fn pending_of(link: Link) -> Pending

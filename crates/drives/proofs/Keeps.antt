@@ -4,12 +4,14 @@ use mathlib.Core.Path.{_≡_, refl, ap}
 use mathlib.Core.Bool.{Bool, true, false, cond, false≢true}
 use mathlib.Core.List.{List, [], _∷_}
 use Prim.Native.Nat.{ℕ, zero, suc, _-_}
-use lib.Dec.{ltb, leb, eqb}
+use lib.Dec.{leb, eqb}
 use lib.ListN.{length, getD, set}
 use Rattle.refusal.specs.Answer.{Answer, gives, refuses, settled, stateAfter}
 use Rattle.record.specs.declared.Device.{Device}
 use Rattle.device.specs.Judge.{Reaction, toldOf, deviceAfter, bufferAfter}
 use Rattle.bus.specs.declared.Row.{Row}
+use Rattle.bus.specs.Cable.{rowMost}
+use Rattle.script.specs.Commands as command
 use Rattle.drives.specs.Drives.{Reply, noCommand, noDevice, full, device, outcome, answer, state, After, Came}
 use Rattle.drives.specs.Drives.{_saying_, _leaving_, withDevice, deviceAt, isDevice, listens, tells, happens, befalls}
 use Rattle.drives.specs.Drives.{freshBy, added, adds, drives, toDevice, obeyed}
@@ -79,8 +81,8 @@ module _ (row : Row) where
     drives-keeps : (c place v : ℕ) (os : List ℕ) → KeepsIf row o (drives c row place v os o)
     unfolding drives
     drives-keeps c place v os =
-        either (ltb c 2) (tells-keeps place (listens c (deviceAt row place) os (length o)))
-        (either (eqb c 2) unchanged
+        either (leb c command.hear) (tells-keeps place (listens c (deviceAt row place) os (length o)))
+        (either (eqb c command.show) unchanged
         (leaving-keeps (befalls-keeps place (happens (deviceAt row place) c v))))
 
     device-keeps : (c k v : ℕ) (os : List ℕ) → KeepsIf row o (toDevice c row k v os o)
@@ -90,12 +92,12 @@ module _ (row : Row) where
 
     adds-keeps : (v os : List ℕ) → RowIf row (adds row v os)
     unfolding adds
-    adds-keeps v os = either-row (leb 32 (row .count)) (record { kept = λ e. refl }) (added-keeps (freshBy v os))
+    adds-keeps v os = either-row (leb rowMost (row .count)) (record { kept = λ e. refl }) (added-keeps (freshBy v os))
 
     pub no-keeps : (c : ℕ) (v os : List ℕ) → isNo (obeyed c row v os o .after .reply) ≡ true
         → (obeyed c row v os o .after .row ≡ row) × (obeyed c row v os o .lent ≡ o)
     unfolding obeyed
     no-keeps c v os =
-        let kept = either (ltb c 6) (device-keeps c (getD v 1 0) (getD v 2 0) os)
-        (either (eqb c 6) (leaving-keeps (adds-keeps v os)) unchanged) in
+        let kept = either (leb c command.clear) (device-keeps c (getD v 1 0) (getD v 2 0) os)
+        (either (eqb c command.device) (leaving-keeps (adds-keeps v os)) unchanged) in
         kept .kept

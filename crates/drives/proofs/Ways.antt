@@ -2,12 +2,11 @@
 use mathlib.Core.Path.{_≡_, refl, sym, ap, ap₂, _∙_}
 use mathlib.Core.Bool.{Bool, true, false, not, _&&_}
 use mathlib.Core.List.{List, [], _∷_}
-use Prim.Native.Nat.{ℕ, zero, suc, _+_, _-_, _≤_, _<_, min}
+use Prim.Native.Nat.{ℕ, zero, suc, _+_, _-_, _≤_, _<_}
 use native.Mathlib.Omega.{arith}
 use lib.Dec.{leb, eqb}
-use borrow.Author.Tests.{lt-ltb, le-ltb, lt-leb, eq-eqb, ne-eqb, leb-true, ltb-true, eqb-false, not-true}
-use lib.ListN.{length, take, drop, getD, set}
-use Rattle.octets.proofs.Takes.{take-room}
+use borrow.Author.Tests.{le-leb, lt-leb, eq-eqb, ne-eqb, leb-true, ltb-true, eqb-false, not-true}
+use lib.ListN.{length, getD, set}
 use Rattle.identity.proofs.Identities.{and-parts}
 use Rattle.refusal.specs.declared.Outcome.{Outcome}
 use Rattle.refusal.specs.declared.Outcome.the-variants.{Done, Refused}
@@ -22,36 +21,16 @@ use Rattle.device.specs.declared.Said.{Said}
 use Rattle.device.specs.declared.Judged.{Judged}
 use Rattle.device.specs.Judge.{Reaction, judged, heard, Judges}
 use Rattle.bus.specs.declared.Row.{Row}
+use Rattle.bus.specs.Cable.{rowMost}
+use Rattle.script.specs.Words.{partOf}
+use Rattle.script.specs.Commands as command
 use Rattle.drives.specs.declared.Answer.the-variants as code
 use Rattle.drives.specs.declared.Obeyed.{Obeyed}
-use Rattle.drives.specs.Drives.{After, Came, Obeys, noDevice, noCommand, device, outcome, answer, state}
-use Rattle.drives.specs.Drives.{_saying_, _leaving_, replyOf, afterOf, isDevice, deviceAt, withDevice, textIn, tiltOf}
-use Rattle.drives.specs.Drives.{listens, tells, isValue, eventOf, happens, befalls, areTilts, freshWith, freshBy, added}
-use Rattle.drives.specs.Drives.{adds, drives, toDevice, obeyed}
+use Rattle.drives.specs.Drives.{After, Came, Obeys, noDevice, device, outcome, answer, state}
+use Rattle.drives.specs.Drives.{_saying_, _leaving_, replyOf, afterOf, isDevice, deviceAt, withDevice, value}
+use Rattle.drives.specs.Drives.{tiltOf, listens, tells, isValue, eventOf, happens, befalls, areTilts, freshWith}
+use Rattle.drives.specs.Drives.{freshBy, added, adds, drives, toDevice, obeyed}
 use Rattle.drives.specs.Steps.{putBack}
-
--- ---- words
-
--- no more octets than there are
-pub part-is : (from end : ℕ) (s : List ℕ) {n m : ℕ} → n ≡ min end (length s) → m ≡ min from n
-    → take (n - m) (drop m s) ≡ drop from (take end s)
-part-is zero end s {n} {m} e f =
-    let z : m ≡ 0 = omega arith in
-    let y : n - m ≡ min (length s) end = omega arith in
-    ap₂ (λ (i j : ℕ). take i (drop j s)) y z ∙ take-room s end
-part-is (suc from) zero s {n} {m} e f =
-    let z : m ≡ 0 = omega arith in
-    let y : n - m ≡ 0 = omega arith in
-    ap₂ (λ (i j : ℕ). take i (drop j s)) y z
-part-is (suc from) (suc end) [] {n} {m} e f =
-    let z : m ≡ 0 = omega arith in
-    let y : n - m ≡ 0 = omega arith in
-    ap₂ (λ (i j : ℕ). take i (drop j [])) y z
-part-is (suc from) (suc end) (x ∷ s) {n} {m} e f =
-    let n' : ℕ = min end (length s) in
-    let z : m ≡ suc (min from n') = omega arith in
-    let y : n - m ≡ n' - min from n' = omega arith in
-    ap₂ (λ (i j : ℕ). take i (drop j (x ∷ s))) y z ∙ part-is from end s refl refl
 
 -- ---- a place
 
@@ -61,25 +40,25 @@ stands [] i d z h = absurd (omega arith)
 stands (x ∷ l) zero d z h = refl
 stands (x ∷ l) (suc i) d z h = stands l i d z (omega arith)
 
-pub device-place : (n k : ℕ) {b : Bool} → b ≡ isDevice n k → b ≡ true → (1 ≤ k) × (k - 1 < 32)
+pub device-place : (n k : ℕ) {b : Bool} → b ≡ isDevice n k → b ≡ true → (1 ≤ k) × (k - 1 < rowMost)
 unfolding isDevice
 device-place n k e t =
-    let (first, rest) = and-parts (not (eqb k 0)) (leb k 32 && leb k n) (sym e ∙ t) in
-    let (few, _) = and-parts (leb k 32) (leb k n) rest in
+    let (first, rest) = and-parts (not (eqb k 0)) (leb k rowMost && leb k n) (sym e ∙ t) in
+    let (few, _) = and-parts (leb k rowMost) (leb k n) rest in
     let some = eqb-false k 0 (not-true (eqb k 0) first) in
-    let most = leb-true k 32 few in
+    let most = leb-true k rowMost few in
     (omega (arith, some), omega (arith, some))
 
 -- ---- frames and events
 
 module _ (c : ℕ) (d : Device) (os : List ℕ) (n : ℕ) {o o' : List ℕ} {j : Judged} where
-  pub listens-frame : c ≡ 0 → Judges (judged d os n) d o j o' → Judges (listens c d os n) d o j o'
+  pub listens-frame : c ≡ command.frame → Judges (judged d os n) d o j o' → Judges (listens c d os n) d o j o'
   unfolding listens
-  listens-frame e h = rw (eq-eqb c 0 e) h
+  listens-frame e h = rw (eq-eqb c command.frame e) h
 
-  pub listens-line : (c ≡ 0 → ⊥) → Judges (heard d os n) d o j o' → Judges (listens c d os n) d o j o'
+  pub listens-line : (c ≡ command.frame → ⊥) → Judges (heard d os n) d o j o' → Judges (listens c d os n) d o j o'
   unfolding listens
-  listens-line e h = rw (ne-eqb c 0 e) h
+  listens-line e h = rw (ne-eqb c command.frame e) h
 
 pub tells-is : (row : Row) (place : ℕ) (x : Answer Reaction) {o o' : List ℕ} {j : Judged} {r : Obeyed}
     → Judges x (deviceAt row place) o j o' → r ≡ putBack row place (j .device) (code.Said (j .said))
@@ -116,9 +95,9 @@ pub befalls-at : (row : Row) (place c v : ℕ) {d d' : Device} {u : Outcome} {r 
 befalls-at row place c v e h p = befalls-is row place (happens (deviceAt row place) c v) (rw e at h) p
 
 -- an alarm that is a value is an octet
-pub alarm-octet : (c v : ℕ) → isValue c v ≡ true → (c ≡ 3 → ⊥) → v < 256
+pub alarm-octet : (c v : ℕ) → isValue c v ≡ true → (c ≡ command.stopped → ⊥) → v < 256
 unfolding isValue
-alarm-octet c v h e = ltb-true v 256 (rw (ne-eqb c 3 e) at h)
+alarm-octet c v h e = ltb-true v 256 (rw (ne-eqb c command.stopped e) at h)
 
 module _ (d : Device) (c v : ℕ) where
   -- a value that is one makes an event like any other
@@ -137,16 +116,14 @@ module _ (d : Device) (c v : ℕ) where
 -- ---- one more device
 
 -- the texts and the tilts of the words
-pub fresh-by : (v os : List ℕ) {v1 v2 v3 v4 v5 v6 v7 : ℕ} {i p h s : List ℕ} {l m t : Angle} {u : Outcome} {d : Device}
-    → v1 ≡ getD v 1 0 → v2 ≡ getD v 2 0 → v3 ≡ getD v 3 0 → v4 ≡ getD v 4 0
-    → v5 ≡ getD v 5 0 → v6 ≡ getD v 6 0 → v7 ≡ getD v 7 0
-    → i ≡ textIn os 0 v1 → p ≡ textIn os v1 v2 → h ≡ textIn os v2 v3 → s ≡ textIn os v3 v4
-    → l ≡ tiltOf v5 → m ≡ tiltOf v6 → t ≡ tiltOf v7
+pub fresh-by : (v os : List ℕ) {i p h s : List ℕ} {l m t : Angle} {u : Outcome} {d : Device}
+    → i ≡ partOf 0 (value v 1) os → p ≡ partOf (value v 1) (value v 2) os
+    → h ≡ partOf (value v 2) (value v 3) os → s ≡ partOf (value v 3) (value v 4) os
+    → l ≡ tiltOf (value v 5) → m ≡ tiltOf (value v 6) → t ≡ tiltOf (value v 7)
     → Changes (freshOf i p h s (record { lowest = l; highest = m; present = t })) blankDevice u d
     → Changes (freshWith v os) blankDevice u d
 unfolding freshWith
-fresh-by v os e1 e2 e3 e4 e5 e6 e7 ei ep eh es el em et c =
-    rw (ei, ep, eh, es, el, em, et, e1, e2, e3, e4, e5, e6, e7) at c
+fresh-by v os ei ep eh es el em et c = rw (ei, ep, eh, es, el, em, et) at c
 
 module _ (row : Row) where
   pub added-refused : (x : Answer Device) {z d : Device} {u : Outcome} {k : _} → Changes x z u d → u ≡ Refused k
@@ -171,14 +148,14 @@ module _ (row : Row) where
       (h .state)
   added-done (refuses j) h e = absurd (gives-not-refuses (sym (ap outcomeOf e) ∙ h .outcome))
 
-  module _ (v os : List ℕ) (h : row .count < 32) {b : Bool} (e : b ≡ areTilts v) where
+  module _ (v os : List ℕ) (h : row .count < rowMost) {b : Bool} (e : b ≡ areTilts v) where
     pub adds-open : b ≡ true → added row (freshWith v os) ≡ adds row v os
     unfolding adds freshBy
-    adds-open t = let y : areTilts v ≡ true = sym e ∙ t in rw (lt-leb 32 (row .count) h, y)
+    adds-open t = let y : areTilts v ≡ true = sym e ∙ t in rw (lt-leb rowMost (row .count) h, y)
 
     pub adds-shut : b ≡ false → row saying outcome (refuses 6) ≡ adds row v os
     unfolding adds freshBy added
-    adds-shut t = let y : areTilts v ≡ false = sym e ∙ t in rw (lt-leb 32 (row .count) h, y)
+    adds-shut t = let y : areTilts v ≡ false = sym e ∙ t in rw (lt-leb rowMost (row .count) h, y)
 
 -- ---- which way
 
@@ -193,20 +170,21 @@ obeys-by e h = record { after = h .after ∙ ap after e; lent = h .lent ∙ ap l
 
 module _ (c : ℕ) (row : Row) (os o : List ℕ) where
   module _ (place v : ℕ) where
-    pub drives-tells : c < 2 → tells row place (listens c (deviceAt row place) os (length o)) o ≡ drives c row place v os o
+    pub drives-tells : c ≤ command.hear
+        → tells row place (listens c (deviceAt row place) os (length o)) o ≡ drives c row place v os o
     unfolding drives
-    drives-tells h = rw (lt-ltb c 2 h)
+    drives-tells h = rw (le-leb c command.hear h)
 
-    pub drives-state : c ≡ 2 → (row saying state place) leaving o ≡ drives c row place v os o
+    pub drives-state : c ≡ command.show → (row saying state place) leaving o ≡ drives c row place v os o
     unfolding drives
-    drives-state h = rw (le-ltb c 2 (omega arith), eq-eqb c 2 h)
+    drives-state h = rw (lt-leb c command.hear (omega arith), eq-eqb c command.show h)
 
-    pub drives-event : 2 ≤ c → (c ≡ 2 → ⊥)
+    pub drives-event : command.hear < c → (c ≡ command.show → ⊥)
         → befalls row place (happens (deviceAt row place) c v) leaving o ≡ drives c row place v os o
     unfolding drives
-    drives-event h e = rw (le-ltb c 2 h, ne-eqb c 2 e)
+    drives-event h e = rw (lt-leb c command.hear h, ne-eqb c command.show e)
 
-    pub event-obeys : {r : Obeyed} → 2 ≤ c → (c ≡ 2 → ⊥)
+    pub event-obeys : {r : Obeyed} → command.hear < c → (c ≡ command.show → ⊥)
         → afterOf r ≡ befalls row place (happens (deviceAt row place) c v) → Obeys (drives c row place v os o) r o
     event-obeys h n a = obeys-by (drives-event h n) (record { after = a; lent = refl })
 
@@ -220,15 +198,15 @@ module _ (c : ℕ) (row : Row) (os o : List ℕ) where
     no-device t = let y : isDevice (row .count) k ≡ false = sym e ∙ t in rw y
 
   module _ (v : List ℕ) where
-    pub obeyed-device : {k w : ℕ} → c < 6 → k ≡ getD v 1 0 → w ≡ getD v 2 0
-        → toDevice c row k w os o ≡ obeyed c row v os o
+    pub obeyed-device : c ≤ command.clear → toDevice c row (value v 1) (value v 2) os o ≡ obeyed c row v os o
     unfolding obeyed
-    obeyed-device h e f = rw (lt-ltb c 6 h) (ap₂ (λ (k w : ℕ). toDevice c row k w os o) e f)
+    obeyed-device h = rw (le-leb c command.clear h)
 
-    pub obeyed-adds : c ≡ 6 → adds row v os leaving o ≡ obeyed c row v os o
+    pub obeyed-adds : c ≡ command.device → adds row v os leaving o ≡ obeyed c row v os o
     unfolding obeyed
-    obeyed-adds h = rw (le-ltb c 6 (omega arith), eq-eqb c 6 h)
+    obeyed-adds h = rw (lt-leb c command.clear (omega arith), eq-eqb c command.device h)
 
-    pub obeys-none : 6 ≤ c → (c ≡ 6 → ⊥) → Obeys (obeyed c row v os o) (record { row = row; answer = code.NoCommand }) o
+    pub obeys-none : command.clear < c → (c ≡ command.device → ⊥)
+        → Obeys (obeyed c row v os o) (record { row = row; answer = code.NoCommand }) o
     unfolding obeyed replyOf
-    obeys-none h e = rw (le-ltb c 6 h, ne-eqb c 6 e) (record { after = refl; lent = refl })
+    obeys-none h e = rw (lt-leb c command.clear h, ne-eqb c command.device e) (record { after = refl; lent = refl })

@@ -1,7 +1,7 @@
 -- The bench's row of drives. bench-script.md: its table, from `device` to `show`.
 --   Reply             == an answer, in the script's words
 --   After             == the row after a command, and the answer to it; Came == that, and the lent output, BUFFER
---   value v n         == what the word n stands for; textIn os from end == the octets of one HEX word of several
+--   value v n         == what the word n stands for
 --   isTilt v          == the number v is a tilt's pattern; tiltOf v == that tilt; areTilts v == the three of `device` are
 --   freshWith v os    == the fresh device of the words; freshBy v os == that, or 6 for a number that is no tilt
 --   adds row v os     == `device`: one more, if there is room and its data is allowed
@@ -19,7 +19,7 @@ use mathlib.Core.List.{List, [], _∷_}
 use mathlib.Core.Option.{Option}
 use Prim.Native.Nat.{ℕ, _+_, _-_}
 use lib.Dec.{ltb, leb, eqb}
-use lib.ListN.{length, getD, set, take, drop}
+use lib.ListN.{length, getD, set}
 use Rattle.octets.specs.Octets.{lowOf, highOf}
 use Rattle.refusal.specs.Answer.{Answer, gives, refuses, _when_, answered, outcomeOf, settled, stateAfter}
 use Rattle.antenna.specs.declared.Angle.{Angle}
@@ -32,6 +32,9 @@ use Rattle.record.specs.Allowed.{allowedDevice}
 use Rattle.record.specs.Changes.{canBe, afterEvent, withAntenna}
 use Rattle.device.specs.Judge.{Reaction, judged, heard, saidOf, toldOf, deviceAfter, bufferAfter}
 use Rattle.bus.specs.declared.Row.{Row}
+use Rattle.bus.specs.Cable.{rowMost}
+use Rattle.script.specs.Words.{partOf}
+use Rattle.script.specs.Commands as command
 use Rattle.drives.specs.declared.Answer as the-answer
 use Rattle.drives.specs.declared.Answer.the-variants as code
 use Rattle.drives.specs.declared.Obeyed.{Obeyed}
@@ -70,10 +73,6 @@ x leaving o = record { after = x; lent = o }
 abbrev pub value : List ℕ → ℕ → ℕ
 value v n = getD v n 0
 
--- from where the one before it ends to where it does
-abbrev pub textIn : List ℕ → ℕ → ℕ → List ℕ
-textIn os from end = drop from (take end os)
-
 -- a tilt's value is its pattern of 16 bits; 01: "in tenths of a degree, signed 16 bits"
 unfoldable pub isTilt : ℕ → Bool
 isTilt v = ltb v 65536
@@ -83,17 +82,14 @@ tiltOf v = angleOf (lowOf v) (highOf v)
 
 -- ---- `device IDENTITY PRODUCT HARDWARE SOFTWARE LOWEST HIGHEST PRESENT`
 
--- "up to 32 tilt drives"
-abbrev pub most : ℕ
-most = 32
-
+-- each text from where the one before it ends to where it does
 unfoldable pub freshWith : List ℕ → List ℕ → Answer Device
 freshWith v os =
     freshOf
-    (textIn os 0 (value v 1))
-    (textIn os (value v 1) (value v 2))
-    (textIn os (value v 2) (value v 3))
-    (textIn os (value v 3) (value v 4))
+    (partOf 0 (value v 1) os)
+    (partOf (value v 1) (value v 2) os)
+    (partOf (value v 2) (value v 3) os)
+    (partOf (value v 3) (value v 4) os)
     (record { lowest = tiltOf (value v 5); highest = tiltOf (value v 6); present = tiltOf (value v 7) })
 
 unfoldable pub areTilts : List ℕ → Bool
@@ -109,15 +105,15 @@ added row (refuses k) = row saying outcome (refuses k)
 added row (gives d) =
     record { devices = set (row .devices) (row .count) d; count = row .count + 1 } saying device (row .count + 1)
 
--- "then `error full` for a 33rd, then `refused 6`"
+-- "up to 32 tilt drives"; "then `error full` for a 33rd, then `refused 6`"
 unfoldable pub adds : Row → List ℕ → List ℕ → After
-adds row v os = cond (leb most (row .count)) (row saying full) (added row (freshBy v os))
+adds row v os = cond (leb rowMost (row .count)) (row saying full) (added row (freshBy v os))
 
 -- ---- a command to the device K
 
 -- "K counts from 1"
 unfoldable pub isDevice : ℕ → ℕ → Bool
-isDevice count k = not (eqb k 0) && (leb k most && leb k count)
+isDevice count k = not (eqb k 0) && (leb k rowMost && leb k count)
 
 abbrev pub deviceAt : Row → ℕ → Device
 deviceAt row place = getD (row .devices) place blankDevice
@@ -128,7 +124,7 @@ withDevice row place d = record { devices = set (row .devices) place d; count = 
 -- "`frame K HEX ROOM` decoded octets, given to device K"; "`hear K HEX ROOM` the octets between two flags, as they come
 -- from the line: decoded, then judged by device K"
 unfoldable pub listens : ℕ → Device → List ℕ → ℕ → Answer Reaction
-listens c d os room = cond (eqb c 0) (judged d os room) (heard d os room)
+listens c d os room = cond (eqb c command.frame) (judged d os room) (heard d os room)
 
 unfoldable pub tells : Row → ℕ → Answer Reaction → List ℕ → Came
 tells row place x o =
@@ -136,11 +132,12 @@ tells row place x o =
 
 -- "the motor stopped at T; alarm A (decimal) rises, falls"
 unfoldable pub eventOf : ℕ → ℕ → Event
-eventOf c v = cond (eqb c 3) (Stopped (tiltOf v)) (cond (eqb c 4) (Raised v) (Cleared v))
+eventOf c v =
+    cond (eqb c command.stopped) (Stopped (tiltOf v)) (cond (eqb c command.raise) (Raised v) (Cleared v))
 
 -- "a tilt outside 16 bits signed, an alarm outside 0 to 255" is none
 unfoldable pub isValue : ℕ → ℕ → Bool
-isValue c v = cond (eqb c 3) (isTilt v) (ltb v 256)
+isValue c v = cond (eqb c command.stopped) (isTilt v) (ltb v 256)
 
 -- 01: "the device 6, then .. 8 for an event"; "a device event that can't be", and so one of a value that is none
 unfoldable pub happens : Device → ℕ → ℕ → Answer Device
@@ -151,11 +148,11 @@ happens d c v =
 unfoldable pub befalls : Row → ℕ → Answer Device → After
 befalls row place x = withDevice row place (stateAfter x (deviceAt row place)) saying outcome (settled x)
 
--- the commands by their places among the names of the script: 0 frame, 1 hear, 2 show, 3 stopped, 4 raise, 5 clear
+-- `frame` and `hear`, `show`, and the events
 unfoldable pub drives : ℕ → Row → ℕ → ℕ → List ℕ → List ℕ → Came
 drives c row place v os o =
-    cond (ltb c 2) (tells row place (listens c (deviceAt row place) os (length o)) o)
-    (cond (eqb c 2) ((row saying state place) leaving o)
+    cond (leb c command.hear) (tells row place (listens c (deviceAt row place) os (length o)) o)
+    (cond (eqb c command.show) ((row saying state place) leaving o)
     (befalls row place (happens (deviceAt row place) c v) leaving o))
 
 -- "A K that is a number but no device of the bench .. is `error device`"
@@ -163,12 +160,12 @@ unfoldable pub toDevice : ℕ → Row → ℕ → ℕ → List ℕ → List ℕ 
 toDevice c row k v os o =
     cond (isDevice (row .count) k) (drives c row (k - 1) v os o) ((row saying noDevice) leaving o)
 
--- ---- a command; 6 is `device`
+-- ---- a command: to a device, up to `clear`, or `device`
 
 unfoldable pub obeyed : ℕ → Row → List ℕ → List ℕ → List ℕ → Came
 obeyed c row v os o =
-    cond (ltb c 6) (toDevice c row (value v 1) (value v 2) os o)
-    (cond (eqb c 6) (adds row v os leaving o) ((row saying noCommand) leaving o))
+    cond (leb c command.clear) (toDevice c row (value v 1) (value v 2) os o)
+    (cond (eqb c command.device) (adds row v os leaving o) ((row saying noCommand) leaving o))
 
 -- ---- the code's answers
 

@@ -1,14 +1,15 @@
-// The bench's row of drives: one more device, and the commands to one of them. A command is a number, its place among the
-// names of the bench script; its words are values, and octets that the HEX words stand for.
+// The bench's row of drives: one more device, and the commands to one of them. A command is its place among the names of
+// the bench script (`script`); its words are values, and octets that the HEX words stand for.
 // Headline: for every command the row after it, the answer, and the lent output (specs/Drives.antt). Assumes nothing of its
 // caller: a number that is no device, no command, no tilt or no alarm has its answer.
 ghost use mathlib.Core.Path.{_≡_};
 ghost use mathlib.Core.Bool.{true};
 ghost use Prim.Native.Nat.{_<_};
-ghost use lib.ListN.{length, take, drop, getD};
+ghost use lib.ListN.{length, getD};
 ghost use Rattle.refusal.specs.Answer.{Changes};
 ghost use Rattle.record.specs.Fresh.{blankDevice};
 ghost use Rattle.device.specs.Judge.{Judges};
+ghost use Rattle.bus.specs.Cable.{rowMost};
 ghost use Rattle.drives.specs.Drives.{Obeys, afterOf, isTilt, tiltOf, areTilts, freshWith, added, adds};
 ghost use Rattle.drives.specs.Drives.{isDevice, deviceAt, listens, tells, isValue, eventOf, happens, befalls};
 ghost use Rattle.drives.specs.Drives.{toDevice, obeyed};
@@ -48,24 +49,6 @@ pub struct Obeyed {
 
 // ---- words
 
-fn value(values: Values, n: usize) -> usize
-    ensures { λ r. ⌜ r ≡ getD values n 0 ⌝ }
-{
-    if n < 8 {
-        return values[n];
-    }
-    0
-}
-
-// The octets from one place up to another, as far as there are any.
-fn part(s: &[u8], from: usize, end: usize) -> &[u8]
-    ensures { λ r. ⌜ now r ≡ drop from (take end (now (s .entry))) ⌝ }
-{
-    let last = octets::fewer(end, s.len());
-    let first = octets::fewer(from, last);
-    &s[first..last]
-}
-
 fn is_tilt(pattern: usize) -> bool
     ensures { λ r. ⌜ r ≡ isTilt pattern ⌝ }
 {
@@ -85,18 +68,18 @@ fn tilt_of(pattern: usize) -> Angle
 fn fresh(values: Values, octets: &[u8]) -> Changed
     ensures { λ r. ⌜ Changes (freshWith values (now (octets .entry))) blankDevice (r .outcome) (r .device) ⌝ }
 {
-    let product = value(values, 1);
-    let hardware = value(values, 2);
-    let software = value(values, 3);
+    let product = values[1];
+    let hardware = values[2];
+    let software = values[3];
     fresh::fresh(
-        part(octets, 0, product),
-        part(octets, product, hardware),
-        part(octets, hardware, software),
-        part(octets, software, value(values, 4)),
+        script::part(octets, 0, product),
+        script::part(octets, product, hardware),
+        script::part(octets, hardware, software),
+        script::part(octets, software, values[4]),
         Span {
-            lowest: tilt_of(value(values, 5)),
-            highest: tilt_of(value(values, 6)),
-            present: tilt_of(value(values, 7)),
+            lowest: tilt_of(values[5]),
+            highest: tilt_of(values[6]),
+            present: tilt_of(values[7]),
         },
     )
 }
@@ -104,9 +87,9 @@ fn fresh(values: Values, octets: &[u8]) -> Changed
 fn are_tilts(values: Values) -> bool
     ensures { λ r. ⌜ r ≡ areTilts values ⌝ }
 {
-    if is_tilt(value(values, 5)) {
-        if is_tilt(value(values, 6)) {
-            return is_tilt(value(values, 7));
+    if is_tilt(values[5]) {
+        if is_tilt(values[6]) {
+            return is_tilt(values[7]);
         }
     }
     false
@@ -114,7 +97,7 @@ fn are_tilts(values: Values) -> bool
 
 // A refused device takes no number.
 fn make(row: Row, values: Values, octets: &[u8]) -> Obeyed
-    requires { ⌜ row .count < 32 ⌝ }
+    requires { ⌜ row .count < rowMost ⌝ }
     ensures { λ r. ⌜ afterOf r ≡ added row (freshWith values (now (octets .entry))) ⌝ }
 {
     let count = row.count;
@@ -171,7 +154,7 @@ fn is_device(count: usize, k: usize) -> bool
 }
 
 fn device_at(devices: [Device; MOST], place: usize) -> Device
-    requires { ⌜ place < 32 ⌝ }
+    requires { ⌜ place < rowMost ⌝ }
     ensures { λ r. ⌜ r ≡ getD devices place blankDevice ⌝ }
 {
     devices[place]
@@ -179,7 +162,7 @@ fn device_at(devices: [Device; MOST], place: usize) -> Device
 
 // The device goes back to its place.
 fn put_back(row: Row, place: usize, device: Device, answer: Answer) -> Obeyed
-    requires { ⌜ place < 32 ⌝ }
+    requires { ⌜ place < rowMost ⌝ }
     ensures { λ r. ⌜ r ≡ putBack row place device answer ⌝ }
 {
     let mut next = row;
@@ -192,14 +175,14 @@ fn listen(device: Device, command: usize, octets: &[u8], lent: &mut [u8]) -> Jud
     ensures { λ r. ⌜ Judges (listens command device (now (octets .entry)) (length (now (lent .entry)))) device
         (now (lent .entry)) r (now (lent .exit)) ⌝ }
 {
-    if command == 0 {
+    if command == script::FRAME {
         return device::judge(device, octets, lent);
     }
     device::hear(device, octets, lent)
 }
 
 fn deliver(row: Row, place: usize, command: usize, octets: &[u8], lent: &mut [u8]) -> Obeyed
-    requires { ⌜ place < 32 ⌝ }
+    requires { ⌜ place < rowMost ⌝ }
     ensures { λ r. ⌜ Obeys (tells row place (listens command (deviceAt row place) (now (octets .entry))
         (length (now (lent .entry)))) (now (lent .entry))) r (now (lent .exit)) ⌝ }
 {
@@ -214,7 +197,7 @@ fn deliver(row: Row, place: usize, command: usize, octets: &[u8], lent: &mut [u8
 fn is_value(command: usize, value: usize) -> bool
     ensures { λ r. ⌜ r ≡ isValue command value ⌝ }
 {
-    if command == 3 {
+    if command == script::STOPPED {
         return is_tilt(value);
     }
     value < 256
@@ -224,10 +207,10 @@ fn event_of(command: usize, value: usize) -> Event
     requires { ⌜ isValue command value ≡ true ⌝ }
     ensures { λ r. ⌜ r ≡ eventOf command value ⌝ }
 {
-    if command == 3 {
+    if command == script::STOPPED {
         return Event::Stopped(tilt_of(value));
     }
-    if command == 4 {
+    if command == script::RAISE {
         return Event::Raised(value as u8);
     }
     Event::Cleared(value as u8)
@@ -253,7 +236,7 @@ fn happen(device: Device, command: usize, value: usize) -> Changed
 }
 
 fn befall(row: Row, place: usize, command: usize, value: usize) -> Obeyed
-    requires { ⌜ place < 32 ⌝ }
+    requires { ⌜ place < rowMost ⌝ }
     ensures { λ r. ⌜ afterOf r ≡ befalls row place (happens (deviceAt row place) command value) ⌝ }
 {
     let devices = row.devices;
@@ -263,7 +246,7 @@ fn befall(row: Row, place: usize, command: usize, value: usize) -> Obeyed
     put_back(row, place, device, Answer::Outcome(outcome))
 }
 
-// The words of a command to a device: K, and for an event its value.
+// `frame` and `hear`, `show`, else an event. The words of a command to a device: K, and for an event its value.
 fn to_device(
     row: Row,
     command: usize,
@@ -276,10 +259,10 @@ fn to_device(
         (now (lent .exit)) ⌝ }
 {
     if is_device(row.count, k) {
-        if command < 2 {
+        if command <= script::HEAR {
             return deliver(row, k - 1, command, octets, lent);
         }
-        if command == 2 {
+        if command == script::SHOW {
             return Obeyed {
                 row,
                 answer: Answer::State(k - 1),
@@ -293,22 +276,15 @@ fn to_device(
     }
 }
 
-// The commands by their places among the names: 0 frame, 1 hear, 2 show, 3 stopped, 4 raise, 5 clear, 6 device.
+// The commands to a device stand first among the names, and `device` behind them; no other is for the row.
 pub fn obey(row: Row, command: usize, values: Values, octets: &[u8], lent: &mut [u8]) -> Obeyed
     ensures { λ r. ⌜ Obeys (obeyed command row values (now (octets .entry)) (now (lent .entry)))
         r (now (lent .exit)) ⌝ }
 {
-    if command < 6 {
-        return to_device(
-            row,
-            command,
-            value(values, 1),
-            value(values, 2),
-            octets,
-            lent,
-        );
+    if command <= script::CLEAR {
+        return to_device(row, command, values[1], values[2], octets, lent);
     }
-    if command == 6 {
+    if command == script::DEVICE {
         return add(row, values, octets);
     }
     Obeyed {

@@ -7,6 +7,7 @@ use lib.Seq.{sets}
 use Rattle.octets.specs.Octets.{placeOf}
 use Rattle.identity.specs.Identity.{same}
 use Rattle.script.specs.Words.{spelled, firstOf, behindFirst, wordAt, spacesIn, placeFrom}
+use Rattle.script.specs.Commands as command
 use Rattle.script.specs.Values.{hexDigit, octetBy, octetOf, octetThen, pairsOf, hexOf, allDigits, numeral}
 use Rattle.script.specs.Values.{decimal, isNegative, digitsOf, patternOf, ranged, numberBy, fromOne, heardMeans}
 use Rattle.script.specs.Values.{valueOf}
@@ -21,27 +22,28 @@ abbrev asks : ℕ → List ℕ → List ℕ → Asked
 asks c vs os =
     record { line = Asks c; values = sets (replicate 8 0) 1 vs; octets = sets (replicate 1000 0) 0 os; len = length os }
 
--- each command by its place among the names, by which `drives` and the bench know it
+-- each command's name stands at its place
 places : (commandOf (spelled "frame") ∷ commandOf (spelled "hear") ∷ commandOf (spelled "show")
     ∷ commandOf (spelled "stopped") ∷ commandOf (spelled "raise") ∷ commandOf (spelled "clear")
     ∷ commandOf (spelled "device") ∷ commandOf (spelled "scan") ∷ commandOf (spelled "begin")
     ∷ commandOf (spelled "probe") ∷ commandOf (spelled "report") ∷ commandOf (spelled "decode")
     ∷ commandOf (spelled "write") ∷ [])
-    ≡ 0 ∷ 1 ∷ 2 ∷ 3 ∷ 4 ∷ 5 ∷ 6 ∷ 7 ∷ 8 ∷ 9 ∷ 10 ∷ 11 ∷ 12 ∷ []
+    ≡ command.frame ∷ command.hear ∷ command.show ∷ command.stopped ∷ command.raise ∷ command.clear ∷ command.device
+    ∷ command.scan ∷ command.begin ∷ command.probe ∷ command.report ∷ command.decode ∷ command.write ∷ []
 unfolding spelled firstOf behindFirst wordAt placeFrom placeOf same commandOf
 places = refl
 
 -- leading zeros are read; a tilt below zero is its 16 bits, and -32,768 the last; HEX is read in capitals too; the
 -- value of HEX is where its octets end
-read : (readLine (spelled "raise 1 20") 1 ≡ asks 4 (1 ∷ 20 ∷ []) [])
-    × (readLine (spelled "stopped 002 -1") 2 ≡ asks 3 (2 ∷ 65535 ∷ []) [])
-    × (readLine (spelled "stopped 1 -32768") 2 ≡ asks 3 (1 ∷ 32768 ∷ []) [])
-    × (readLine (spelled "probe 600") 0 ≡ asks 9 (600 ∷ []) [])
-    × (readLine (spelled "report heard") 0 ≡ asks 10 (1 ∷ []) [])
-    × (readLine (spelled "write 01 bf - 12") 0 ≡ asks 12 (0x01 ∷ 0xbf ∷ 0 ∷ 12 ∷ []) [])
-    × (readLine (spelled "hear 1 81F0 9") 1 ≡ asks 1 (1 ∷ 2 ∷ 9 ∷ []) (0x81 ∷ 0xF0 ∷ []))
+read : (readLine (spelled "raise 1 20") 1 ≡ asks command.raise (1 ∷ 20 ∷ []) [])
+    × (readLine (spelled "stopped 002 -1") 2 ≡ asks command.stopped (2 ∷ 65535 ∷ []) [])
+    × (readLine (spelled "stopped 1 -32768") 2 ≡ asks command.stopped (1 ∷ 32768 ∷ []) [])
+    × (readLine (spelled "probe 600") 0 ≡ asks command.probe (600 ∷ []) [])
+    × (readLine (spelled "report heard") 0 ≡ asks command.report (1 ∷ []) [])
+    × (readLine (spelled "write 01 bf - 12") 0 ≡ asks command.write (0x01 ∷ 0xbf ∷ 0 ∷ 12 ∷ []) [])
+    × (readLine (spelled "hear 1 81F0 9") 1 ≡ asks command.hear (1 ∷ 2 ∷ 9 ∷ []) (0x81 ∷ 0xF0 ∷ []))
     × (readLine (spelled "device 4e 4141 - 31 -5 5 0") 0
-    ≡ asks 6 (1 ∷ 3 ∷ 3 ∷ 4 ∷ 65531 ∷ 5 ∷ 0 ∷ []) (0x4e ∷ 0x41 ∷ 0x41 ∷ 0x31 ∷ []))
+    ≡ asks command.device (1 ∷ 3 ∷ 3 ∷ 4 ∷ 65531 ∷ 5 ∷ 0 ∷ []) (0x4e ∷ 0x41 ∷ 0x41 ∷ 0x31 ∷ []))
 unfolding spelled firstOf behindFirst wordAt spacesIn placeFrom placeOf same hexDigit octetBy octetOf octetThen pairsOf
     hexOf allDigits numeral decimal isNegative digitsOf patternOf ranged numberBy fromOne heardMeans valueOf commandOf kindsOf
     withValue withOctets withHex withWord isFaulty wordsBy isUnanswered readLine

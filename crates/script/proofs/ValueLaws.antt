@@ -74,8 +74,8 @@ digits-plain w n = rw (ne-eqb (getD w 0 0) 45 n)
 
 -- ---- digits read from n on, for a loop that goes through s by i
 
-abbrev pub sizeFrom : ℕ → List ℕ → ℕ
-sizeFrom n s = cond (allDigits s) (min (decimal n s) 1000000) 1000001
+abbrev pub decimalFrom : ℕ → List ℕ → ℕ
+decimalFrom n s = cond (allDigits s) (min (decimal n s) 1000000) 1000001
 
 -- what is as large up to a million stays so with the same digits behind it
 capped : (m k : ℕ) (s : List ℕ) → min m 1000000 ≡ min k 1000000
@@ -84,50 +84,50 @@ unfolding decimal
 capped m k [] e = e
 capped m k (c ∷ s) e = capped (10 * m + (c - 48)) (10 * k + (c - 48)) s (omega (arith, e))
 
-pub size-none : (s : List ℕ) → length s ≡ 0 → 1000001 ≡ decimalOf s
+pub decimal-none : (s : List ℕ) → length s ≡ 0 → 1000001 ≡ decimalOf s
 unfolding decimalOf numeral
-size-none s e = rw (eq-eqb (length s) 0 e)
+decimal-none s e = rw (eq-eqb (length s) 0 e)
 
-pub size-start : (s : List ℕ) → (length s ≡ 0 → ⊥) → sizeFrom 0 s ≡ decimalOf s
+pub decimal-start : (s : List ℕ) → (length s ≡ 0 → ⊥) → decimalFrom 0 s ≡ decimalOf s
 unfolding decimalOf numeral
-size-start s n = rw (ne-eqb (length s) 0 n)
+decimal-start s n = rw (ne-eqb (length s) 0 n)
 
-module _ (s : List ℕ) (n i : ℕ) {w : ℕ} (v : sizeFrom n (drop i s) ≡ w) where
-  pub size-low : i < length s → getD s i 0 < 48 → 1000001 ≡ w
+module _ (s : List ℕ) (n i : ℕ) {w : ℕ} (v : decimalFrom n (drop i s) ≡ w) where
+  pub decimal-low : i < length s → getD s i 0 < 48 → 1000001 ≡ w
   unfolding allDigits
-  size-low h k = rw (rest s i h, lt-leb 48 (getD s i 0) k) at v
+  decimal-low h k = rw (rest s i h, lt-leb 48 (getD s i 0) k) at v
 
-  pub size-high : i < length s → 57 < getD s i 0 → 1000001 ≡ w
+  pub decimal-high : i < length s → 57 < getD s i 0 → 1000001 ≡ w
   unfolding allDigits
-  size-high h k = rw (rest s i h, le-leb 48 (getD s i 0) (omega arith), lt-leb (getD s i 0) 57 k) at v
+  decimal-high h k = rw (rest s i h, le-leb 48 (getD s i 0) (omega arith), lt-leb (getD s i 0) 57 k) at v
 
-  pub size-more : {d m : ℕ} → i < length s → 48 ≤ getD s i 0 → getD s i 0 ≤ 57
-      → d ≡ getD s i 0 - 48 → m ≡ min (10 * n + d) 1000000 → sizeFrom m (drop (i + 1) s) ≡ w
+  pub decimal-more : {d m : ℕ} → i < length s → 48 ≤ getD s i 0 → getD s i 0 ≤ 57
+      → d ≡ getD s i 0 - 48 → m ≡ min (10 * n + d) 1000000 → decimalFrom m (drop (i + 1) s) ≡ w
   unfolding allDigits decimal
-  size-more {m = m} h j k f e =
+  decimal-more {m = m} h j k f e =
       ap (λ (x : ℕ). cond (allDigits (drop (i + 1) s)) x 1000001)
       (capped m (10 * n + (getD s i 0 - 48)) (drop (i + 1) s) (omega (arith, e, f)))
       ∙ (rw (rest s i h, le-leb 48 (getD s i 0) j, le-leb (getD s i 0) 57 k) at v)
 
-  pub size-done : length s ≤ i → n ≤ 1000000 → n ≡ w
+  pub decimal-done : length s ≤ i → n ≤ 1000000 → n ≡ w
   unfolding allDigits decimal
-  size-done h k =
+  decimal-done h k =
       let m : min n 1000000 ≡ n = omega arith in
       sym m ∙ (rw (drop-of-length-le s h) at v)
 
 -- ---- numbers in their range
 
-size-told : (s : List ℕ) → 1000000 < decimalOf s → numeral s ≡ false
+decimal-told : (s : List ℕ) → 1000000 < decimalOf s → numeral s ≡ false
 unfolding decimalOf
-size-told s h = go (numeral s) refl h
+decimal-told s h = go (numeral s) refl h
   where
     go : (t : Bool) → numeral s ≡ t → 1000000 < cond t (min (decimal 0 s) 1000000) 1000001 → numeral s ≡ false
     go true e k = let none : ⊥ = omega arith in absurd none
     go false e k = e
 
-size-fits : (s : List ℕ) → decimalOf s ≤ 1000000 → (numeral s ≡ true) × (decimalOf s ≡ min (decimal 0 s) 1000000)
+decimal-fits : (s : List ℕ) → decimalOf s ≤ 1000000 → (numeral s ≡ true) × (decimalOf s ≡ min (decimal 0 s) 1000000)
 unfolding decimalOf
-size-fits s h = go (numeral s) refl h
+decimal-fits s h = go (numeral s) refl h
   where
     go : (t : Bool) → numeral s ≡ t → cond t (min (decimal 0 s) 1000000) 1000001 ≤ 1000000
         → (numeral s ≡ true) × (cond t (min (decimal 0 s) 1000000) 1000001 ≡ min (decimal 0 s) 1000000)
@@ -151,18 +151,18 @@ ranged-capped negative most f n b = go (leb n most) refl
 module _ (below above : ℕ) (f : Fault) (w : List ℕ) (n : ℕ) (e : n ≡ decimalOf (digitsOf w)) where
   pub number-none : 1000000 < n → Bad Number ≡ numberBy below above f w
   unfolding numberBy
-  number-none h = rw (size-told (digitsOf w) (rw e at h))
+  number-none h = rw (decimal-told (digitsOf w) (rw e at h))
 
   pub number-below : isNegative w ≡ true → below < 1000000 → n ≤ 1000000
       → ranged true below f n ≡ numberBy below above f w
   unfolding numberBy
   number-below t b h =
-      let fits = size-fits (digitsOf w) (rw e at h) in
+      let fits = decimal-fits (digitsOf w) (rw e at h) in
       rw (fits .0, t, e, fits .1) (ranged-capped true below f (decimal 0 (digitsOf w)) b)
 
   pub number-above : isNegative w ≡ false → above < 1000000 → n ≤ 1000000
       → ranged false above f n ≡ numberBy below above f w
   unfolding numberBy
   number-above t b h =
-      let fits = size-fits (digitsOf w) (rw e at h) in
+      let fits = decimal-fits (digitsOf w) (rw e at h) in
       rw (fits .0, t, e, fits .1) (ranged-capped false above f (decimal 0 (digitsOf w)) b)

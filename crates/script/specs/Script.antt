@@ -1,5 +1,5 @@
 -- A line of the bench script, read.
---   commandOf s      == the command of the line s by its place among the names; 13 where it is none of them
+--   commandOf s      == the command of the line s by its place among the names; their number where it is none of them
 --   kindsOf s        == the kinds of the words behind it, one letter each; none where there is no such command
 --   wordless l          == the line means l, and no word is read
 --   stored a os n    == the code's: a with the octets os up to n
@@ -17,6 +17,7 @@ use lib.ListN.{length, getD, set, replicate}
 use lib.Seq.{sets}
 use Rattle.script.specs.Words.{spelled, wordAt, spacesIn, placeFrom}
 use Rattle.script.specs.Values.{hexOf, valueOf}
+use Rattle.script.specs.Commands.{names, kinds, commands}
 use Rattle.script.specs.declared.Fault.the-variants.{Long, Command, Words, Hex}
 use Rattle.script.specs.declared.Value.{Value}
 use Rattle.script.specs.declared.Value.the-variants.{Means, Bad}
@@ -26,15 +27,12 @@ use Rattle.script.specs.declared.Asked.{Asked}
 
 -- ---- the commands
 
+-- "`command` (the first word)"
 unfoldable pub commandOf : List ℕ → ℕ
-commandOf s =
-    placeFrom 0 13
-    (spelled "frame hear show stopped raise clear device scan begin probe report decode write")
-    (wordAt 0 s)
+commandOf s = placeFrom 0 commands (spelled names) (wordAt 0 s)
 
--- at a command's place a letter for each word behind it: x HEX, and the letters of `valueOf`
 unfoldable pub kindsOf : List ℕ → List ℕ
-kindsOf s = wordAt (commandOf s) (spelled "dxr dxr d dt da da xxxxttt l l r h xr ooxr")
+kindsOf s = wordAt (commandOf s) (spelled kinds)
 
 -- ---- the words behind it
 

@@ -4,7 +4,7 @@ ghost use mathlib.Core.Path.{_≡_};
 ghost use mathlib.Core.List.{[]};
 ghost use mathlib.Core.Option.{some};
 ghost use lib.ListN.{set};
-ghost use Rattle.script.specs.Words.{spelled, firstOf, behindFirst, wordAt, spacesIn, placeFrom};
+ghost use Rattle.script.specs.Words.{spelled, partOf, firstOf, behindFirst, wordAt, spacesIn, placeFrom};
 ghost use Rattle.script.specs.Values.{hexDigit, octetBy, octetOf, hexOf, pairsOf, isNegative, digitsOf, decimalOf};
 ghost use Rattle.script.specs.Values.{ranged, numberBy, fromOne, heardMeans, valueOf};
 ghost use Rattle.script.specs.Script.{commandOf, wordless, withValue, withHex, stored, withWord, isFaulty, wordsBy};
@@ -27,8 +27,48 @@ enum Value {
     Bad(Fault),
 }
 
-// A line: no answer, a fault, or a command by its place among the names: 0 frame, 1 hear, 2 show, 3 stopped, 4 raise,
-// 5 clear, 6 device, 7 scan, 8 begin, 9 probe, 10 report, 11 decode, 12 write.
+// ---- the commands
+
+// A command is its place among the names. A new one goes behind the last: a const and COMMANDS, its name in
+// `command_of`, the kinds of its words in `read_line`; all that in specs/Commands.antt too, and a line of `places` in
+// proofs/Examples.antt. Then whoever obeys it (`drives`, `bench`), and `terms` where its answer has a new word.
+
+// To one device of the row.
+pub const FRAME: usize = 0;
+
+pub const HEAR: usize = 1;
+
+pub const SHOW: usize = 2;
+
+pub const STOPPED: usize = 3;
+
+pub const RAISE: usize = 4;
+
+pub const CLEAR: usize = 5;
+
+// To the row.
+pub const DEVICE: usize = 6;
+
+pub const SCAN: usize = 7;
+
+// To the scan by hand.
+pub const BEGIN: usize = 8;
+
+pub const PROBE: usize = 9;
+
+pub const REPORT: usize = 10;
+
+// To the codec.
+pub const DECODE: usize = 11;
+
+pub const WRITE: usize = 12;
+
+// How many there are.
+pub const COMMANDS: usize = 13;
+
+// ---- a line
+
+// A line: no answer, a fault, or a command.
 pub enum Line {
     Silent,
     Faulty(Fault),
@@ -45,6 +85,15 @@ pub struct Asked {
 }
 
 // ---- words
+
+// The octets from one place up to another, as far as there are any: of a HEX word, from where the one before it ends.
+pub fn part(s: &[u8], from: usize, end: usize) -> &[u8]
+    ensures { λ r. ⌜ now r ≡ partOf from end (now (s .entry)) ⌝ }
+{
+    let last = octets::fewer(end, s.len());
+    let first = octets::fewer(from, last);
+    &s[first..last]
+}
 
 fn first(s: &[u8]) -> &[u8]
     ensures { λ r. ⌜ now r ≡ firstOf (now (s .entry)) ⌝ }
@@ -110,12 +159,6 @@ fn place_in(names: &[u8], count: usize, name: &[u8]) -> usize
 
 // ---- HEX
 
-fn wide(x: u8) -> usize
-    ensures { λ r. ⌜ r ≡ x ⌝ }
-{
-    x as usize
-}
-
 // The value of a hex digit; 16 where it is none.
 fn hex_digit(c: u8) -> usize
     ensures { λ r. ⌜ r ≡ hexDigit c ⌝ }
@@ -124,19 +167,19 @@ fn hex_digit(c: u8) -> usize
         return 16;
     }
     if c <= b'9' {
-        return wide(c - b'0');
+        return octets::wide(c - b'0');
     }
     if c < b'A' {
         return 16;
     }
     if c <= b'F' {
-        return wide(c - b'A' + 10);
+        return octets::wide(c - b'A' + 10);
     }
     if c < b'a' {
         return 16;
     }
     if c <= b'f' {
-        return wide(c - b'a' + 10);
+        return octets::wide(c - b'a' + 10);
     }
     16
 }
@@ -169,7 +212,7 @@ fn octet(word: &[u8]) -> Value
 // ---- numbers
 
 // The number of one or more digits, a million for each above; a million and one where they are none.
-fn size(digits: &[u8]) -> usize
+fn decimal_of(digits: &[u8]) -> usize
     ensures { λ r. ⌜ r ≡ decimalOf (now (digits .entry)) ⌝ }
 {
     if digits.len() == 0 {
@@ -186,7 +229,7 @@ fn size(digits: &[u8]) -> usize
         if b'9' < digit {
             return 1000001;
         }
-        n = octets::fewer(10 * n + wide(digit - b'0'), 1000000);
+        n = octets::fewer(10 * n + octets::wide(digit - b'0'), 1000000);
     }
     n
 }
@@ -231,7 +274,7 @@ fn ranged(negative: bool, most: u16, outside: Fault, n: usize) -> Value
 fn number_by(below: u16, above: u16, outside: Fault, word: &[u8]) -> Value
     ensures { λ r. ⌜ r ≡ numberBy below above outside (now (word .entry)) ⌝ }
 {
-    let n = size(digits_of(word));
+    let n = decimal_of(digits_of(word));
     if 1000000 < n {
         return Value::Bad(Fault::Number);
     }
@@ -259,7 +302,7 @@ fn from_one(value: Value) -> Value
 }
 
 // An answer to a probe: 1 where it was heard.
-fn heard(word: &[u8]) -> Value
+fn heard_means(word: &[u8]) -> Value
     ensures { λ r. ⌜ r ≡ heardMeans (placeFrom 0 2 (spelled "silent heard") (now (word .entry))) ⌝ }
 {
     let place = place_in(b"silent heard", 2, word);
@@ -291,7 +334,7 @@ fn value_of(kind: u8, devices: u8, word: &[u8]) -> Value
     if kind == b'o' {
         return octet(word);
     }
-    heard(word)
+    heard_means(word)
 }
 
 // ---- the words behind the command
@@ -434,7 +477,7 @@ fn read_words(devices: u8, kinds: &[u8], line: &[u8], asked: Asked) -> Asked
 // ---- the line
 
 // A line that is empty or a comment gets no answer.
-fn is_silent(line: &[u8]) -> bool
+fn is_unanswered(line: &[u8]) -> bool
     ensures { λ r. ⌜ r ≡ isUnanswered (now (line .entry)) ⌝ }
 {
     if line.len() == 0 {
@@ -448,7 +491,7 @@ fn command_of(line: &[u8]) -> usize
     ensures { λ r. ⌜ r ≡ commandOf (now (line .entry)) ⌝ }
 {
     let names = b"frame hear show stopped raise clear device scan begin probe report decode write";
-    place_in(names, 13, word(line, 0))
+    place_in(names, COMMANDS, word(line, 0))
 }
 
 // What a line asks of a bench with so many devices. At a command's place among the kinds stands a letter for each word
@@ -456,7 +499,7 @@ fn command_of(line: &[u8]) -> usize
 pub fn read_line(line: &[u8], devices: u8) -> Asked
     ensures { λ r. ⌜ r ≡ readLine (now (line .entry)) devices ⌝ }
 {
-    if is_silent(line) {
+    if is_unanswered(line) {
         return wordless(Line::Silent);
     }
     if 2000 < line.len() {

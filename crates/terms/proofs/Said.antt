@@ -24,6 +24,7 @@ use Rattle.scan.specs.declared.State.the-variants as scan
 use Rattle.script.specs.declared.Fault.{Fault}
 use Rattle.script.specs.declared.Fault.the-variants as fault
 use Rattle.script.specs.Words.{spelled}
+use Rattle.script.specs.Commands as command
 use Rattle.device.specs.declared.Said.{Said}
 use Rattle.device.specs.declared.Said.the-variants.{Silence, Frame}
 use Rattle.drives.specs.declared.Answer.{Answer}
@@ -74,7 +75,7 @@ either-said false p q = q
 
 handed-said : (c : ℕ) (x : Handed) → Spoken (handedWord c x)
 unfolding nameOf lettersOf handedWord givenWord spelled placeOf _atStartOf_
-handed-said c (Octets n) = either-said (eqb c 9) refl (either-said (eqb c 11) refl refl)
+handed-said c (Octets n) = either-said (eqb c command.probe) refl (either-said (eqb c command.decode) refl refl)
 handed-said c (Handed.Refused k) = refl
 
 end-said : (s : State) → Spoken (endWord s)

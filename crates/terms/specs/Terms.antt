@@ -2,13 +2,13 @@
 --   nameOf w         == the word w with full stops behind it; lettersOf x == what the name x has before its first
 --   faultWord f      == a line with the fault f
 --   replyWord x      == the answer x of the row of devices; outcomeWord x, saidWord x == its parts
---   handedWord c x   == the command c, 9 probe, 11 decode, 12 write, that was to hand out octets and answers x;
+--   handedWord c x   == the command c, of `probe`, `decode` and `write`, that was to hand out octets and answers x;
 --                       givenWord c == where it did
 --   endWord s        == a scan that stands at s; behindOf s == how many words stand behind its count
 --   linkWord, pendingWord, driveWord == LINK, PENDING and DRIVE of `show`, up to a number or octets
 --   wordOf t         == the word for t
 -- Assumes nothing.
-use mathlib.Core.Bool.{Bool, true, false, cond}
+use mathlib.Core.Bool.{cond}
 use mathlib.Core.List.{List}
 use Prim.Native.Nat.{ℕ}
 use Prim.Native.Char.{code}
@@ -30,6 +30,7 @@ use Rattle.scan.specs.declared.State.the-variants as scan
 use Rattle.script.specs.declared.Fault.{Fault}
 use Rattle.script.specs.declared.Fault.the-variants as fault
 use Rattle.script.specs.Words.{spelled}
+use Rattle.script.specs.Commands as command
 use Rattle.device.specs.declared.Said.{Said}
 use Rattle.device.specs.declared.Said.the-variants.{Silence, Frame}
 use Rattle.drives.specs.declared.Answer.{Answer}
@@ -76,7 +77,8 @@ replyWord (reply.State place) = spelled "state"
 
 -- "`probe LEN BUFFER`", "`frame LEN BUFFER`", "`line LEN BUFFER` or `refused N BUFFER`"
 unfoldable pub givenWord : ℕ → List ℕ
-givenWord c = cond (eqb c 9) (spelled "probe") (cond (eqb c 11) (spelled "frame") (spelled "line"))
+givenWord c =
+    cond (eqb c command.probe) (spelled "probe") (cond (eqb c command.decode) (spelled "frame") (spelled "line"))
 
 unfoldable pub handedWord : ℕ → Handed → List ℕ
 handedWord c (Octets n) = givenWord c

@@ -151,14 +151,14 @@ fn reply_word(answer: Answer) -> Name
     }
 }
 
-// The commands by their places among the names: 9 probe, 11 decode, else write.
+// `probe`, `decode`, else `write`.
 fn given_word(command: usize) -> Name
     ensures { λ r. ⌜ r ≡ nameOf (givenWord command) ⌝ }
 {
-    if command == 9 {
+    if command == script::PROBE {
         return PROBE;
     }
-    if command == 11 {
+    if command == script::DECODE {
         return FRAME;
     }
     LINE

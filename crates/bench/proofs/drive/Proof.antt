@@ -1,15 +1,12 @@
 -- `drive` meets its promise: the row of the command. Assumes nothing.
-use mathlib.Core.Path.{ap, _∙_}
-use Prim.Native.Nat.{ℕ}
-use lib.ListN.{take, replicate}
 use Rattle.bench.specs.Bench.{lentOf}
 use Rattle.bench.proofs.Laws.{driven-is}
 use borrow.Author.Needs.{needs}
 use Rattle.bench.proofs.drive.Statement.{statement}
 use Rattle.bench.proofs.drive.Tie as tie
 
-value-requires : tie.Need-value-requires
-value-requires c κs = search needs
+array-read-room : tie.Need-array-read-room
+array-read-room c = search needs
 
 cast-part : tie.Need-cast-part
 cast-part c = search needs
@@ -37,16 +34,14 @@ unfolding lentOf
 returns c =
     let obey = c .before .before .before .before in
     let part = obey .before .before .before in
-    let value = part .before .before .before .before in
-    let a = value .before .before .args in
-    driven-is (a .command) (a .row) (a .t3) (part .part .ensures)
-    (obey .before .front .ensures ∙ ap (λ (n : ℕ). take n (replicate 600 0xA5)) (value .value .ensures)) (obey .obey .ensures)
+    let a = part .before .before .before .before .before .args in
+    driven-is (a .command) (a .row) (a .t3) (part .part .ensures) (obey .before .front .ensures) (obey .obey .ensures)
 
 pub drive-spec : {M : Type 1} → statement M
 drive-spec =
     tie.close
     (tie.spec
-    value-requires
+    array-read-room
     cast-part
     part-requires
     slice-aggregate-front

@@ -2,7 +2,7 @@
 use mathlib.Core.Path.{ap}
 use lib.ListN.{replicate}
 use Rattle.record.specs.declared.Device.{Device}
-use Rattle.bus.specs.declared.Row.{Row}
+use Rattle.bus.specs.Cable.{rowMost}
 use Rattle.bench.specs.Bench.{noDevices}
 use Rattle.bench.proofs.Laws.{blank-left}
 use borrow.Author.Needs.{needs}
@@ -27,7 +27,7 @@ fresh-requires c κs = search needs
 returns : tie.Need-returns
 unfolding noDevices
 returns c =
-    ap (λ (d : Device). record { devices = replicate 32 d; count = 0 }) (blank-left _ (c .before .fresh .ensures))
+    ap (λ (d : Device). record { devices = replicate rowMost d; count = 0 }) (blank-left _ (c .before .fresh .ensures))
 
 pub no-devices-spec : {M : Type 1} → statement M
 no-devices-spec =

@@ -14,17 +14,16 @@ returns c =
     let a = c .before .before .args in
     c .drive .ensures ∙ row-driven (a .command) (a .row) (a .asked) (omega arith)
 
-value-requires : tie.Need-value-requires
-value-requires c κs = search needs
+array-read-sweep : tie.Need-array-read-sweep
+array-read-sweep c = search needs
 
 sweep-requires : tie.Need-sweep-requires
 sweep-requires c κs = search needs
 
 returns-2 : tie.Need-returns-2
 returns-2 c =
-    let a = c .before .before .before .before .before .args in
-    c .sweep .ensures
-    ∙ row-swept (a .command) (a .row) (a .asked) (omega arith) (c .before .before .before .if2 .taken) (c .before .value .ensures)
+    let a = c .before .before .before .before .args in
+    c .sweep .ensures ∙ row-swept (a .command) (a .row) (a .asked) (omega arith) (c .before .before .if2 .taken)
 
 returns-3 : tie.Need-returns-3
 returns-3 c =
@@ -33,4 +32,4 @@ returns-3 c =
 
 pub obey-spec : {M : Type 1} → statement M
 obey-spec =
-    tie.close (tie.spec drive-requires returns value-requires sweep-requires returns-2 returns-3)
+    tie.close (tie.spec drive-requires returns array-read-sweep sweep-requires returns-2 returns-3)

@@ -5,14 +5,14 @@ use borrow.Author.Needs.{needs}
 use Rattle.drives.proofs.fresh.Statement.{statement}
 use Rattle.drives.proofs.fresh.Tie as tie
 
-value-requires : tie.Need-value-requires
-value-requires c κs = search needs
+array-read-product : tie.Need-array-read-product
+array-read-product c = search needs
 
-value-requires-2 : tie.Need-value-requires-2
-value-requires-2 c κs = search needs
+array-read-hardware : tie.Need-array-read-hardware
+array-read-hardware c = search needs
 
-value-requires-3 : tie.Need-value-requires-3
-value-requires-3 c κs = search needs
+array-read-software : tie.Need-array-read-software
+array-read-software c = search needs
 
 part-requires : tie.Need-part-requires
 part-requires c κs = search needs
@@ -23,26 +23,26 @@ part-requires-2 c κs = search needs
 part-requires-3 : tie.Need-part-requires-3
 part-requires-3 c κs = search needs
 
-value-requires-4 : tie.Need-value-requires-4
-value-requires-4 c κs = search needs
+array-read-part : tie.Need-array-read-part
+array-read-part c = search needs
 
 part-requires-4 : tie.Need-part-requires-4
 part-requires-4 c κs = search needs
 
-value-requires-5 : tie.Need-value-requires-5
-value-requires-5 c κs = search needs
+array-read-tilt-of : tie.Need-array-read-tilt-of
+array-read-tilt-of c = search needs
 
 tilt-of-requires : tie.Need-tilt-of-requires
 tilt-of-requires c κs = search needs
 
-value-requires-6 : tie.Need-value-requires-6
-value-requires-6 c κs = search needs
+array-read-tilt-of-2 : tie.Need-array-read-tilt-of-2
+array-read-tilt-of-2 c = search needs
 
 tilt-of-requires-2 : tie.Need-tilt-of-requires-2
 tilt-of-requires-2 c κs = search needs
 
-value-requires-7 : tie.Need-value-requires-7
-value-requires-7 c κs = search needs
+array-read-tilt-of-3 : tie.Need-array-read-tilt-of-3
+array-read-tilt-of-3 c = search needs
 
 tilt-of-requires-3 : tie.Need-tilt-of-requires-3
 tilt-of-requires-3 c κs = search needs
@@ -52,37 +52,29 @@ fresh-requires c κs = search needs
 
 returns : tie.Need-returns
 returns c =
-    let at7 = c .before .before in
-    let at6 = at7 .before .before in
-    let at5 = at6 .before .before in
-    let at4 = at5 .before .before in
-    let at3 = at4 .before .before .before .before in
-    let at2 = at3 .before in
-    let at1 = at2 .before in
-    let a = at1 .before .before .args in
-    fresh-by (a .values) (now (a .octets)) (at1 .value .ensures) (at2 .value2 .ensures) (at3 .value3 .ensures)
-    (at4 .value4 .ensures) (at5 .value5 .ensures) (at6 .value6 .ensures) (at7 .value7 .ensures)
-    (at4 .before .before .before .part .ensures) (at4 .before .before .part2 .ensures) (at4 .before .part3 .ensures)
-    (at5 .before .part4 .ensures) (at6 .before .tilt-of .ensures) (at7 .before .tilt-of2 .ensures)
-    (c .before .tilt-of3 .ensures) (c .fresh .ensures)
+    let parts = c .before .before .before .before in
+    let a = parts .before .before .before .before .before .args in
+    fresh-by (a .t1) (now (a .octets)) (parts .before .before .before .part .ensures) (parts .before .before .part2 .ensures)
+    (parts .before .part3 .ensures) (parts .part4 .ensures) (c .before .before .before .tilt-of .ensures)
+    (c .before .before .tilt-of2 .ensures) (c .before .tilt-of3 .ensures) (c .fresh .ensures)
 
 pub fresh-spec : {M : Type 1} → statement M
 fresh-spec =
     tie.close
     (tie.spec
-    value-requires
-    value-requires-2
-    value-requires-3
+    array-read-product
+    array-read-hardware
+    array-read-software
     part-requires
     part-requires-2
     part-requires-3
-    value-requires-4
+    array-read-part
     part-requires-4
-    value-requires-5
+    array-read-tilt-of
     tilt-of-requires
-    value-requires-6
+    array-read-tilt-of-2
     tilt-of-requires-2
-    value-requires-7
+    array-read-tilt-of-3
     tilt-of-requires-3
     fresh-requires
     returns)

@@ -7,11 +7,11 @@ use borrow.Author.Needs.{needs}
 use Rattle.drives.proofs.obey.Statement.{statement}
 use Rattle.drives.proofs.obey.Tie as tie
 
-value-requires : tie.Need-value-requires
-value-requires c κs = search needs
+array-read-to-device : tie.Need-array-read-to-device
+array-read-to-device c = search needs
 
-value-requires-2 : tie.Need-value-requires-2
-value-requires-2 c κs = search needs
+array-read-to-device-2 : tie.Need-array-read-to-device-2
+array-read-to-device-2 c = search needs
 
 to-device-requires : tie.Need-to-device-requires
 to-device-requires c κs = search needs
@@ -21,10 +21,9 @@ same-length c = search needs
 
 returns : tie.Need-returns
 returns c =
-    let a = c .before .before .before .before .before .before .before .before .before .args in
+    let a = c .before .before .before .before .before .before .before .args in
     let obeys = obeys-by
-    (obeyed-device (a .command) (a .row) (now (a .octets)) (now (a .lent)) (a .values) (omega arith)
-    (c .before .before .before .before .before .value .ensures) (c .before .before .before .before .value2 .ensures))
+    (obeyed-device (a .command) (a .row) (now (a .octets)) (now (a .lent)) (a .t3) (omega arith))
     (c .before .before .to-device .ensures) in
     search needs
 
@@ -34,22 +33,22 @@ add-requires c κs = search needs
 returns-2 : tie.Need-returns-2
 returns-2 c =
     let a = c .before .before .before .before .before .args in
-    let obeys = obeys-by (obeyed-adds (a .command) (a .row) (now (a .octets)) (now (a .lent)) (a .values) (omega arith))
+    let obeys = obeys-by (obeyed-adds (a .command) (a .row) (now (a .octets)) (now (a .lent)) (a .t3) (omega arith))
     (record { after = c .add .ensures; lent = refl }) in
     search needs
 
 returns-3 : tie.Need-returns-3
 returns-3 c =
     let a = c .before .before .before .before .args in
-    let obeys = obeys-none (a .command) (a .row) (now (a .octets)) (now (a .lent)) (a .values) (omega arith) (c .if2 .left) in
+    let obeys = obeys-none (a .command) (a .row) (now (a .octets)) (now (a .lent)) (a .t3) (omega arith) (c .if2 .left) in
     search needs
 
 pub obey-spec : {M : Type 1} → statement M
 obey-spec =
     tie.close
     (tie.spec
-    value-requires
-    value-requires-2
+    array-read-to-device
+    array-read-to-device-2
     to-device-requires
     same-length
     returns

@@ -8,15 +8,15 @@ use Rattle.octets.proofs.Rules.{tests}
 use Rattle.script.proofs.read_line.Statement.{statement}
 use Rattle.script.proofs.read_line.Tie as tie
 
-is-silent-requires : tie.Need-is-silent-requires
-is-silent-requires c κs = search needs
+is-unanswered-requires : tie.Need-is-unanswered-requires
+is-unanswered-requires c κs = search needs
 
 wordless-requires : tie.Need-wordless-requires
 wordless-requires c κs = search needs
 
 returns : tie.Need-returns
 unfolding readLine kindsOf
-returns c = search (tests, sym (c .wordless .ensures), sym (c .before .before .is-silent .ensures) ∙ c .before .if1 .taken)
+returns c = search (tests, sym (c .wordless .ensures), sym (c .before .before .is-unanswered .ensures) ∙ c .before .if1 .taken)
 
 wordless-requires-2 : tie.Need-wordless-requires-2
 wordless-requires-2 c κs = search needs
@@ -24,7 +24,7 @@ wordless-requires-2 c κs = search needs
 returns-2 : tie.Need-returns-2
 unfolding readLine kindsOf
 returns-2 c =
-    let silent = sym (c .before .before .before .is-silent .ensures) ∙ c .before .before .if1 .left in
+    let silent = sym (c .before .before .before .is-unanswered .ensures) ∙ c .before .before .if1 .left in
     search (tests, sym (c .wordless2 .ensures), silent)
 
 command-of-requires : tie.Need-command-of-requires
@@ -45,7 +45,7 @@ returns-3 c =
     let told = c .before .before in
     let asked = told .before .before in
     let short = asked .before in
-    let silent = sym (short .before .before .is-silent .ensures) ∙ short .before .if1 .left in
+    let silent = sym (short .before .before .is-unanswered .ensures) ∙ short .before .if1 .left in
     let kinds = rw (asked .command-of .ensures) at (told .word .ensures) in
     c .wordless3 .ensures ∙ line-command _ _ silent (short .if2 .left) kinds (c .before .if3 .taken)
 
@@ -62,7 +62,7 @@ returns-4 c =
     let told = empty .before in
     let asked = told .before .before in
     let short = asked .before in
-    let silent = sym (short .before .before .is-silent .ensures) ∙ short .before .if1 .left in
+    let silent = sym (short .before .before .is-unanswered .ensures) ∙ short .before .if1 .left in
     let kinds = rw (asked .command-of .ensures) at (told .word .ensures) in
     let spaces = rw (c .before .before .spaces .ensures) at (c .before .if4 .taken) in
     c .wordless4 .ensures ∙ line-words _ _ silent (short .if2 .left) kinds (empty .if3 .left) spaces
@@ -80,7 +80,7 @@ returns-5 c =
     let told = empty .before in
     let asked = told .before .before in
     let short = asked .before in
-    let silent = sym (short .before .before .is-silent .ensures) ∙ short .before .if1 .left in
+    let silent = sym (short .before .before .is-unanswered .ensures) ∙ short .before .if1 .left in
     let kinds = rw (asked .command-of .ensures) at (told .word .ensures) in
     let spaces = rw (c .before .before .before .spaces .ensures) at (c .before .before .if4 .left) in
     line-reads _ _ silent (short .if2 .left) kinds (asked .command-of .ensures) (c .before .wordless5 .ensures)
@@ -90,7 +90,7 @@ pub read-line-spec : {M : Type 1} → statement M
 read-line-spec =
     tie.close
     (tie.spec
-    is-silent-requires
+    is-unanswered-requires
     wordless-requires
     returns
     wordless-requires-2

@@ -51,12 +51,12 @@ returns-6 : tie.Need-returns-6
 unfolding valueOf
 returns-6 c = search (tests, sym (c .octet .ensures))
 
-heard-requires : tie.Need-heard-requires
-heard-requires c κs = search needs
+heard-means-requires : tie.Need-heard-means-requires
+heard-means-requires c κs = search needs
 
 returns-7 : tie.Need-returns-7
 unfolding valueOf
-returns-7 c = search (tests, sym (c .heard .ensures))
+returns-7 c = search (tests, sym (c .heard-means .ensures))
 
 pub value-of-spec : {M : Type 1} → statement M
 value-of-spec =
@@ -75,5 +75,5 @@ value-of-spec =
     returns-5
     octet-requires
     returns-6
-    heard-requires
+    heard-means-requires
     returns-7)

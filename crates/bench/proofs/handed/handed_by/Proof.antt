@@ -35,8 +35,14 @@ returns-2 c =
     hands-decode (a .command) (a .scan) (a .t3) _ (if1 .if1 .left) (part .part .ensures)
     (c .before .before .before .before .if2 .taken) (c .before .before .decode .ensures)
 
+array-read-octet : tie.Need-array-read-octet
+array-read-octet c = search needs
+
 octet-requires : tie.Need-octet-requires
 octet-requires c κs = search needs
+
+array-read-octet-2 : tie.Need-array-read-octet-2
+array-read-octet-2 c = search needs
 
 octet-requires-2 : tie.Need-octet-requires-2
 octet-requires-2 c κs = search needs
@@ -68,7 +74,9 @@ handed-by-spec =
     decode-requires
     same-length-2
     returns-2
+    array-read-octet
     octet-requires
+    array-read-octet-2
     octet-requires-2
     write-requires
     same-length-3

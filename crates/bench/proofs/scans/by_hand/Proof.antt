@@ -6,8 +6,8 @@ use borrow.Author.Needs.{needs}
 use Rattle.bench.proofs.scans.by_hand.Statement.{statement}
 use Rattle.bench.proofs.scans.by_hand.Tie as tie
 
-value-requires : tie.Need-value-requires
-value-requires c κs = search needs
+array-read-value : tie.Need-array-read-value
+array-read-value c = search needs
 
 say-requires : tie.Need-say-requires
 say-requires c κs = search needs
@@ -20,30 +20,28 @@ new-requires c κs = search needs
 
 returns : tie.Need-returns
 returns c =
-    let a = c .before .before .before .before .before .args in
-    c .new .ensures
-    ∙ scan-begun (a .command) (a .scan) (getD (a .asked .values) 1 0) (c .before .before .if1 .taken) (c .before .before .before .value .ensures)
+    let a = c .before .before .before .before .args in
+    c .new .ensures ∙ scan-begun (a .command) (a .scan) (getD (a .asked .values) 1 0) (c .before .before .if1 .taken)
 
 report-requires : tie.Need-report-requires
 report-requires c κs = search needs
 
 returns-2 : tie.Need-returns-2
 returns-2 c =
-    let a = c .before .before .before .before .before .args in
+    let a = c .before .before .before .before .args in
     c .report .ensures
     ∙ scan-reported (a .command) (a .scan) (getD (a .asked .values) 1 0) (c .before .before .if1 .left) (c .before .if2 .taken)
-    (c .before .before .before .value .ensures)
 
 returns-3 : tie.Need-returns-3
 returns-3 c =
-    let a = c .before .before .before .before .args in
+    let a = c .before .before .before .args in
     scan-kept (a .command) (a .scan) (getD (a .asked .values) 1 0) (c .before .if1 .left) (c .if2 .left)
 
 pub by-hand-spec : {M : Type 1} → statement M
 by-hand-spec =
     tie.close
     (tie.spec
-    value-requires
+    array-read-value
     say-requires
     cast-new
     new-requires

@@ -1,9 +1,9 @@
 -- `part` meets its promise: no more octets than there are. Assumes nothing.
 use denote.Ref.{now}
-use Rattle.drives.proofs.Ways.{part-is}
+use Rattle.script.proofs.WordLaws.{part-is}
 use borrow.Author.Needs.{needs}
-use Rattle.bench.proofs.rows.part.Statement.{statement}
-use Rattle.bench.proofs.rows.part.Tie as tie
+use Rattle.script.proofs.part.Statement.{statement}
+use Rattle.script.proofs.part.Tie as tie
 
 fewer-requires : tie.Need-fewer-requires
 fewer-requires c κs = search needs

@@ -1,11 +1,11 @@
--- `heard` meets its promise: the word is one of two. Assumes nothing.
+-- `heard_means` meets its promise: the word is one of two. Assumes nothing.
 use borrow.Author.Needs.{needs}
 use Rattle.script.specs.Words.{spelled, placeFrom}
 use Rattle.script.specs.Values.{heardMeans}
 use Rattle.octets.proofs.Rules.{tests}
 use mathlib.Core.Path.{sym}
-use Rattle.script.proofs.heard.Statement.{statement}
-use Rattle.script.proofs.heard.Tie as tie
+use Rattle.script.proofs.heard_means.Statement.{statement}
+use Rattle.script.proofs.heard_means.Tie as tie
 
 slice-aggregate-place-in : tie.Need-slice-aggregate-place-in
 slice-aggregate-place-in c = search needs
@@ -21,5 +21,5 @@ returns-2 : tie.Need-returns-2
 unfolding heardMeans placeFrom spelled
 returns-2 c = search (tests, sym (c .before .place-in .ensures))
 
-pub heard-spec : {M : Type 1} → statement M
-heard-spec = tie.close (tie.spec slice-aggregate-place-in place-in-requires returns returns-2)
+pub heard-means-spec : {M : Type 1} → statement M
+heard-means-spec = tie.close (tie.spec slice-aggregate-place-in place-in-requires returns returns-2)
