@@ -1,4 +1,4 @@
--- Rows of octets compared by a loop, and an identity padded by one. Assumes nothing.
+-- Rows of octets compared by a loop. Assumes nothing.
 use mathlib.Core.Path.{_≡_, refl, ap}
 use mathlib.Core.Bool.{Bool, true, false, _&&_}
 use mathlib.Core.List.{List, [], _∷_}
@@ -8,8 +8,6 @@ use lib.Dec.{eqb}
 use lib.ListN.{length, getD, drop, drop-of-length-le}
 use Rattle.octets.proofs.Rest.{rest}
 use Rattle.identity.specs.Identity.{same}
-
--- ---- the same row
 
 pub same-differ : (a b : List ℕ) → (length a ≡ length b → ⊥) → same a b ≡ false
 unfolding same

@@ -14,7 +14,7 @@ use lib.Seq.{take-all, take-nil, drop-drop, length-take-le}
 use Rattle.octets.proofs.Takes.{take-rest}
 use Rattle.octets.proofs.Rest.{rest}
 use Rattle.reader.specs.declared.Stands.the-variants.{End, Broken, Triple}
-use Rattle.reader.proofs.Steps.{Means, two-on}
+use Rattle.reader.proofs.Steps.{Means, next-two}
 use Rattle.params.specs.Field.{Param, _is_, before, triplesAfter, triplesOf, opened, format}
 use Rattle.params.specs.Walk.{placeIn, slot, unformed}
 use Rattle.params.specs.declared.Part.the-variants.{At}
@@ -69,7 +69,7 @@ module _ (m : List ℕ) (at : ℕ) where
       (λ (k : length m < at + 2). rw (rest m at (h .0), drop-of-length-le m {i = at + 1} (omega arith)))
       (λ (k : (at + 2 ≤ length m) × (length m < at + 2 + getD m (at + 1) 0)).
       let past : length (drop (at + 2) m) < getD m (at + 1) 0 = rw length-drop (omega (arith, k .0, k .1)) in
-      rw (two-on m at (k .0), skip-past (getD m (at + 1) 0) (drop (at + 2) m) past))
+      rw (next-two m at (k .0), skip-past (getD m (at + 1) 0) (drop (at + 2) m) past))
       (h .1)
 
   pub triples-whole : {n from len : ℕ} → Means m at (Triple n from len)
@@ -77,7 +77,7 @@ module _ (m : List ℕ) (at : ℕ) where
   unfolding triplesAfter
   triples-whole {n} {from} {len} h =
       let fits : len ≤ length (drop (at + 2) m) = rw length-drop (omega (arith, h .0)) in
-      rw (h .2, h .1, two-on m at (omega (arith, h .0)), ← h .3, skip len (drop (at + 2) m) fits, drop-drop)
+      rw (h .2, h .1, next-two m at (omega (arith, h .0)), ← h .3, skip len (drop (at + 2) m) fits, drop-drop)
 
   pub value-whole : {n from len : ℕ} → Means m at (Triple n from len) → length (take len (drop from m)) ≡ len
   value-whole {n} {from} {len} h = length-take-le len (drop from m) (rw length-drop (omega (arith, h .0, h .2)))

@@ -26,8 +26,8 @@ module _ (s : List ℕ) (at : ℕ) where
   unfolding standsAt standsIn
   stands-one h k = rw (rest s at h, drop-of-length-le s {i = at + 1} (omega arith))
 
-  pub two-on : at + 2 ≤ length s → drop at s ≡ getD s at 0 ∷ getD s (at + 1) 0 ∷ drop (at + 2) s
-  two-on h =
+  pub next-two : at + 2 ≤ length s → drop at s ≡ getD s at 0 ∷ getD s (at + 1) 0 ∷ drop (at + 2) s
+  next-two h =
       let n : at + 1 + 1 ≡ at + 2 = omega arith in
       rest s at (omega arith)
       ∙ ap (λ (l : List ℕ). getD s at 0 ∷ l)
@@ -38,13 +38,13 @@ module _ (s : List ℕ) (at : ℕ) where
     unfolding standsAt standsIn
     stands-short h =
         let past = lt-leb n (length (drop (at + 2) s)) (rw length-drop (omega arith)) in
-        rw (two-on (omega arith), ← e, past)
+        rw (next-two (omega arith), ← e, past)
 
     pub stands-whole : n ≤ length s - at - 2 → Triple (getD s at 0) (at + 2) n ≡ standsAt s at
     unfolding standsAt standsIn
     stands-whole h =
         let whole = le-leb n (length (drop (at + 2) s)) (rw length-drop (omega arith)) in
-        rw (two-on (omega arith), ← e, whole)
+        rw (next-two (omega arith), ← e, whole)
 
 -- what it says that this stands at a place
 abbrev pub Means : List ℕ → ℕ → Stands → Type 0
