@@ -19,7 +19,7 @@ use mathlib.Core.Bool.{Bool, true, false, cond, not, _&&_}
 use mathlib.Core.List.{List, [], _∷_}
 use mathlib.Core.Option.{Option, none, some}
 use Prim.Native.Nat.{ℕ}
-use Rattle.refusal.specs.Answer.{Answer, gives, refuses, Row, _when_, answered, settled, stateAfter}
+use Rattle.refusal.specs.Answer.{Answer, gives, refuses, TestRow, _when_, answered, settled, stateAfter}
 use Rattle.antenna.specs.declared.Angle.{Angle}
 use Rattle.antenna.specs.declared.Antenna.{Antenna}
 use Rattle.antenna.specs.declared.Motion.{Motion}
@@ -70,7 +70,7 @@ unfoldable pub moves : Antenna → Motion → Antenna
 moves n m = record { motion = m; drive = n .drive }
 
 -- "busy, 0x05; out of range, 0x13"
-abbrev pub driveRows : Bool → Bool → List Row
+abbrev pub driveRows : Bool → Bool → List TestRow
 driveRows busy outside = 0x05 when busy ∷ 0x13 when outside ∷ []
 
 unfoldable pub aimedAt : Antenna → Angle → Answer Antenna

@@ -1,7 +1,7 @@
 -- What the bench does with a line, beside what it writes: the row of devices and the scan by hand after it, and what is
 -- handed out. A command is its place among the names of the script (script/specs/Commands).
 --   noDevices         == an empty row
---   faulty, unanswered == in a command's place, for a line with a fault, and for one that gets no answer
+--   faulty, noAnswer == in a command's place, for a line with a fault, and for one that gets no answer
 --   commandIn l       == the command that the line l asks for
 --   hexIn a           == the octets of the HEX words of a; valueIn a n == what its word n stands for
 --   lentOf room       == a lent output of so many octets
@@ -38,11 +38,11 @@ noDevices = record { devices = replicate rowMost blankDevice; count = 0 }
 abbrev pub faulty : ℕ
 faulty = command.commands
 
-abbrev pub unanswered : ℕ
-unanswered = command.commands + 1
+abbrev pub noAnswer : ℕ
+noAnswer = command.commands + 1
 
 unfoldable pub commandIn : Line → ℕ
-commandIn Silent = unanswered
+commandIn Silent = noAnswer
 commandIn (Faulty f) = faulty
 commandIn (Asks c) = c
 

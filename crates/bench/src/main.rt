@@ -18,7 +18,7 @@ ghost use Rattle.bench.specs.Bench.{noDevices, commandIn, rowDriven, row
 use antenna::Angle;
 use bus::MOST;
 use bus::Row;
-use drives::Answer;
+use drives::Response;
 use record::Span;
 use script::Asked;
 use script::Line;
@@ -68,15 +68,15 @@ fn command_of(line: Line) -> usize
 }
 
 // What stands behind an answer's word.
-fn say_behind(answer: Answer, row: Row, lent: [u8; answers::ROOM], room: usize) {
+fn say_behind(answer: Response, row: Row, lent: [u8; answers::ROOM], room: usize) {
     match answer {
-        Answer::NoCommand => {}
-        Answer::NoDevice => {}
-        Answer::Full => {}
-        Answer::Device(k) => answers::say_number(b' ', k),
-        Answer::Outcome(outcome) => answers::say_outcome(outcome),
-        Answer::Said(said) => answers::say_said(said, lent, room),
-        Answer::State(place) => {
+        Response::NoCommand => {}
+        Response::NoDevice => {}
+        Response::Full => {}
+        Response::Device(k) => answers::say_number(b' ', k),
+        Response::Outcome(outcome) => answers::say_outcome(outcome),
+        Response::Said(said) => answers::say_said(said, lent, room),
+        Response::State(place) => {
             let devices = row.devices;
             shown::show(devices[place % MOST]);
         }

@@ -19,7 +19,7 @@ use Rattle.refusal.specs.declared.Refusal.{Refusal}
 use Rattle.refusal.specs.declared.Refusal.the-variants.{NoRoom}
 use Rattle.refusal.specs.declared.Handed.{Handed}
 use Rattle.refusal.specs.Numbers.{numberOf}
-use Rattle.refusal.specs.Answer.{Answer, gives, refuses, Row, _when_, answered}
+use Rattle.refusal.specs.Answer.{Answer, gives, refuses, TestRow, _when_, answered}
 use Rattle.frame.specs.Line.{frameLimit, frameMost}
 use Rattle.frame.specs.Decode.{decoded}
 use Rattle.record.specs.declared.Device.{Device}
@@ -43,7 +43,7 @@ abbrev pub reactionOf : Turn → Reaction
 reactionOf t = reacts (t .device) (t .say)
 
 -- "the device 6, then 5 for a frame": "an answer buffer shorter than 76 gives refusal 5 first"
-unfoldable pub judgeRows : Device → ℕ → List Row
+unfoldable pub judgeRows : Device → ℕ → List TestRow
 judgeRows d room = 6 when not (allowedDevice d) ∷ 5 when ltb room (frameMost frameLimit) ∷ []
 
 unfoldable pub judged : Device → List ℕ → ℕ → Answer Reaction

@@ -12,12 +12,12 @@ use Rattle.device.specs.Judge.{Reaction, toldOf, deviceAfter, bufferAfter}
 use Rattle.bus.specs.declared.Row.{Row}
 use Rattle.bus.specs.Cable.{rowMost}
 use Rattle.script.specs.Commands as command
-use Rattle.drives.specs.Drives.{Reply, noCommand, noDevice, full, device, outcome, answer, state, After, Came}
+use Rattle.drives.specs.Drives.{ScriptAnswer, noCommand, noDevice, full, device, outcome, answer, state, After, Came}
 use Rattle.drives.specs.Drives.{_saying_, _leaving_, withDevice, deviceAt, isDevice, listens, tells, happens, befalls}
 use Rattle.drives.specs.Drives.{freshBy, added, adds, drives, toDevice, obeyed}
 
 -- `error` and a word, or `refused N`
-pub isNo : Reply → Bool
+pub isNo : ScriptAnswer → Bool
 isNo noCommand = true
 isNo noDevice = true
 isNo full = true
@@ -67,7 +67,7 @@ module _ (row : Row) where
     either true p q = p
     either false p q = q
 
-    unchanged : {y : Reply} → KeepsIf row o ((row saying y) leaving o)
+    unchanged : {y : ScriptAnswer} → KeepsIf row o ((row saying y) leaving o)
     unchanged = record { kept = λ e. (refl, refl) }
 
     leaving-keeps : {x : After} → RowIf row x → KeepsIf row o (x leaving o)

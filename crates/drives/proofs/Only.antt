@@ -10,17 +10,17 @@ use Rattle.device.specs.declared.Said.{Said}
 use Rattle.device.specs.Judge.{saidOf}
 use Rattle.device.proofs.Only.{said-apart}
 use Rattle.bus.specs.declared.Row.{Row}
-use Rattle.drives.specs.declared.Answer as the-answer
-use Rattle.drives.specs.declared.Answer.the-variants as code
+use Rattle.drives.specs.declared.Response as the-response
+use Rattle.drives.specs.declared.Response.the-variants as code
 use Rattle.drives.specs.declared.Obeyed.{Obeyed}
-use Rattle.drives.specs.Drives.{Reply, noCommand, noDevice, full, device, outcome, answer, state, After, replyOf}
+use Rattle.drives.specs.Drives.{ScriptAnswer, noCommand, noDevice, full, device, outcome, answer, state, After, replyOf}
 use Rattle.drives.specs.Drives.{Obeys, Came}
 use denote.Ref.{now}
 use Rattle.octets.proofs.Only.{AsksNothing, SettlesAll}
 use Rattle.drives.proofs.obey.Reads as obey-reads
 
 -- the code's answers that stand for an answer
-Means : Reply → the-answer.Answer → Type 0
+Means : ScriptAnswer → the-response.Response → Type 0
 Means noCommand x = x ≡ code.NoCommand
 Means noDevice x = x ≡ code.NoDevice
 Means full x = x ≡ code.Full
@@ -29,7 +29,7 @@ Means (outcome a) x = (u : Outcome) × (x ≡ code.Outcome u) × (outcomeOf u �
 Means (answer a) x = (s : Said) × (x ≡ code.Said s) × (saidOf s ≡ a)
 Means (state place) x = x ≡ code.State place
 
-means-it : (x : the-answer.Answer) → Means (replyOf x) x
+means-it : (x : the-response.Response) → Means (replyOf x) x
 unfolding Means replyOf
 means-it code.NoCommand = refl
 means-it code.NoDevice = refl
@@ -39,7 +39,7 @@ means-it (code.Outcome u) = (u, refl, refl)
 means-it (code.Said s) = (s, refl, refl)
 means-it (code.State place) = refl
 
-means-one : (y : Reply) {x z : the-answer.Answer} → Means y x → Means y z → x ≡ z
+means-one : (y : ScriptAnswer) {x z : the-response.Response} → Means y x → Means y z → x ≡ z
 unfolding Means
 means-one noCommand e f = e ∙ sym f
 means-one noDevice e f = e ∙ sym f
@@ -50,14 +50,14 @@ means-one (answer a) (s, e, p) (t, f, q) = e ∙ ap code.Said (said-apart s t (p
 means-one (state place) e f = e ∙ sym f
 
 -- no two of the code's answers stand for one
-pub reply-apart : (x z : the-answer.Answer) → replyOf x ≡ replyOf z → x ≡ z
+pub reply-apart : (x z : the-response.Response) → replyOf x ≡ replyOf z → x ≡ z
 reply-apart x z e = means-one (replyOf z) (rw e at (means-it x)) (means-it z)
 
 -- every promise by `Obeys` allows one result and one output
 obeys-only : {right : Came} {r s : Obeyed} {p q : List ℕ} → Obeys right r p → Obeys right s q → (r ≡ s) × (p ≡ q)
 obeys-only {r = r} {s = s} a b =
     let both = only (a .after) (b .after) in (
-      ap₂ (λ (w : Row) (x : the-answer.Answer). record { row = w; answer = x })
+      ap₂ (λ (w : Row) (x : the-response.Response). record { row = w; answer = x })
           (ap (λ (x : After). x .row) both)
           (reply-apart (r .answer) (s .answer) (ap (λ (x : After). x .reply) both)),
       only (a .lent) (b .lent),

@@ -24,7 +24,7 @@ use Rattle.bus.specs.declared.Row.{Row}
 use Rattle.bus.specs.Cable.{rowMost}
 use Rattle.script.specs.Words.{partOf}
 use Rattle.script.specs.Commands as command
-use Rattle.drives.specs.declared.Answer.the-variants as code
+use Rattle.drives.specs.declared.Response.the-variants as code
 use Rattle.drives.specs.declared.Obeyed.{Obeyed}
 use Rattle.drives.specs.Drives.{After, Came, Obeys, noDevice, device, outcome, answer, state}
 use Rattle.drives.specs.Drives.{_saying_, _leaving_, replyOf, afterOf, isDevice, deviceAt, withDevice, value}

@@ -1,5 +1,5 @@
 -- The bench's row of drives. bench-script.md: its table, from `device` to `show`.
---   Reply             == an answer, in the script's words
+--   ScriptAnswer             == an answer, in the script's words
 --   After             == the row after a command, and the answer to it; Came == that, and the lent output, BUFFER
 --   value v n         == what the word n stands for
 --   isTilt v          == the number v is a tilt's pattern; tiltOf v == that tilt; areTilts v == the three of `device` are
@@ -35,34 +35,34 @@ use Rattle.bus.specs.declared.Row.{Row}
 use Rattle.bus.specs.Cable.{rowMost}
 use Rattle.script.specs.Words.{partOf}
 use Rattle.script.specs.Commands as command
-use Rattle.drives.specs.declared.Answer as the-answer
-use Rattle.drives.specs.declared.Answer.the-variants as code
+use Rattle.drives.specs.declared.Response as the-response
+use Rattle.drives.specs.declared.Response.the-variants as code
 use Rattle.drives.specs.declared.Obeyed.{Obeyed}
 
 infix 40 _saying_ _leaving_
 -- ---- answers
 
-pub data Reply : Type 0 where
+pub data ScriptAnswer : Type 0 where
   -- "`error` and one word: `command` .. `device`"; "a 33rd gets `error full`"
-  noCommand noDevice full : Reply
+  noCommand noDevice full : ScriptAnswer
   -- "`device K`, K counts from 1"
-  device : ℕ → Reply
+  device : ℕ → ScriptAnswer
   -- "`done` or `refused N`"; for a device that is not made "`refused 6`"
-  outcome : Answer (Unit {0}) → Reply
+  outcome : Answer (Unit {0}) → ScriptAnswer
   -- "`answer LEN BUFFER`, `silence BUFFER` or `refused N BUFFER`"
-  answer : Answer (Option ℕ) → Reply
+  answer : Answer (Option ℕ) → ScriptAnswer
   -- "`state LINK ADDRESS PENDING DRIVE TILT RAISED TOLD SUBSCRIBED`", of the device at this place
-  state : ℕ → Reply
+  state : ℕ → ScriptAnswer
 
 pub record After : Type 0 where
   pub row : Row
-  pub reply : Reply
+  pub reply : ScriptAnswer
 
 pub record Came : Type 0 where
   pub after : After
   pub lent : List ℕ
 
-abbrev pub _saying_ : Row → Reply → After
+abbrev pub _saying_ : Row → ScriptAnswer → After
 row saying x = record { row = row; reply = x }
 
 abbrev pub _leaving_ : After → List ℕ → Came
@@ -169,7 +169,7 @@ obeyed c row v os o =
 
 -- ---- the code's answers
 
-unfoldable pub replyOf : the-answer.Answer → Reply
+unfoldable pub replyOf : the-response.Response → ScriptAnswer
 replyOf code.NoCommand = noCommand
 replyOf code.NoDevice = noDevice
 replyOf code.Full = full

@@ -5,8 +5,8 @@ use Prim.Native.Nat.{ℕ}
 use Rattle.record.specs.declared.Device.{Device}
 use Rattle.bus.specs.declared.Row.{Row}
 use Rattle.drives.specs.Drives.{withDevice}
-use Rattle.drives.specs.declared.Answer.{Answer}
+use Rattle.drives.specs.declared.Response.{Response}
 use Rattle.drives.specs.declared.Obeyed.{Obeyed}
 
-abbrev pub putBack : Row → ℕ → Device → Answer → Obeyed
+abbrev pub putBack : Row → ℕ → Device → Response → Obeyed
 putBack row place d x = record { row = withDevice row place d; answer = x }

@@ -31,7 +31,7 @@ pub type Values = [usize; 8];
 
 // An answer: `error command`, `error device`, `error full`; `device K`; `done` or `refused N`; `answer`, `silence` or
 // `refused N`; `state`, of the device at this place of the row.
-pub enum Answer {
+pub enum Response {
     NoCommand,
     NoDevice,
     Full,
@@ -44,7 +44,7 @@ pub enum Answer {
 // The row after a command, and the answer to it.
 pub struct Obeyed {
     pub row: Row,
-    pub answer: Answer,
+    pub answer: Response,
 }
 
 // ---- words
@@ -106,7 +106,7 @@ fn make(row: Row, values: Values, octets: &[u8]) -> Obeyed
     if let Outcome::Refused(_) = outcome {
         return Obeyed {
             row,
-            answer: Answer::Outcome(outcome),
+            answer: Response::Outcome(outcome),
         };
     }
     let device = made.device;
@@ -115,7 +115,7 @@ fn make(row: Row, values: Values, octets: &[u8]) -> Obeyed
     next.count = count + 1;
     Obeyed {
         row: next,
-        answer: Answer::Device(count + 1),
+        answer: Response::Device(count + 1),
     }
 }
 
@@ -126,7 +126,7 @@ fn add(row: Row, values: Values, octets: &[u8]) -> Obeyed
     if MOST <= row.count {
         return Obeyed {
             row,
-            answer: Answer::Full,
+            answer: Response::Full,
         };
     }
     if are_tilts(values) {
@@ -134,7 +134,7 @@ fn add(row: Row, values: Values, octets: &[u8]) -> Obeyed
     }
     Obeyed {
         row,
-        answer: Answer::Outcome(Outcome::Refused(Refusal::NotAllowed)),
+        answer: Response::Outcome(Outcome::Refused(Refusal::NotAllowed)),
     }
 }
 
@@ -161,7 +161,7 @@ fn device_at(devices: [Device; MOST], place: usize) -> Device
 }
 
 // The device goes back to its place.
-fn put_back(row: Row, place: usize, device: Device, answer: Answer) -> Obeyed
+fn put_back(row: Row, place: usize, device: Device, answer: Response) -> Obeyed
     requires { ⌜ place < rowMost ⌝ }
     ensures { λ r. ⌜ r ≡ putBack row place device answer ⌝ }
 {
@@ -190,7 +190,7 @@ fn deliver(row: Row, place: usize, command: usize, octets: &[u8], lent: &mut [u8
     let judged = listen(device_at(devices, place), command, octets, lent);
     let said = judged.said;
     let device = judged.device;
-    put_back(row, place, device, Answer::Said(said))
+    put_back(row, place, device, Response::Said(said))
 }
 
 // Whether an event has such a value: `stopped` a tilt, `raise` and `clear` an alarm.
@@ -243,7 +243,7 @@ fn befall(row: Row, place: usize, command: usize, value: usize) -> Obeyed
     let changed = happen(device_at(devices, place), command, value);
     let outcome = changed.outcome;
     let device = changed.device;
-    put_back(row, place, device, Answer::Outcome(outcome))
+    put_back(row, place, device, Response::Outcome(outcome))
 }
 
 // `frame` and `hear`, `show`, else an event. The words of a command to a device: K, and for an event its value.
@@ -265,14 +265,14 @@ fn to_device(
         if command == script::SHOW {
             return Obeyed {
                 row,
-                answer: Answer::State(k - 1),
+                answer: Response::State(k - 1),
             };
         }
         return befall(row, k - 1, command, value);
     }
     Obeyed {
         row,
-        answer: Answer::NoDevice,
+        answer: Response::NoDevice,
     }
 }
 
@@ -289,6 +289,6 @@ pub fn obey(row: Row, command: usize, values: Values, octets: &[u8], lent: &mut 
     }
     Obeyed {
         row,
-        answer: Answer::NoCommand,
+        answer: Response::NoCommand,
     }
 }

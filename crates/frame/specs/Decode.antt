@@ -12,7 +12,7 @@ use Prim.Native.Nat.{ℕ, _-_}
 use lib.Dec.{eqb, ltb}
 use lib.ListN.{length, getD, take}
 use Rattle.octets.specs.Octets.{pairOf}
-use Rattle.refusal.specs.Answer.{Answer, Row, _when_, answered, shorter}
+use Rattle.refusal.specs.Answer.{Answer, TestRow, _when_, answered, shorter}
 use Rattle.fcs.specs.Check.{checkOf}
 use Rattle.frame.specs.Line.{broken, plain}
 
@@ -25,7 +25,7 @@ rightCheck d = eqb (checkOf (body d)) (pairOf (getD d (length d - 2) 0) (getD d 
 
 -- "The decoder tests 4, 1, 2, 3, 5": "0x7E inside, or 0x7D as the last octet", "decoded octets fewer than 4", "more
 -- than 78", "frame check wrong", "the lent output is too short"
-unfoldable pub decodeRows : ℕ → Bool → List ℕ → ℕ → List Row
+unfoldable pub decodeRows : ℕ → Bool → List ℕ → ℕ → List TestRow
 decodeRows N isBroken d room =
     4 when isBroken
     ∷ 1 when ltb (length d) 4

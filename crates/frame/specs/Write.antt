@@ -8,7 +8,7 @@ use mathlib.Core.List.{List, [], _∷_}
 use Prim.Native.Nat.{ℕ}
 use lib.Dec.{ltb}
 use lib.ListN.{length}
-use Rattle.refusal.specs.Answer.{Answer, Row, _when_, answered, shorter}
+use Rattle.refusal.specs.Answer.{Answer, TestRow, _when_, answered, shorter}
 use Rattle.fcs.specs.Check.{withCheck}
 use Rattle.frame.specs.Line.{payloadMost, between}
 
@@ -21,7 +21,7 @@ unfoldable pub lineOf : List ℕ → List ℕ
 lineOf b = between (withCheck b)
 
 -- "the writer 9, then 5": "payload to be written longer than 74 octets", "It needs exactly the octets it writes"
-unfoldable pub writeRows : ℕ → List ℕ → List ℕ → ℕ → List Row
+unfoldable pub writeRows : ℕ → List ℕ → List ℕ → ℕ → List TestRow
 writeRows N p l room = 9 when ltb (payloadMost N) (length p) ∷ 5 when shorter room l ∷ []
 
 unfoldable pub written : ℕ → ℕ → ℕ → List ℕ → ℕ → Answer (List ℕ)

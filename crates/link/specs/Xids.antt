@@ -12,7 +12,7 @@ use mathlib.Core.List.{List, _∷_}
 use Prim.Native.Nat.{ℕ}
 use lib.Dec.{eqb}
 use lib.ListN.{getD, drop}
-use Rattle.refusal.specs.Answer.{Answer, Row, _when_, answered}
+use Rattle.refusal.specs.Answer.{Answer, TestRow, _when_, answered}
 use Rattle.xid.specs.Match.{valuesIn, payloadRows, meaningOf, orSilence}
 use Rattle.xid.specs.declared.Xid.{Xid}
 use Rattle.link.specs.Link.{allStations, xidControl, wrongSize}
@@ -26,7 +26,7 @@ wrongAddress f = not (eqb (getD f 0 0) allStations)
 unfoldable pub wrongControl : List ℕ → Bool
 wrongControl f = not (eqb (controlOf f) xidControl)
 
-unfoldable pub xidRows : List ℕ → List ℕ → List Row
+unfoldable pub xidRows : List ℕ → List ℕ → List TestRow
 xidRows i f = 1 when wrongSize f ∷ 2 when wrongAddress f ∷ 3 when wrongControl f ∷ payloadRows i (drop 2 f)
 
 unfoldable pub xidAnswer : List ℕ → List ℕ → Answer Xid

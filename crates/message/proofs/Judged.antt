@@ -5,7 +5,7 @@ use mathlib.Core.List.{List, [], _∷_, _++_}
 use Prim.Native.Nat.{ℕ, _<_, _≤_}
 use borrow.Author.Tests.{lt-ltb, le-ltb}
 use lib.ListN.{length}
-use Rattle.refusal.specs.Answer.{gives, refuses, Row, _when_, answered}
+use Rattle.refusal.specs.Answer.{gives, refuses, TestRow, _when_, answered}
 use Rattle.refusal.proofs.Answers.{gives-not-refuses, refuses-same}
 use Rattle.refusal.proofs.Exactly.{exactly}
 use Rattle.antenna.specs.declared.Alarms.{Alarms}
@@ -29,15 +29,15 @@ unfolding replies
 reply-is b n told sub e h = h ∙ ap (λ (x : Payload). repliedOf x n told sub) e
 
 -- rows before others: where none of them holds the others decide, and where one does its number is given
-module _ {A : Type 0} (more : List Row) (a : A) where
-  passed-on : (rows : List Row) → answered {A = Unit {0}} rows tt ≡ gives tt
+module _ {A : Type 0} (more : List TestRow) (a : A) where
+  passed-on : (rows : List TestRow) → answered {A = Unit {0}} rows tt ≡ gives tt
       → answered (rows ++ more) a ≡ answered more a
   unfolding answered
   passed-on [] e = refl
   passed-on (k when true ∷ rows) e = absurd (gives-not-refuses (sym e))
   passed-on (k when false ∷ rows) e = passed-on rows e
 
-  failed-on : (rows : List Row) {why : ℕ} → answered {A = Unit {0}} rows tt ≡ refuses why
+  failed-on : (rows : List TestRow) {why : ℕ} → answered {A = Unit {0}} rows tt ≡ refuses why
       → answered (rows ++ more) a ≡ refuses why
   unfolding answered
   failed-on [] e = absurd (gives-not-refuses e)

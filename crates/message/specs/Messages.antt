@@ -20,7 +20,7 @@ use Prim.Native.Nat.{ℕ}
 use lib.Dec.{eqb}
 use lib.ListN.{length, getD, drop}
 use Rattle.octets.specs.Octets.{holds, pairOf}
-use Rattle.refusal.specs.Answer.{Answer, gives, refuses, Row, _when_}
+use Rattle.refusal.specs.Answer.{Answer, gives, refuses, TestRow, _when_}
 use Rattle.antenna.specs.declared.Angle.{Angle}
 use Rattle.antenna.specs.declared.Antenna.{Antenna}
 use Rattle.antenna.specs.Motions.{inRange, busyOf, driveRows}
@@ -90,7 +90,7 @@ outside n c t = eqb c 0x33 && not (inRange n t)
 
 -- "length field wrong, 0x24; code one of .., then 0x25; code not in the table below, 0x19; data length not the defined
 -- one, 0x24"
-abbrev pub ownChecks : List ℕ → List Row
+abbrev pub ownChecks : List ℕ → List TestRow
 ownChecks m =
     0x24 when misdeclared m
     ∷ 0x25 when barred m
@@ -99,11 +99,11 @@ ownChecks m =
     ∷ []
 
 -- "busy, 0x05; out of range, 0x13"
-unfoldable pub driveChecks : Antenna → ℕ → Angle → List Row
+unfoldable pub driveChecks : Antenna → ℕ → Angle → List TestRow
 driveChecks n c t = driveRows (busied n c) (outside n c t)
 
 -- "Checked in this order": the message's own, then the drive's
-unfoldable pub checks : Antenna → List ℕ → List Row
+unfoldable pub checks : Antenna → List ℕ → List TestRow
 checks n m = ownChecks m ++ driveChecks n (codeOf m) (askedOf m)
 
 -- a message that passes its own checks has no return code yet

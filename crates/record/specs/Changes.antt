@@ -10,7 +10,7 @@ use mathlib.Core.Bool.{Bool, true, false, not}
 use mathlib.Core.List.{List, [], _∷_}
 use Prim.Native.Nat.{ℕ}
 use lib.Signed.{_≤ℤ_}
-use Rattle.refusal.specs.Answer.{Answer, Row, _when_, answered}
+use Rattle.refusal.specs.Answer.{Answer, TestRow, _when_, answered}
 use Rattle.antenna.specs.declared.Antenna.{Antenna}
 use Rattle.antenna.specs.Motions.{unowedOf, moves}
 use Rattle.octets.specs.Octets.{OneOf}
@@ -64,7 +64,7 @@ abbrev pub withAntenna : Device → Antenna → Device
 withAntenna d n = record { plate = d .plate; station = d .station; antenna = n }
 
 -- "the device 6, then .. 8 for an event"
-unfoldable pub eventRows : Device → Event → List Row
+unfoldable pub eventRows : Device → Event → List TestRow
 eventRows d e = 6 when not (allowedDevice d) ∷ 8 when not (canBe (d .antenna) e) ∷ []
 
 unfoldable pub happened : Device → Event → Answer Device

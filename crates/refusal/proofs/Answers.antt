@@ -9,7 +9,7 @@ use lib.ListN.{length, take}
 use lib.Seq.{sets}
 use Rattle.octets.proofs.Stores.{sets-start, take-start}
 use Rattle.refusal.specs.Numbers.{numberOf}
-use Rattle.refusal.specs.Answer.{Answer, gives, refuses, Row, _when_, answered, handedOut}
+use Rattle.refusal.specs.Answer.{Answer, gives, refuses, TestRow, _when_, answered, handedOut}
 use Rattle.refusal.specs.Answer.{answerOf, counted, outAfter, Hands, outcomeOf, settled, stateAfter, Changes}
 use Rattle.refusal.specs.declared.Outcome.{Outcome}
 use Rattle.refusal.specs.declared.Outcome.the-variants.{Done}
@@ -73,7 +73,7 @@ module _ (b : List ℕ) (room : ℕ) where
   unfolding handedOut answered
   in-room h = simp (le-ltb room (length b) h)
 
-module _ {A : Type 0} (k : ℕ) (rows : List Row) (a : A) {t : Bool} where
+module _ {A : Type 0} (k : ℕ) (rows : List TestRow) (a : A) {t : Bool} where
   -- the first row holds
   pub answered-here : t ≡ true → answered (k when t ∷ rows) a ≡ refuses k
   unfolding answered
@@ -112,7 +112,7 @@ module _ {S : Type 0} {s : S} where
   unchange-told (refuses k) c = (sym (ap refuses (refuses-same (c .outcome))), c .state)
 
 -- a change of a part is the same change of the whole
-pub changes-through : {S T : Type 0} (f : S → T) (rows : List Row) (a : S) {s t : S} {r : Outcome}
+pub changes-through : {S T : Type 0} (f : S → T) (rows : List TestRow) (a : S) {s t : S} {r : Outcome}
     → Changes (answered rows a) s r t → Changes (answered rows (f a)) (f s) r (f t)
 unfolding answered settled stateAfter
 changes-through f [] a c = record { outcome = c .outcome; state = ap f (c .state) }

@@ -30,25 +30,25 @@ pub data Answer (A : Type 0) : Type 0 where
   gives : A → Answer A
   refuses : ℕ → Answer A
 
-pub data Row : Type 0 where
-  _when_ : ℕ → Bool → Row
+pub data TestRow : Type 0 where
+  _when_ : ℕ → Bool → TestRow
 
 -- 01: "Each is given exactly then", and the order in which a call tests
-unfoldable pub answered : {A : Type 0} → List Row → A → Answer A
+unfoldable pub answered : {A : Type 0} → List TestRow → A → Answer A
 answered [] a = gives a
 answered (k when t ∷ rows) a = cond t (refuses k) (answered rows a)
 
 -- two rows may have one number: the first that holds counts
-unfoldable pub Given : ℕ → List Row → Type 0
+unfoldable pub Given : ℕ → List TestRow → Type 0
 Given k [] = ⊥
 Given k (n when t ∷ rows) = ((n ≡ k) × (t ≡ true)) ⊎ ((t ≡ false) × Given k rows)
 
-unfoldable pub Clear : List Row → Type 0
+unfoldable pub Clear : List TestRow → Type 0
 Clear [] = Unit {0}
 Clear (n when t ∷ rows) = (t ≡ false) × Clear rows
 
 -- the numbers of the rows
-unfoldable pub numbersOf : List Row → List ℕ
+unfoldable pub numbersOf : List TestRow → List ℕ
 numbersOf [] = []
 numbersOf (n when t ∷ rows) = n ∷ numbersOf rows
 

@@ -9,7 +9,7 @@ use borrow.Author.Tests.{lt-ltb, ltb-true, ltb-false, not-true}
 use lib.Dec.{ltb}
 use Rattle.identity.specs.Identity.{depth, octetsOf}
 use Rattle.octets.specs.Octets.{holds}
-use Rattle.refusal.specs.Answer.{refuses, Row, _when_, shorter, numbersOf}
+use Rattle.refusal.specs.Answer.{refuses, TestRow, _when_, shorter, numbersOf}
 use Rattle.refusal.proofs.Exactly.{TestsFor, exactly-tests}
 use Rattle.walk.specs.Machine.{step}
 use Rattle.octets.proofs.Words.{or-parts}
@@ -57,7 +57,7 @@ unfolding reported TestsFor numbersOf holds
 report-seven s heard = exactly-tests 7 (7 when over s ∷ []) (recordOf s (step octetsOf depth listMost (walkOf s) heard))
 
 module _ (s : Scan) (lent : ℕ) where
-  rows : List Row
+  rows : List TestRow
   rows = 7 when over s ∷ 5 when shorter lent (probeOf (beginningOf s)) ∷ []
 
   pub probe-seven : (probed s lent ≡ refuses 7) ↔ (over s ≡ true)

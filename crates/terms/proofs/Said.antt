@@ -27,8 +27,8 @@ use Rattle.script.specs.Words.{spelled}
 use Rattle.script.specs.Commands as command
 use Rattle.device.specs.declared.Said.{Said}
 use Rattle.device.specs.declared.Said.the-variants.{Silence, Frame}
-use Rattle.drives.specs.declared.Answer.{Answer}
-use Rattle.drives.specs.declared.Answer.the-variants as reply
+use Rattle.drives.specs.declared.Response.{Response}
+use Rattle.drives.specs.declared.Response.the-variants as reply
 use Rattle.terms.specs.declared.Term.{Term}
 use Rattle.terms.specs.declared.Term.the-variants as term
 use Rattle.terms.specs.Terms.{nameOf, lettersOf, faultWord, outcomeWord, saidWord, replyWord, givenWord}
@@ -59,7 +59,7 @@ said-said Silence = refl
 said-said (Frame n) = refl
 said-said (Said.Refused k) = refl
 
-reply-said : (x : Answer) → Spoken (replyWord x)
+reply-said : (x : Response) → Spoken (replyWord x)
 unfolding nameOf lettersOf replyWord spelled placeOf _atStartOf_
 reply-said reply.NoCommand = refl
 reply-said reply.NoDevice = refl

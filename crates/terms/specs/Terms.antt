@@ -33,8 +33,8 @@ use Rattle.script.specs.Words.{spelled}
 use Rattle.script.specs.Commands as command
 use Rattle.device.specs.declared.Said.{Said}
 use Rattle.device.specs.declared.Said.the-variants.{Silence, Frame}
-use Rattle.drives.specs.declared.Answer.{Answer}
-use Rattle.drives.specs.declared.Answer.the-variants as reply
+use Rattle.drives.specs.declared.Response.{Response}
+use Rattle.drives.specs.declared.Response.the-variants as reply
 use Rattle.terms.specs.declared.Term.{Term}
 use Rattle.terms.specs.declared.Term.the-variants as term
 
@@ -66,7 +66,7 @@ saidWord (Frame n) = spelled "answer"
 saidWord (Said.Refused k) = spelled "refused"
 
 -- "`device K` ..; or `refused 6`; a 33rd gets `error full`"; "`state LINK .."
-unfoldable pub replyWord : Answer → List ℕ
+unfoldable pub replyWord : Response → List ℕ
 replyWord reply.NoCommand = spelled "error command"
 replyWord reply.NoDevice = spelled "error device"
 replyWord reply.Full = spelled "error full"

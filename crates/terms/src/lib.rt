@@ -6,7 +6,7 @@ ghost use Rattle.terms.specs.Terms.{nameOf, faultWord, outcomeWord, said
 ghost use Rattle.terms.specs.Terms.{handedWord, endWord, linkWord, pendingWord, driveWord, wordOf, behindOf};
 use antenna::Motion;
 use device::Said;
-use drives::Answer;
+use drives::Response;
 use record::Link;
 use record::Pending;
 use refusal::Handed;
@@ -21,7 +21,7 @@ pub type Name = [u8; 14];
 // among the names; where a scan stands; LINK, PENDING and DRIVE of `show`; a scan by hand that is made anew.
 pub enum Term {
     Fault(Fault),
-    Reply(Answer),
+    Reply(Response),
     Outcome(Outcome),
     Handed { command: usize, handed: Handed },
     End(State),
@@ -137,17 +137,17 @@ fn said_word(said: Said) -> Name
     }
 }
 
-fn reply_word(answer: Answer) -> Name
+fn reply_word(answer: Response) -> Name
     ensures { λ r. ⌜ r ≡ nameOf (replyWord answer) ⌝ }
 {
     match answer {
-        Answer::NoCommand => ERROR_COMMAND,
-        Answer::NoDevice => ERROR_DEVICE,
-        Answer::Full => ERROR_FULL,
-        Answer::Device(_) => DEVICE,
-        Answer::Outcome(outcome) => outcome_word(outcome),
-        Answer::Said(said) => said_word(said),
-        Answer::State(_) => STATE,
+        Response::NoCommand => ERROR_COMMAND,
+        Response::NoDevice => ERROR_DEVICE,
+        Response::Full => ERROR_FULL,
+        Response::Device(_) => DEVICE,
+        Response::Outcome(outcome) => outcome_word(outcome),
+        Response::Said(said) => said_word(said),
+        Response::State(_) => STATE,
     }
 }
 

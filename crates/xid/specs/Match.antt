@@ -33,7 +33,7 @@ use mathlib.Core.Option.{Option, none, some, Option·getD}
 use Prim.Native.Nat.{ℕ, _-_}
 use lib.Dec.{eqb, leb}
 use lib.ListN.{length, getD, take, drop}
-use Rattle.refusal.specs.Answer.{Answer, gives, refuses, Row, _when_, answered}
+use Rattle.refusal.specs.Answer.{Answer, gives, refuses, TestRow, _when_, answered}
 use Rattle.identity.specs.Identity.{vendor, same, answersScan}
 use Rattle.record.specs.Allowed.{addressed}
 use Rattle.params.specs.declared.Part.{Part}
@@ -135,13 +135,13 @@ otherVendor i w = isAssignment w && not (vendorMatches i (w .vendor))
 unfoldable pub otherScan : List ℕ → Values → Bool
 otherScan i w = isScan w && not (scanMatches i w)
 
-unfoldable pub valueRows : List ℕ → Values → List Row
+unfoldable pub valueRows : List ℕ → Values → List TestRow
 valueRows i w =
     5 when neither w
     ∷ 6 when badAddress w
     ∷ 7 when otherIdentity i w ∷ 8 when otherType w ∷ 9 when otherVendor i w ∷ 10 when otherScan i w ∷ []
 
-unfoldable pub payloadRows : List ℕ → List ℕ → List Row
+unfoldable pub payloadRows : List ℕ → List ℕ → List TestRow
 payloadRows i m = 4 when malformed m ∷ valueRows i (valuesIn m)
 
 -- no row holds: a scan, or else an assignment
