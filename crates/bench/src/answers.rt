@@ -29,7 +29,7 @@ pub fn say_octets(s: &[u8]) {
 fn letters(name: &[u8]) -> &[u8]
     ensures { λ r. ⌜ now r ≡ lettersOf (now (name .entry)) ⌝ }
 {
-    script::part(name, 0, octets::find(b'.', name))
+    octets::part(name, 0, octets::find(b'.', name))
 }
 
 pub fn say(term: Term) {
@@ -85,9 +85,9 @@ pub fn say_hex(mark: u8, s: &[u8]) {
     let row = in_hex(mark, s);
     let n = s.len();
     if n == 0 {
-        return say_octets(script::part(&row, 0, 2));
+        return say_octets(octets::part(&row, 0, 2));
     }
-    say_octets(script::part(&row, 0, rows::moved(rows::moved(1, n, LONGEST), n, LONGEST)));
+    say_octets(octets::part(&row, 0, rows::moved(rows::moved(1, n, LONGEST), n, LONGEST)));
 }
 
 // ---- what stands behind the word of several commands
@@ -104,7 +104,7 @@ pub fn say_outcome(outcome: Outcome) {
 
 // The whole of a lent output.
 pub fn say_buffer(lent: [u8; ROOM], room: usize) {
-    say_hex(b' ', script::part(&lent, 0, room));
+    say_hex(b' ', octets::part(&lent, 0, room));
 }
 
 // A device's answer.

@@ -20,7 +20,7 @@ fn handed_by(scan: Scan, command: usize, asked: Asked, lent: &mut [u8]) -> Hande
         return scan::probe(scan, lent);
     }
     let values = asked.values;
-    let hex = script::part(&asked.octets, 0, asked.len as usize);
+    let hex = octets::part(&asked.octets, 0, asked.len as usize);
     if command == script::DECODE {
         return frame::decode(hex, lent);
     }

@@ -44,9 +44,9 @@ fn take(input: Input) -> Input
 {
     let run = input.run;
     let mut line = input.line;
-    let rest = script::part(&run, input.from, input.end);
+    let rest = octets::part(&run, input.from, input.end);
     let n = octets::find(b'\n', rest);
-    octets::put_all(&mut line, input.len, script::part(rest, 0, n));
+    octets::put_all(&mut line, input.len, octets::part(rest, 0, n));
     Input {
         whole: n < rest.len(),
         run,
@@ -103,7 +103,7 @@ fn without_return(line: &[u8], whole: bool) -> &[u8]
         return line;
     }
     if line[n - 1] == b'\r' {
-        return script::part(line, 0, n - 1);
+        return octets::part(line, 0, n - 1);
     }
     line
 }
@@ -112,6 +112,6 @@ fn without_return(line: &[u8], whole: bool) -> &[u8]
 pub fn asked_of(input: Input, devices: usize) -> Asked
     ensures { λ r. ⌜ r ≡ readLine (withoutReturn (input .whole) (take (input .len) (input .line))) (devices % 256) ⌝ }
 {
-    let line = script::part(&input.line, 0, input.len);
+    let line = octets::part(&input.line, 0, input.len);
     script::read_line(without_return(line, input.whole), (devices % 256) as u8)
 }

@@ -90,7 +90,7 @@ fn drive(row: Row, command: usize, asked: Asked) -> Row
     let values = asked.values;
     let room = values[3];
     let mut lent = [answers::FILL; answers::ROOM];
-    let hex = script::part(&asked.octets, 0, asked.len as usize);
+    let hex = octets::part(&asked.octets, 0, asked.len as usize);
     let obeyed = drives::obey(row, command, values, hex, rows::front(&mut lent, room));
     let answer = obeyed.answer;
     let next = obeyed.row;

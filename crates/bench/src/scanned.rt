@@ -6,14 +6,14 @@ use terms::Term;
 // The identities, each behind a comma but for the first; a `-` where there is none.
 fn say_list(list: [u8; scan::LIST], listed: usize) {
     if listed == 0 {
-        return answers::say_hex(b' ', script::part(&list, 0, 0));
+        return answers::say_hex(b' ', octets::part(&list, 0, 0));
     }
     let end = octets::fewer(listed, scan::LIST_MOST);
     let mut mark = b' ';
     let mut i = 0;
     while i < end {
         let from = identity::OCTETS * i;
-        answers::say_hex(mark, script::part(&list, from, from + identity::OCTETS));
+        answers::say_hex(mark, octets::part(&list, from, from + identity::OCTETS));
         mark = b',';
         i += 1;
     }

@@ -27,7 +27,7 @@ fn say_link(link: Link) {
 
 // The octets of a payload, from a place on.
 fn say_payload(mark: u8, payload: Payload, from: usize) {
-    answers::say_hex(mark, script::part(&payload.octets, from, payload.len));
+    answers::say_hex(mark, octets::part(&payload.octets, from, payload.len));
 }
 
 fn pending_of(link: Link) -> Pending

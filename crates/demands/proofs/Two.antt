@@ -34,7 +34,6 @@ use Rattle.record.specs.declared.Link.the-variants.{Connected}
 use Rattle.record.specs.declared.Device.{Device}
 use Rattle.record.specs.declared.Event.{Event}
 use Rattle.record.specs.Allowed.{allowedDevice}
-use Rattle.record.specs.Changes.{unsaidAt, endedAs}
 use Rattle.session.specs.Session.{goodNumber, accepts}
 use Rattle.session.proofs.Numbers.{accepts-exactly}
 use Rattle.acknowledge.specs.Acknowledge.{sessionAfter, acknowledged}

@@ -4,7 +4,7 @@ use mathlib.Core.List.{List}
 use Prim.Native.Nat.{ℕ}
 use Rattle.octets.proofs.Only.{only}
 use Rattle.refusal.specs.declared.Outcome.{Outcome}
-use Rattle.refusal.specs.Answer.{Answer, outcomeOf}
+use Rattle.refusal.specs.Answer.{outcomeOf}
 use Rattle.refusal.proofs.Only.{outcome-apart}
 use Rattle.device.specs.declared.Said.{Said}
 use Rattle.device.specs.Judge.{saidOf}

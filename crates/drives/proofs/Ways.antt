@@ -22,7 +22,7 @@ use Rattle.device.specs.declared.Judged.{Judged}
 use Rattle.device.specs.Judge.{Reaction, judged, heard, Judges}
 use Rattle.bus.specs.declared.Row.{Row}
 use Rattle.bus.specs.Cable.{rowMost}
-use Rattle.script.specs.Words.{partOf}
+use Rattle.octets.specs.Octets.{partOf}
 use Rattle.script.specs.Commands as command
 use Rattle.drives.specs.declared.Response.the-variants as code
 use Rattle.drives.specs.declared.Obeyed.{Obeyed}

@@ -33,7 +33,7 @@ use Rattle.record.specs.Changes.{canBe, afterEvent, withAntenna}
 use Rattle.device.specs.Judge.{Reaction, judged, heard, saidOf, toldOf, deviceAfter, bufferAfter}
 use Rattle.bus.specs.declared.Row.{Row}
 use Rattle.bus.specs.Cable.{rowMost}
-use Rattle.script.specs.Words.{partOf}
+use Rattle.octets.specs.Octets.{partOf}
 use Rattle.script.specs.Commands as command
 use Rattle.drives.specs.declared.Response as the-response
 use Rattle.drives.specs.declared.Response.the-variants as code

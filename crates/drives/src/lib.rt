@@ -72,10 +72,10 @@ fn fresh(values: Values, octets: &[u8]) -> Changed
     let hardware = values[2];
     let software = values[3];
     fresh::fresh(
-        script::part(octets, 0, product),
-        script::part(octets, product, hardware),
-        script::part(octets, hardware, software),
-        script::part(octets, software, values[4]),
+        octets::part(octets, 0, product),
+        octets::part(octets, product, hardware),
+        octets::part(octets, hardware, software),
+        octets::part(octets, software, values[4]),
         Span {
             lowest: tilt_of(values[5]),
             highest: tilt_of(values[6]),

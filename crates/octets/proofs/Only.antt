@@ -5,6 +5,7 @@ use mathlib.Core.Path.{refl}
 use Rattle.octets.proofs.fewer.Reads as fewer-reads
 use Rattle.octets.proofs.find.Reads as find-reads
 use Rattle.octets.proofs.pair.Reads as pair-reads
+use Rattle.octets.proofs.part.Reads as part-reads
 use Rattle.octets.proofs.put.Reads as put-reads
 use Rattle.octets.proofs.put_all.Reads as put-all-reads
 use Rattle.octets.proofs.wide.Reads as wide-reads
@@ -63,3 +64,11 @@ put-all-asks κs a = tt
 
 pub wide-asks : AsksNothing wide-reads.Asked
 wide-asks κs a = tt
+
+-- what the part refers to, and not where it lies
+pub part-only : (κs : _) (a : _) (r q : _) (s t : _) → part-reads.Learnt κs a r s → part-reads.Learnt κs a q t
+    → now r ≡ now q
+part-only κs a r q s t = only
+
+pub part-asks : AsksNothing part-reads.Asked
+part-asks κs a = tt

@@ -2,6 +2,7 @@
 --   Octets s         == each number of s is an octet
 --   holds x s        == x stands somewhere in s; OneOf x s == the same, in the words of the laws on such tests
 --   placeOf x s      == the place of the first x in s, counted from 0; the length of s where there is none
+--   partOf n m s     == the octets of s from the place n up to the place m, as far as there are any
 --   lastOf d s       == the last of s, or d where s is empty
 --   lowOf n, highOf n == the two octets of a number of 16 bits; pairOf l h == the number they stand for
 --   b atStartOf o    == the octets b stand at the start of the lent output o, the rest unchanged
@@ -12,7 +13,7 @@ use mathlib.Core.List.{List, [], _∷_, _++_}
 use mathlib.Core.Logic.{_⊎_}
 use Prim.Native.Nat.{ℕ, suc, _+_, _*_, _/_, _%_, _<_}
 use lib.Dec.{eqb}
-use lib.ListN.{length, drop}
+use lib.ListN.{length, take, drop}
 
 infixl 45 _atStartOf_
 abbrev pub Octets : List ℕ → Type 0
@@ -30,6 +31,9 @@ OneOf x (y ∷ ys) = (x ≡ y) ⊎ OneOf x ys
 unfoldable pub placeOf : ℕ → List ℕ → ℕ
 placeOf x [] = 0
 placeOf x (y ∷ ys) = cond (eqb y x) 0 (suc (placeOf x ys))
+
+abbrev pub partOf : ℕ → ℕ → List ℕ → List ℕ
+partOf from end s = drop from (take end s)
 
 unfoldable pub lastOf : ℕ → List ℕ → ℕ
 lastOf d [] = d

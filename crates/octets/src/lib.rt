@@ -1,10 +1,11 @@
-// Octets in a lent buffer: stored where they are inside it, and nowhere else. Two octets as a number.
+// Octets in a lent buffer: stored where they are inside it, and nowhere else. A part of a slice. Two octets as
+// a number.
 // Assumes nothing of its caller.
 ghost use mathlib.Core.Path.{_≡_};
 ghost use Prim.Native.Nat.{min};
 ghost use lib.ListN.{set};
 ghost use lib.Seq.{sets};
-ghost use Rattle.octets.specs.Octets.{pairOf, placeOf};
+ghost use Rattle.octets.specs.Octets.{pairOf, partOf, placeOf};
 
 // Stores `octet` at `at`, if that is inside.
 pub fn put(out: &mut [u8], at: usize, octet: u8)
@@ -63,4 +64,13 @@ pub fn pair(low: u8, high: u8) -> u16
     ensures { λ r. ⌜ r ≡ pairOf low high ⌝ }
 {
     low as u16 + high as u16 * 256
+}
+
+// The octets from one place up to another, as far as there are any.
+pub fn part(s: &[u8], from: usize, end: usize) -> &[u8]
+    ensures { λ r. ⌜ now r ≡ partOf from end (now (s .entry)) ⌝ }
+{
+    let last = fewer(end, s.len());
+    let first = fewer(from, last);
+    &s[first..last]
 }

@@ -1,9 +1,9 @@
--- A part of a line, and its words for loops that go through it: what is behind the first space, the spaces from i on,
+-- The words of a line, for loops that go through it: what is behind the first space, the spaces from i on,
 -- the names from i on. Assumes nothing.
-use mathlib.Core.Path.{_≡_, refl, sym, ap₂, _∙_}
+use mathlib.Core.Path.{_≡_, sym, _∙_}
 use mathlib.Core.Bool.{Bool, true, false, cond}
 use mathlib.Core.List.{List, [], _∷_}
-use Prim.Native.Nat.{ℕ, zero, suc, _+_, _-_, _<_, _≤_, min}
+use Prim.Native.Nat.{ℕ, suc, _+_, _-_, _<_, _≤_}
 use native.Mathlib.Nat.{add-zero}
 use native.Mathlib.Numerals.{add-one}
 use native.Mathlib.Omega.{arith}
@@ -12,32 +12,9 @@ use lib.Dec.{eqb}
 use lib.ListN.{length, getD, take, drop, drop-of-length-le}
 use Rattle.octets.specs.Octets.{placeOf}
 use Rattle.octets.proofs.Rest.{rest}
-use Rattle.octets.proofs.Takes.{take-rest, take-room}
+use Rattle.octets.proofs.Takes.{take-rest}
 use Rattle.identity.specs.Identity.{same}
-use Rattle.script.specs.Words.{partOf, firstOf, behindFirst, wordAt, spacesIn, placeFrom}
-
--- ---- a part
-
--- no more octets than there are
-pub part-is : (from end : ℕ) (s : List ℕ) {n m : ℕ} → n ≡ min end (length s) → m ≡ min from n
-    → take (n - m) (drop m s) ≡ partOf from end s
-part-is zero end s {n} {m} e f =
-    let z : m ≡ 0 = omega arith in
-    let y : n - m ≡ min (length s) end = omega arith in
-    ap₂ (λ (i j : ℕ). take i (drop j s)) y z ∙ take-room s end
-part-is (suc from) zero s {n} {m} e f =
-    let z : m ≡ 0 = omega arith in
-    let y : n - m ≡ 0 = omega arith in
-    ap₂ (λ (i j : ℕ). take i (drop j s)) y z
-part-is (suc from) (suc end) [] {n} {m} e f =
-    let z : m ≡ 0 = omega arith in
-    let y : n - m ≡ 0 = omega arith in
-    ap₂ (λ (i j : ℕ). take i (drop j [])) y z
-part-is (suc from) (suc end) (x ∷ s) {n} {m} e f =
-    let n' : ℕ = min end (length s) in
-    let z : m ≡ suc (min from n') = omega arith in
-    let y : n - m ≡ n' - min from n' = omega arith in
-    ap₂ (λ (i j : ℕ). take i (drop j (x ∷ s))) y z ∙ part-is from end s refl refl
+use Rattle.script.specs.Words.{firstOf, behindFirst, wordAt, spacesIn, placeFrom}
 
 -- ---- the first space
 

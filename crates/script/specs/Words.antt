@@ -1,6 +1,5 @@
 -- The words of a line. The bench script: "Words are parted by one space each."
 --   spelled t        == the octets of the text t
---   partOf n m s     == the octets of s from the place n up to the place m, as far as there are any
 --   firstOf s        == the octets of s before its first space; behindFirst s == those behind it
 --   wordAt n s       == the word of s behind n others; empty where there is none
 --   spacesIn s       == how many spaces s has: one less than its words
@@ -20,9 +19,6 @@ use Rattle.identity.specs.Identity.{same}
 unfoldable pub spelled : String → List ℕ
 spelled text.[] = []
 spelled (text._∷_ c t) = code c ∷ spelled t
-
-abbrev pub partOf : ℕ → ℕ → List ℕ → List ℕ
-partOf from end s = drop from (take end s)
 
 unfoldable pub firstOf : List ℕ → List ℕ
 firstOf s = take (placeOf 0x20 s) s

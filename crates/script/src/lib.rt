@@ -4,7 +4,7 @@ ghost use mathlib.Core.Path.{_≡_};
 ghost use mathlib.Core.List.{[]};
 ghost use mathlib.Core.Option.{some};
 ghost use lib.ListN.{set};
-ghost use Rattle.script.specs.Words.{spelled, partOf, firstOf, behindFirst, wordAt, spacesIn, placeFrom};
+ghost use Rattle.script.specs.Words.{spelled, firstOf, behindFirst, wordAt, spacesIn, placeFrom};
 ghost use Rattle.script.specs.Values.{hexDigit, octetBy, octetOf, hexOf, pairsOf, isNegative, digitsOf, decimalOf};
 ghost use Rattle.script.specs.Values.{ranged, numberBy, fromOne, heardMeans, valueOf};
 ghost use Rattle.script.specs.Script.{commandOf, wordless, withValue, withHex, stored, withWord, isFaulty, wordsBy};
@@ -85,15 +85,6 @@ pub struct Asked {
 }
 
 // ---- words
-
-// The octets from one place up to another, as far as there are any: of a HEX word, from where the one before it ends.
-pub fn part(s: &[u8], from: usize, end: usize) -> &[u8]
-    ensures { λ r. ⌜ now r ≡ partOf from end (now (s .entry)) ⌝ }
-{
-    let last = octets::fewer(end, s.len());
-    let first = octets::fewer(from, last);
-    &s[first..last]
-}
 
 fn first(s: &[u8]) -> &[u8]
     ensures { λ r. ⌜ now r ≡ firstOf (now (s .entry)) ⌝ }

@@ -1,9 +1,9 @@
 -- `part` meets its promise: no more octets than there are. Assumes nothing.
 use denote.Ref.{now}
-use Rattle.script.proofs.WordLaws.{part-is}
+use Rattle.octets.proofs.Takes.{part-is}
 use borrow.Author.Needs.{needs}
-use Rattle.script.proofs.part.Statement.{statement}
-use Rattle.script.proofs.part.Tie as tie
+use Rattle.octets.proofs.part.Statement.{statement}
+use Rattle.octets.proofs.part.Tie as tie
 
 fewer-requires : tie.Need-fewer-requires
 fewer-requires c κs = search needs
