@@ -33,6 +33,7 @@ use Rattle.drives.specs.Drives.{After, Obeys, obeyed}
 use Rattle.mast.specs.Mast.{swept}
 use Rattle.bench.specs.Bench.{hexIn, valueIn, lentOf, rowDriven, rowAfter, scanAfter, handsOut}
 use Rattle.bench.specs.Written.{digitOf, hexed}
+use Rattle.bench.specs.Input.{lineKept, runMost}
 use Rattle.bench.specs.Input.{restOf, takenTo, lineTaken, refilled, anew, Run, afterRuns, Arrives, withoutReturn}
 use Rattle.bench.specs.declared.input.Input.{Input}
 
@@ -87,8 +88,8 @@ module _ (s : List ℕ) where
   return-other false h d = refl
 
 pub taken-is : (i : Input) {rest line : List ℕ} {n at from len : ℕ} → rest ≡ restOf i → n ≡ placeOf 0x0A rest
-    → line ≡ sets (i .line) (i .len) (take n rest) → at ≡ min (i .from + n) 4096 → from ≡ min (at + 1) 4096
-    → len ≡ min (i .len + n) 2002
+    → line ≡ sets (i .line) (i .len) (take n rest) → at ≡ min (i .from + n) runMost → from ≡ min (at + 1) runMost
+    → len ≡ min (i .len + n) lineKept
     → record { whole = ltb n (length rest); run = i .run; from = from; end = i .end; line = line; len = len } ≡ lineTaken i
 unfolding lineTaken takenTo
 taken-is i e f g h k l = rw (k, h, l, g, f, e)
@@ -120,7 +121,8 @@ module _ (c : ℕ) (s : Scan) (a : Asked) (room : ℕ) {o o' : List ℕ} {r : Ha
   hands-probe e = hands-is (rw (eq-eqb c command.probe e))
 
   module _ {os : List ℕ} (n : c ≡ command.probe → ⊥) (h : os ≡ hexIn a) where
-    pub hands-decode : c ≡ command.decode → Hands (decoded frameLimit os room) o r o' → Hands (handsOut c s a room) o r o'
+    pub hands-decode : c ≡ command.decode → Hands (decoded frameLimit os room) o r o'
+        → Hands (handsOut c s a room) o r o'
     unfolding handsOut
     hands-decode e = hands-is (rw (ne-eqb c command.probe n, eq-eqb c command.decode e, h))
 
@@ -164,7 +166,8 @@ module _ (c : ℕ) (s : Scan) (v : ℕ) where
   unfolding scanAfter
   scan-begun e = rw (eq-eqb c command.begin e)
 
-  pub scan-reported : (c ≡ command.begin → ⊥) → c ≡ command.report → stateAfter (reported s (eqb v 1)) s ≡ scanAfter c s v
+  pub scan-reported : (c ≡ command.begin → ⊥) → c ≡ command.report
+      → stateAfter (reported s (eqb v 1)) s ≡ scanAfter c s v
   unfolding scanAfter
   scan-reported n e = rw (ne-eqb c command.begin n, eq-eqb c command.report e)
 

@@ -1,8 +1,8 @@
 // `probe`, `decode` and `write`: octets at the start of a lent output, and the whole of that. Assumes nothing of the
 // caller.
-ghost use lib.ListN.{length, take};
+ghost use lib.ListN.{length};
 ghost use Rattle.refusal.specs.Answer.{Hands};
-ghost use Rattle.bench.specs.Bench.{handsOut, hexIn};
+ghost use Rattle.bench.specs.Bench.{handsOut};
 use crate::answers;
 use crate::answers::FILL;
 use crate::answers::ROOM;

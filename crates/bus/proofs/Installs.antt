@@ -14,7 +14,6 @@ use Rattle.record.specs.declared.Device.{Device}
 use Rattle.record.specs.declared.Plate.{Plate}
 use Rattle.record.specs.declared.Link.the-variants.{AddressAssigned}
 use Rattle.record.specs.Allowed.{identityOf}
-use Rattle.link.specs.Frames.{hasAddress}
 use Rattle.identity.proofs.Identities.{unpadded-padded}
 use Rattle.bus.specs.Cable.{identityIn, paddedIn, Cabled}
 use Rattle.bus.specs.Install.{assignments, assignedAll, NoRightEnd, Installed}

@@ -9,11 +9,9 @@ use mathlib.Core.List.{List·Memᴰ·head, List·Memᴰ·tail, List·Memᴰ·not
 use mathlib.Core.Option.{none, some}
 use Prim.Native.Nat.{ℕ, _≤_}
 use native.Mathlib.Omega.{arith}
-use borrow.Author.Tests.{ltb-true, ne-eqb}
-use lib.Dec.{ltb}
+use borrow.Author.Tests.{ne-eqb}
 use Rattle.refusal.specs.Answer.{gives}
 use Rattle.identity.specs.Order.{Different}
-use Rattle.identity.proofs.Identities.{and-parts}
 use Rattle.identity.proofs.Lists.{map-out}
 use Rattle.control.specs.Control.{polled}
 use Rattle.record.specs.declared.Device.{Device}

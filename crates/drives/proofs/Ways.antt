@@ -2,12 +2,11 @@
 use mathlib.Core.Path.{_≡_, refl, sym, ap, ap₂, _∙_}
 use mathlib.Core.Bool.{Bool, true, false, not, _&&_}
 use mathlib.Core.List.{List, [], _∷_}
-use Prim.Native.Nat.{ℕ, zero, suc, _+_, _-_, _≤_, _<_, min}
+use Prim.Native.Nat.{ℕ, zero, suc, _+_, _-_, _≤_, _<_}
 use native.Mathlib.Omega.{arith}
 use lib.Dec.{leb, eqb}
 use borrow.Author.Tests.{le-leb, lt-leb, eq-eqb, ne-eqb, leb-true, ltb-true, eqb-false, not-true}
-use lib.ListN.{length, take, drop, getD, set}
-use Rattle.octets.proofs.Takes.{take-room}
+use lib.ListN.{length, getD, set}
 use Rattle.identity.proofs.Identities.{and-parts}
 use Rattle.refusal.specs.declared.Outcome.{Outcome}
 use Rattle.refusal.specs.declared.Outcome.the-variants.{Done, Refused}
@@ -27,10 +26,10 @@ use Rattle.script.specs.Words.{partOf}
 use Rattle.script.specs.Commands as command
 use Rattle.drives.specs.declared.Answer.the-variants as code
 use Rattle.drives.specs.declared.Obeyed.{Obeyed}
-use Rattle.drives.specs.Drives.{After, Came, Obeys, noDevice, noCommand, device, outcome, answer, state}
+use Rattle.drives.specs.Drives.{After, Came, Obeys, noDevice, device, outcome, answer, state}
 use Rattle.drives.specs.Drives.{_saying_, _leaving_, replyOf, afterOf, isDevice, deviceAt, withDevice, value}
-use Rattle.drives.specs.Drives.{tiltOf, listens, tells, isValue, eventOf, happens, befalls, areTilts, freshWith, freshBy, added}
-use Rattle.drives.specs.Drives.{adds, drives, toDevice, obeyed}
+use Rattle.drives.specs.Drives.{tiltOf, listens, tells, isValue, eventOf, happens, befalls, areTilts, freshWith}
+use Rattle.drives.specs.Drives.{freshBy, added, adds, drives, toDevice, obeyed}
 use Rattle.drives.specs.Steps.{putBack}
 
 -- ---- a place
@@ -171,7 +170,8 @@ obeys-by e h = record { after = h .after ∙ ap after e; lent = h .lent ∙ ap l
 
 module _ (c : ℕ) (row : Row) (os o : List ℕ) where
   module _ (place v : ℕ) where
-    pub drives-tells : c ≤ command.hear → tells row place (listens c (deviceAt row place) os (length o)) o ≡ drives c row place v os o
+    pub drives-tells : c ≤ command.hear
+        → tells row place (listens c (deviceAt row place) os (length o)) o ≡ drives c row place v os o
     unfolding drives
     drives-tells h = rw (le-leb c command.hear h)
 

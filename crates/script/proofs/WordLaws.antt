@@ -1,5 +1,5 @@
--- A part of a line, and its words, for loops that go through it: what is behind the first space, the spaces from i on, the names
--- from i on. Assumes nothing.
+-- A part of a line, and its words for loops that go through it: what is behind the first space, the spaces from i on,
+-- the names from i on. Assumes nothing.
 use mathlib.Core.Path.{_≡_, refl, sym, ap₂, _∙_}
 use mathlib.Core.Bool.{Bool, true, false, cond}
 use mathlib.Core.List.{List, [], _∷_}

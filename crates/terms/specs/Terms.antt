@@ -8,7 +8,7 @@
 --   linkWord, pendingWord, driveWord == LINK, PENDING and DRIVE of `show`, up to a number or octets
 --   wordOf t         == the word for t
 -- Assumes nothing.
-use mathlib.Core.Bool.{Bool, true, false, cond}
+use mathlib.Core.Bool.{cond}
 use mathlib.Core.List.{List}
 use Prim.Native.Nat.{ℕ}
 use Prim.Native.Char.{code}

@@ -1,7 +1,6 @@
 -- `command_of` meets its promise: each case by itself. Assumes nothing.
 use Rattle.bench.specs.Bench.{commandIn}
 use Rattle.octets.proofs.Rules.{tests}
-use mathlib.Core.Path.{sym, _∙_}
 use borrow.Author.Needs.{needs}
 use Rattle.bench.proofs.command_of.Statement.{statement}
 use Rattle.bench.proofs.command_of.Tie as tie

@@ -2,7 +2,6 @@
 use mathlib.Core.Path.{ap}
 use lib.ListN.{replicate}
 use Rattle.record.specs.declared.Device.{Device}
-use Rattle.bus.specs.declared.Row.{Row}
 use Rattle.bus.specs.Cable.{rowMost}
 use Rattle.bench.specs.Bench.{noDevices}
 use Rattle.bench.proofs.Laws.{blank-left}

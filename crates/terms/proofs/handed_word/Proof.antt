@@ -3,7 +3,7 @@ use Rattle.terms.specs.Terms.{nameOf, handedWord}
 use Rattle.octets.specs.Octets.{_atStartOf_}
 use Rattle.script.specs.Words.{spelled}
 use Rattle.octets.proofs.Rules.{tests}
-use mathlib.Core.Path.{sym, _∙_}
+use mathlib.Core.Path.{sym}
 use borrow.Author.Needs.{needs}
 use Rattle.terms.proofs.handed_word.Statement.{statement}
 use Rattle.terms.proofs.handed_word.Tie as tie

@@ -1,5 +1,5 @@
 -- `asked_of` meets its promise: the line without its 0x0D, read. Assumes nothing.
-use mathlib.Core.Path.{ap, ap₂, _∙_}
+use mathlib.Core.Path.{ap, _∙_}
 use mathlib.Core.List.{List}
 use Prim.Native.Nat.{ℕ, _%_}
 use Rattle.script.specs.Script.{readLine}
