@@ -12,7 +12,7 @@ use Rattle.octets.specs.Octets.{Octets, lastOf}
 use Rattle.octets.proofs.Bounds.{octets-append}
 use Rattle.octets.proofs.Rest.{rest}
 use Rattle.octets.proofs.Words.{last-at}
-pub use Rattle.octets.proofs.Words.{and-parts}
+use Rattle.octets.proofs.Words.{and-parts}
 use Rattle.identity.specs.Identity.{width, blank, lastPrintable, printable, allPrintable, allowedIdentity, padded}
 use Rattle.identity.specs.Identity.{trimmedTo, unpadded}
 
