@@ -1,10 +1,11 @@
 /*
  * gorittaem.h: the proved frame codec, for programs in C99. Link libcapi.a (`rt staticlib capi`), for x86-64 Linux.
  *
- * Octets are lent: a pointer and how many of them. A pointer must not be null, also where the number is 0; what it
- * points to must be readable (an output: writable) for the whole number; and no octet of an output may also be one of an
- * input. Nothing else is asked of a caller: any octets, any lengths, any room. Nothing is kept after a call, and nothing
- * is allocated, so calls from several threads do not meet.
+ * Octets are lent: a pointer and how many of them. What it points to must be readable (an output: writable) for the whole
+ * number, and no octet of an output may also be one of an input. Where the number is 0, nothing is read or written, and the
+ * pointer may be null. Nothing else is asked of a caller: any octets, any lengths, any room. An output is only written, so
+ * it needs no values before. Nothing is kept after a call, and nothing is allocated, so calls from several threads do not
+ * meet.
  *
  * An answer is one number:
  *   below GORITTAEM_REFUSED   how many octets now stand at the start of the lent output; its rest is unchanged

@@ -32,11 +32,17 @@ int main(void)
     const uint8_t payload[] = {0x33, 0x02, 0x00, 0x7D, 0x00};
     uint8_t line[GORITTAEM_LINE_ROOM], frame[GORITTAEM_FRAME_ROOM], before[GORITTAEM_FRAME_ROOM];
 
+    /* The codec reads no octet of an output; here they have values so that what a call left alone can be compared. */
+    memset(line, 0xA5, sizeof line);
+    memset(frame, 0xA5, sizeof frame);
+
     printf("%-44s %04x\n", "the check of 123456789", gorittaem_check((const uint8_t *)"123456789", 9));
     wrong |= gorittaem_check((const uint8_t *)"123456789", 9) != 0x906E;
 
     size_t len = gorittaem_write(0x01, 0x10, payload, sizeof payload, line, sizeof line);
     expect("written", len, 12, line);
+    if (GORITTAEM_IS_REFUSED(len)) /* a refusal is no length: nothing below may count with it */
+        return 1;
     expect("written into one octet too few", gorittaem_write(0x01, 0x10, payload, sizeof payload, line, len - 1),
            GORITTAEM_REFUSED + GORITTAEM_NO_ROOM, line);
     expect("75 octets of payload", gorittaem_write(0x01, 0x10, line, 75, frame, sizeof frame),
@@ -62,6 +68,12 @@ int main(void)
            GORITTAEM_REFUSED + GORITTAEM_TOO_SHORT, frame);
     expect("into six octets", gorittaem_decode(inside, n, frame, 6), GORITTAEM_REFUSED + GORITTAEM_NO_ROOM, frame);
     wrong |= memcmp(before, frame, sizeof frame) != 0;
+
+    /* no octets: the pointer may be null. SNRM has no payload, and no output at all has no room. */
+    expect("no payload", gorittaem_write(0x01, 0x93, NULL, 0, line, sizeof line), 6, line);
+    expect("no output", gorittaem_write(0x01, 0x93, NULL, 0, NULL, 0), GORITTAEM_REFUSED + GORITTAEM_NO_ROOM, NULL);
+    expect("neither octets nor output", gorittaem_decode(NULL, 0, NULL, 0), GORITTAEM_REFUSED + GORITTAEM_TOO_SHORT, NULL);
+    wrong |= gorittaem_check(NULL, 0) != 0;
 
     puts(wrong ? "NOT as expected" : "as expected");
     return wrong;
