@@ -91,7 +91,7 @@ loop-again c =
     let two = three .before .before .before in
     let one = two .before .before .before in
     let now = one .before .before .before .before .loop in
-    let s = one .before .before .before .before .before .before .args .s .now in (
+    let s = one .before .before .before .before .before .before .before .args .s .now in (
       search needs,
       search needs,
       register-eight s (now .i) _ (now .inv .2) (search needs) (one .two-on .ensures) (two .two-on2 .ensures)
@@ -113,7 +113,7 @@ run-by-two-requires c κs = search needs
 returns : tie.Need-returns Inv-loop μ-loop
 returns c =
     let now = c .before .before .before .loop in
-    let s = c .before .before .before .before .before .args .s .now in
+    let s = c .before .before .before .before .before .before .args .s .now in
     register-rest s (now .i) _ (now .inv .2) (c .run-by-two .ensures)
 
 pub run-spec : {M : Type 1} → statement M

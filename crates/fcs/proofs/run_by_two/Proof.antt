@@ -44,7 +44,7 @@ loop-less c = search needs
 loop-again : tie.Need-loop-again Inv-loop μ-loop
 loop-again c =
     let now = c .before .before .before .before .loop in
-    let s = c .before .before .before .before .before .before .args .s .now in (
+    let s = c .before .before .before .before .before .before .before .args .s .now in (
       search needs,
       search needs,
       register-two s (now .i) _ (now .inv .2) _ _ refl refl (search needs) (c .two-on .ensures),
@@ -54,7 +54,7 @@ shared-slice-read-eight-on : tie.Need-shared-slice-read-eight-on Inv-loop μ-loo
 shared-slice-read-eight-on c = search needs
 
 cast-eight-on : tie.Need-cast-eight-on Inv-loop μ-loop
-cast-eight-on c = omega (arith, c .shared-slice-known4 .given (c .before .before .before .loop .i))
+cast-eight-on c = omega (arith, c .shared-slice-known5 .given (c .before .before .before .loop .i))
 
 eight-on-requires : tie.Need-eight-on-requires Inv-loop μ-loop
 eight-on-requires c κs = search needs
