@@ -1,5 +1,5 @@
-/* The codec in C: a pass for the escapes and one for the check; the same in one pass; and the loops that ours has.
- * Assumes that baseline_tables has been called. */
+/* The codec in C: a pass for the escapes and one for the check, by a table of 256 and by one of 16; the same in one pass; and
+ * the loops that ours has. Assumes that baseline_tables has been called. */
 #include "baseline.h"
 #include <stdbool.h>
 #include <string.h>
@@ -8,14 +8,19 @@ enum { FLAG = 0x7E, ESCAPE = 0x7D, LIMIT = 78, REFUSED = 0x10000, RESIDUE = 0xF0
 
 typedef uint16_t checker(const uint8_t *, size_t);
 
-static uint16_t table[8][256];
+#define INLINED static inline __attribute__((always_inline)) /* so that each table gets a loop of its own */
+
+static uint16_t table[8][256], halves[16];
 
 void baseline_tables(void)
 {
     for (unsigned i = 0; i < 256; i++) {
         uint16_t r = i;
-        for (int bit = 0; bit < 8; bit++)
+        for (int bit = 0; bit < 8; bit++) {
             r = r & 1 ? r >> 1 ^ 0x8408 : r >> 1;
+            if (bit == 3 && i < 16)
+                halves[i] = r;
+        }
         table[0][i] = r;
     }
     for (unsigned k = 1; k < 8; k++)
@@ -33,6 +38,17 @@ uint16_t baseline_check(const uint8_t *s, size_t len)
     uint16_t r = 0xFFFF;
     for (size_t i = 0; i < len; i++)
         r = step(r, s[i]);
+    return r ^ 0xFFFF;
+}
+
+uint16_t baseline_check16(const uint8_t *s, size_t len)
+{
+    uint16_t r = 0xFFFF;
+    for (size_t i = 0; i < len; i++) {
+        r ^= s[i];
+        r = r >> 4 ^ halves[r & 0xF];
+        r = r >> 4 ^ halves[r & 0xF];
+    }
     return r ^ 0xFFFF;
 }
 
@@ -76,7 +92,7 @@ static inline void assemble(checker *check, uint8_t address, uint8_t control, co
     d[len + 3] = sum >> 8;
 }
 
-size_t baseline_decode(const uint8_t *src, size_t len, uint8_t *out, size_t room)
+INLINED size_t decode(checker *check, const uint8_t *src, size_t len, uint8_t *out, size_t room)
 {
     uint8_t d[LIMIT];
     size_t n = 0;
@@ -96,16 +112,26 @@ size_t baseline_decode(const uint8_t *src, size_t len, uint8_t *out, size_t room
             d[n] = b;
         n++;
     }
-    return delivered(baseline_check, d, n, out, room);
+    return delivered(check, d, n, out, room);
 }
 
-size_t baseline_write(uint8_t address, uint8_t control, const uint8_t *payload, size_t len, uint8_t *out, size_t room)
+size_t baseline_decode(const uint8_t *src, size_t len, uint8_t *out, size_t room)
+{
+    return decode(baseline_check, src, len, out, room);
+}
+
+size_t baseline_decode16(const uint8_t *src, size_t len, uint8_t *out, size_t room)
+{
+    return decode(baseline_check16, src, len, out, room);
+}
+
+INLINED size_t write(checker *check, uint8_t address, uint8_t control, const uint8_t *payload, size_t len, uint8_t *out, size_t room)
 {
     uint8_t d[LIMIT], line[2 * LIMIT + 2];
     size_t n = 0;
     if (len > LIMIT - 4)
         return REFUSED + 9;
-    assemble(baseline_check, address, control, payload, len, d);
+    assemble(check, address, control, payload, len, d);
     line[n++] = FLAG;
     for (size_t i = 0; i < len + 4; i++) {
         if (d[i] == FLAG || d[i] == ESCAPE) {
@@ -117,6 +143,16 @@ size_t baseline_write(uint8_t address, uint8_t control, const uint8_t *payload, 
     }
     line[n++] = FLAG;
     return handed(line, n, out, room);
+}
+
+size_t baseline_write(uint8_t address, uint8_t control, const uint8_t *payload, size_t len, uint8_t *out, size_t room)
+{
+    return write(baseline_check, address, control, payload, len, out, room);
+}
+
+size_t baseline_write16(uint8_t address, uint8_t control, const uint8_t *payload, size_t len, uint8_t *out, size_t room)
+{
+    return write(baseline_check16, address, control, payload, len, out, room);
 }
 
 size_t baseline_decode1(const uint8_t *src, size_t len, uint8_t *out, size_t room)

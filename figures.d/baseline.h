@@ -7,9 +7,12 @@
 
 void baseline_tables(void);                                     /* fills the tables: once, before all else */
 uint16_t baseline_check(const uint8_t *s, size_t len);          /* a table of 256 remainders */
+uint16_t baseline_check16(const uint8_t *s, size_t len);        /* a table of 16, half an octet at a time */
 uint16_t baseline_check8(const uint8_t *s, size_t len);         /* eight of them: slicing by 8 */
 size_t baseline_decode(const uint8_t *src, size_t len, uint8_t *out, size_t room);
 size_t baseline_write(uint8_t address, uint8_t control, const uint8_t *payload, size_t len, uint8_t *out, size_t room);
+size_t baseline_decode16(const uint8_t *src, size_t len, uint8_t *out, size_t room);
+size_t baseline_write16(uint8_t address, uint8_t control, const uint8_t *payload, size_t len, uint8_t *out, size_t room);
 size_t baseline_decode1(const uint8_t *src, size_t len, uint8_t *out, size_t room);     /* the check in the same pass */
 size_t baseline_write1(uint8_t address, uint8_t control, const uint8_t *payload, size_t len, uint8_t *out, size_t room);
 uint16_t baseline_check_as(const uint8_t *s, size_t len);       /* these three with the loops that ours has */

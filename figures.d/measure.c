@@ -1,20 +1,20 @@
-/* Calls one function COUNT times on one frame of 78 octets: measure WHAT FRAME COUNT. The counts of two runs are taken
- * from each other, so that the start and what is made before the calls fall out. Before it counts, it holds ours and
- * the C to each other, on this frame and on every way to damage it by one octet. */
+/* Calls one function COUNT times on one frame of SIZE octets, 4 to 78: measure FRAME SIZE WHAT WHICH COUNT. The counts
+ * of two runs are taken from each other, so that the start and what is made before the calls fall out. FRAME SIZE alike
+ * calls all of them, and holds ours and the C to each other, on this frame and on every way to damage it by one octet. */
 #include "baseline.h"
 #include "gorittaem.h"
 #include <stdio.h>
 #include <stdlib.h>
 #include <string.h>
 
-enum { PAYLOAD = 74, LINE = GORITTAEM_LINE_ROOM };
+enum { FRAME = 78, LINE = GORITTAEM_LINE_ROOM };
 
 typedef uint16_t checker(const uint8_t *, size_t);
 typedef size_t decoder(const uint8_t *, size_t, uint8_t *, size_t);
 typedef size_t writer(uint8_t, uint8_t, const uint8_t *, size_t, uint8_t *, size_t);
 
-static uint8_t frame[PAYLOAD + 4], line[LINE], out[LINE];
-static size_t len;
+static uint8_t frame[FRAME], line[LINE], out[LINE];
+static size_t size, len;
 static volatile size_t sink;
 
 /* octets of a frame by its name: random, plain (no escape), half (every second octet escaped), escaped (every octet) */
@@ -41,7 +41,7 @@ static void same(size_t ours, size_t theirs, const uint8_t *a, const uint8_t *b)
 
 static void decoded_alike(const uint8_t *s, size_t n, size_t room)
 {
-    decoder *const all[] = {baseline_decode, baseline_decode1, baseline_decode_as};
+    decoder *const all[] = {baseline_decode, baseline_decode16, baseline_decode1, baseline_decode_as};
     uint8_t a[LINE] = {0};
     size_t ours = gorittaem_decode(s, n, a, room);
     for (size_t k = 0; k < sizeof all / sizeof *all; k++) {
@@ -52,7 +52,7 @@ static void decoded_alike(const uint8_t *s, size_t n, size_t room)
 
 static void written_alike(size_t n, size_t room)
 {
-    writer *const all[] = {baseline_write, baseline_write1, baseline_write_as};
+    writer *const all[] = {baseline_write, baseline_write16, baseline_write1, baseline_write_as};
     uint8_t a[LINE] = {0};
     size_t ours = gorittaem_write(frame[0], frame[1], frame + 2, n, a, room);
     for (size_t k = 0; k < sizeof all / sizeof *all; k++) {
@@ -77,67 +77,77 @@ static void hold_to_each_other(void)
             damaged[i] = x;
             decoded_alike(damaged, len - 2, LINE);
         }
+    checker *const all[] = {baseline_check, baseline_check16, baseline_check8, baseline_check_as};
     for (size_t n = 0; n <= sizeof frame; n++)
-        if (gorittaem_check(frame, n) != baseline_check(frame, n) || baseline_check(frame, n) != baseline_check8(frame, n)
-            || baseline_check(frame, n) != baseline_check_as(frame, n))
-            same(0, 1, frame, frame);
+        for (size_t k = 0; k < sizeof all / sizeof *all; k++)
+            same(gorittaem_check(frame, n), all[k](frame, n), frame, frame);
 }
 
 static void check(checker *f, long count)
 {
+    const size_t n = size;
     while (count--)
-        sink = f(frame, sizeof frame);
+        sink = f(frame, n);
 }
 
 static void decode(decoder *f, long count)
 {
+    const size_t n = len - 2;
     while (count--)
-        sink = f(line + 1, len - 2, out, sizeof out);
+        sink = f(line + 1, n, out, sizeof out);
 }
 
 static void write(writer *f, long count)
 {
+    const size_t n = size - 4;
     while (count--)
-        sink = f(frame[0], frame[1], frame + 2, PAYLOAD, out, sizeof out);
+        sink = f(frame[0], frame[1], frame + 2, n, out, sizeof out);
+}
+
+/* what can be called, by its name */
+static const struct {
+    const char *name;
+    checker *check;
+    decoder *decode;
+    writer *write;
+} calls[] = {
+    {"ours", gorittaem_check, gorittaem_decode, gorittaem_write},
+    {"c", baseline_check, baseline_decode, baseline_write},
+    {"c16", baseline_check16, baseline_decode16, baseline_write16},
+    {"c1", 0, baseline_decode1, baseline_write1},
+    {"c8", baseline_check8, 0, 0},
+    {"as", baseline_check_as, baseline_decode_as, baseline_write_as},
+};
+
+static int call(const char *what, const char *which, long count)
+{
+    for (size_t k = 0; k < sizeof calls / sizeof *calls; k++) {
+        if (strcmp(which, calls[k].name))
+            continue;
+        if (!strcmp(what, "check") && calls[k].check)
+            return check(calls[k].check, count), 0;
+        if (!strcmp(what, "decode") && calls[k].decode)
+            return decode(calls[k].decode, count), 0;
+        if (!strcmp(what, "write") && calls[k].write)
+            return write(calls[k].write, count), 0;
+    }
+    return 2;
 }
 
 int main(int argc, char **argv)
 {
-    if (argc != 4)
+    if (argc < 4)
         return 2;
-    const char *what = argv[1];
-    long count = atol(argv[3]);
+    const char *name = argv[1];
+    size = strtoul(argv[2], 0, 10);
+    if (size < 4 || size > FRAME)
+        return 2;
     baseline_tables();
     for (unsigned i = 0; i < sizeof frame; i++)
-        frame[i] = octet(argv[2], i);
-    len = baseline_write(frame[0], frame[1], frame + 2, PAYLOAD, line, sizeof line);
-    if (!strcmp(what, "alike"))
-        hold_to_each_other();
-    else if (!strcmp(what, "check-ours"))
-        check(gorittaem_check, count);
-    else if (!strcmp(what, "check-c"))
-        check(baseline_check, count);
-    else if (!strcmp(what, "check-c8"))
-        check(baseline_check8, count);
-    else if (!strcmp(what, "check-as"))
-        check(baseline_check_as, count);
-    else if (!strcmp(what, "decode-ours"))
-        decode(gorittaem_decode, count);
-    else if (!strcmp(what, "decode-c"))
-        decode(baseline_decode, count);
-    else if (!strcmp(what, "decode-c1"))
-        decode(baseline_decode1, count);
-    else if (!strcmp(what, "decode-as"))
-        decode(baseline_decode_as, count);
-    else if (!strcmp(what, "write-ours"))
-        write(gorittaem_write, count);
-    else if (!strcmp(what, "write-c"))
-        write(baseline_write, count);
-    else if (!strcmp(what, "write-c1"))
-        write(baseline_write1, count);
-    else if (!strcmp(what, "write-as"))
-        write(baseline_write_as, count);
-    else
-        return 2;
-    return 0;
+        frame[i] = octet(name, i);
+    len = baseline_write(frame[0], frame[1], frame + 2, size - 4, line, sizeof line);
+    if (argc == 6)
+        return call(argv[3], argv[4], atol(argv[5]));
+    hold_to_each_other();
+    return strcmp(argv[3], "alike") ? 2 : 0;
 }

@@ -1,4 +1,5 @@
 -- The laws of the frame check that the layers above cite.
+pub mod Agree
 pub mod Division
 pub mod Exclusive
 pub mod Only

@@ -1,5 +1,5 @@
-// The table of 16 remainders: entry x is the register 4 bits on from x. Found by division, and tested entry by entry
-// against it in proofs/by_16/Proof.antt.
+// The table of 16 sixteen-bit remainders: entry x is the remainder of x by bitwise division, 4 bits on.
+// That every entry is so is proved in proofs/Rule.antt by one computed test.
 pub const REMAINDERS: [u16; 16] = [
     0x0000,
     0x1081,
