@@ -6,3 +6,4 @@ pub mod Only
 pub mod Register
 pub mod Residue
 pub mod Rule
+pub mod Vectors
