@@ -132,6 +132,10 @@ snrm = frame (7 ∷ 0x93 ∷ [])
 abbrev pub set-50 : List ℕ
 set-50 = 7 ∷ 0x10 ∷ 0x33 ∷ 0x02 ∷ 0x00 ∷ 0x32 ∷ 0x00 ∷ []
 
+-- .. and to -15
+abbrev pub set-minus-15 : List ℕ
+set-minus-15 = 7 ∷ 0x10 ∷ 0x33 ∷ 0x02 ∷ 0x00 ∷ 0xF1 ∷ 0xFF ∷ []
+
 abbrev pub rr : List ℕ
 rr = 7 ∷ 0x11 ∷ []
 
@@ -187,6 +191,9 @@ further =
     (snrm ∷ frame set-50 ∷ stopped (pos 50) ∷ frame rr ∷ frame (7 ∷ 0x31 ∷ []) ∷ [])
     (7 ∷ 0x32 ∷ 0x34 ∷ 0x00 ∷ 0x00 ∷ [])
     (7 ∷ 0x52 ∷ 0x34 ∷ 0x03 ∷ 0x00 ∷ 0x00 ∷ 0x32 ∷ 0x00 ∷ [])
+    -- "set tilt: 2 octets, low first, signed": F1 FF asks -15, and the "result .. is success exactly if t is the tilt asked"
+    ∷ gets (pos 0) (snrm ∷ frame set-minus-15 ∷ stopped (negsuc 14) ∷ []) rr
+    (7 ∷ 0x30 ∷ 0x33 ∷ 0x01 ∷ 0x00 ∷ 0x00 ∷ [])
     -- "if subscribed and there is something to tell, an alarm indication; else RR": not subscribed; subscribed
     ∷ gets (pos 0) (snrm ∷ rose 0x11 ∷ []) rr (7 ∷ 0x11 ∷ [])
     ∷ gets (pos 0) (snrm ∷ rose 0x11 ∷ frame subscribe ∷ []) (7 ∷ 0x31 ∷ [])
@@ -244,7 +251,8 @@ computed = (
       also (refl, refl) also (refl, refl) also (refl, refl) also (refl, refl) also ((refl, refl), refl)
       also ((refl, refl), refl) also ((refl, refl), refl) also tt,
   (refl, refl) also (refl, refl) also (refl, refl) also (refl, refl) also (refl, refl) also (refl, refl)
-      also (refl, refl) also (refl, refl) also (refl, refl) also (refl, refl) also (refl, refl) also tt,
+      also (refl, refl) also (refl, refl) also (refl, refl) also (refl, refl) also (refl, refl) also (refl, refl)
+      also tt,
 )
 
 pub starred-hold : All starred

@@ -1,5 +1,5 @@
--- The tests of a message, in 01's words: which codes, which lengths. So each return code (Exact) is given exactly where 01
--- says. Assumes nothing.
+-- What is read in a message, and the tests of it, in 01's words: which octets, which codes, which lengths. So each return
+-- code (Exact) is given exactly where 01 says. Assumes nothing.
 use mathlib.Core.Path.{_≡_, refl, sym, ap, _∙_}
 use mathlib.Core.Bool.{Bool, true, false, cond, not}
 use mathlib.Core.List.{List, [], _∷_}
@@ -8,13 +8,25 @@ use Prim.Native.Nat.{ℕ, _+_, _*_}
 use borrow.Author.Tests.{eqb-true, eq-eqb, ne-eqb, not-true, not-false}
 use lib.Dec.{eqb}
 use lib.ListN.{length, getD, drop}
+use mir.Syntax.{w16}
+use mir.Val.{toZ}
 use Rattle.octets.specs.Octets.{OneOf}
 use Rattle.octets.proofs.Words.{true-not-false, holds-exactly}
 use Rattle.antenna.specs.declared.Angle.{Angle}
 use Rattle.antenna.specs.declared.Antenna.{Antenna}
 use Rattle.antenna.specs.Motions.{inRange, busyOf}
-use Rattle.message.specs.Messages.{Entry, _takes_, codeOf, declaredOf, table, inTable, takenBy}
+use Rattle.tilt.specs.Tilts.{angleOf}
+use Rattle.message.specs.Messages.{Entry, _takes_, codeOf, declaredOf, askedOf, table, inTable, takenBy}
 use Rattle.message.specs.Messages.{misdeclared, barred, unknown, misfit, busied, outside}
+
+-- "Code, data length (two octets, low first), data": the code is the first octet
+pub code-is : (c : ℕ) (m : List ℕ) → codeOf (c ∷ m) ≡ c
+code-is c m = refl
+
+-- "0x33 set tilt: 2 octets, low first, signed": the data's two octets, read as a signed number of 16 bits
+pub asked-is : (c l h low high : ℕ) → askedOf (c ∷ l ∷ h ∷ low ∷ high ∷ []) .tenths ≡ toZ w16 (low + high * 256)
+unfolding angleOf
+asked-is c l h low high = refl
 
 -- a test that two numbers differ
 pub differs-exactly : (a b : ℕ) → not (eqb a b) ≡ false ↔ (a ≡ b)

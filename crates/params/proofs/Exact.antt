@@ -126,7 +126,7 @@ opened-is o (a ∷ b ∷ k ∷ s) e =
     let long : k ≡ length s = eqb-true k n z ∙ omega arith in
     rw (eqb-true a format x, eqb-true b o y, long)
 
-opened-payload : (g : Group) (ps : List Param) → opened (g .octet) (xidPayload g ps) ≡ true
+pub opened-payload : (g : Group) (ps : List Param) → opened (g .octet) (xidPayload g ps) ≡ true
 unfolding opened xidPayload
 opened-payload g ps =
     let n = length (fieldOf ps) in

@@ -4,4 +4,5 @@ pub mod Kept
 pub mod Turns
 pub mod Exact
 pub mod Values
+pub mod Made
 pub mod Only

@@ -93,7 +93,7 @@ module _ (m : List ℕ) (at : ℕ) where
   pub step-is : {r x : Stands} → r ≡ standsAt m at → r ≡ x → stepTo r (behind at x) ≡ stepAt m at
   step-is e f = λ i. stepTo (e i) (behind at ((sym f ∙ e) i))
 
-  -- a caller learns: what stands there, and that the cursor is behind a triple
+  -- a caller learns: what stands there, that the cursor is behind a triple, and that it stays where there is none
   module _ {r : Step} (e : r ≡ stepAt m at) where
     pub step-found : r .found ≡ standsAt m at
     step-found = ap (λ (x : Step). x .found) e
@@ -101,3 +101,13 @@ module _ (m : List ℕ) (at : ℕ) where
     pub step-behind : {n from len : ℕ} → r .found ≡ Triple n from len → r .cursor ≡ from + len
     unfolding behind
     step-behind f = ap (λ (x : Step). x .cursor) e ∙ ap (behind at) (sym step-found ∙ f)
+
+    -- the end, or less than an identifier, a length and as many octets
+    pub step-stays : length m < at + 2 + getD m (at + 1) 0 → r .cursor ≡ at
+    unfolding behind
+    step-stays h = ap (λ (x : Step). x .cursor) e ∙ go (standsAt m at) (means m at)
+      where
+        go : (x : Stands) → Means m at x → behind at x ≡ at
+        go End w = refl
+        go Broken w = refl
+        go (Triple n from len) w = let none : ⊥ = omega (arith, h, w .0, w .3) in absurd none

@@ -2,6 +2,7 @@
 use mathlib.Core.Path.{_≡_, refl}
 use mathlib.Core.List.{List, [], _∷_}
 use Prim.Native.Nat.{ℕ}
+use Prim.Native.Char.{code}
 use lib.ListN.{length, replicate}
 use lib.Seq.{sets}
 use Rattle.octets.specs.Octets.{placeOf}
@@ -32,6 +33,45 @@ places : (commandOf (spelled "frame") ∷ commandOf (spelled "hear") ∷ command
     ∷ command.scan ∷ command.begin ∷ command.probe ∷ command.report ∷ command.decode ∷ command.write ∷ []
 unfolding spelled firstOf behindFirst wordAt placeFrom placeOf same commandOf
 places = refl
+
+-- the kinds of word, by the bench script's names for them; "ADDRESS and CONTROL are exactly two hex digits"
+abbrev pub K : ℕ
+K = code "d"
+
+abbrev pub HEX : ℕ
+HEX = code "x"
+
+abbrev pub ROOM : ℕ
+ROOM = code "r"
+
+abbrev pub TILT : ℕ
+TILT = code "t"
+
+abbrev pub ALARM : ℕ
+ALARM = code "a"
+
+abbrev pub LIMIT : ℕ
+LIMIT = code "l"
+
+abbrev pub OCTET : ℕ
+OCTET = code "o"
+
+abbrev pub HEARD : ℕ
+HEARD = code "h"
+
+-- the words behind each command: `frame K HEX ROOM`, `hear K HEX ROOM`, `show K`, `stopped K T`, `raise K A`, `clear K A`,
+-- `device IDENTITY PRODUCT HARDWARE SOFTWARE LOWEST HIGHEST PRESENT`, "the four texts in HEX", `scan LIMIT`, `begin LIMIT`,
+-- `probe ROOM`, `report heard` or `silent`, `decode HEX ROOM`, `write ADDRESS CONTROL HEX ROOM`
+pub words-of : (kindsOf (spelled "frame") ∷ kindsOf (spelled "hear") ∷ kindsOf (spelled "show")
+    ∷ kindsOf (spelled "stopped") ∷ kindsOf (spelled "raise") ∷ kindsOf (spelled "clear") ∷ kindsOf (spelled "device")
+    ∷ kindsOf (spelled "scan") ∷ kindsOf (spelled "begin") ∷ kindsOf (spelled "probe") ∷ kindsOf (spelled "report")
+    ∷ kindsOf (spelled "decode") ∷ kindsOf (spelled "write") ∷ [])
+    ≡ (K ∷ HEX ∷ ROOM ∷ []) ∷ (K ∷ HEX ∷ ROOM ∷ []) ∷ (K ∷ [])
+    ∷ (K ∷ TILT ∷ []) ∷ (K ∷ ALARM ∷ []) ∷ (K ∷ ALARM ∷ []) ∷ (HEX ∷ HEX ∷ HEX ∷ HEX ∷ TILT ∷ TILT ∷ TILT ∷ [])
+    ∷ (LIMIT ∷ []) ∷ (LIMIT ∷ []) ∷ (ROOM ∷ []) ∷ (HEARD ∷ [])
+    ∷ (HEX ∷ ROOM ∷ []) ∷ (OCTET ∷ OCTET ∷ HEX ∷ ROOM ∷ []) ∷ []
+unfolding spelled firstOf behindFirst wordAt placeFrom placeOf same commandOf kindsOf
+words-of = refl
 
 -- leading zeros are read; a tilt below zero is its 16 bits, and -32,768 the last; HEX is read in capitals too; the
 -- value of HEX is where its octets end

@@ -5,3 +5,6 @@ mod LineLaws
 pub mod Only
 pub mod Room
 pub mod Examples
+pub mod Hexes
+pub mod Numbers
+pub mod Commands
