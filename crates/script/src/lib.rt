@@ -30,8 +30,9 @@ enum Value {
 // ---- the commands
 
 // A command is its place among the names. A new one goes behind the last: a const and COMMANDS, its name in
-// `command_of`, the kinds of its words in `read_line`; all that in specs/Commands.antt too, and a line of `places` in
-// proofs/Examples.antt. Then whoever obeys it (`drives`, `bench`), and `terms` where its answer has a new word.
+// `command_of`, the kinds of its words in `read_line`; all that in specs/Commands.antt too, a line of `places` and of
+// `words-of` in proofs/Examples.antt, and its name in `commandNames` of proofs/Commands.antt. Then whoever obeys it
+// (`drives`, `bench`), and `terms` where its answer has a new word.
 
 // To one device of the row.
 pub const FRAME: usize = 0;
