@@ -41,14 +41,17 @@ uint16_t baseline_check(const uint8_t *s, size_t len)
     return r ^ 0xFFFF;
 }
 
+static uint16_t by_halves(uint16_t r)
+{
+    r = r >> 4 ^ halves[r & 0xF];
+    return r >> 4 ^ halves[r & 0xF];
+}
+
 uint16_t baseline_check16(const uint8_t *s, size_t len)
 {
     uint16_t r = 0xFFFF;
-    for (size_t i = 0; i < len; i++) {
-        r ^= s[i];
-        r = r >> 4 ^ halves[r & 0xF];
-        r = r >> 4 ^ halves[r & 0xF];
-    }
+    for (size_t i = 0; i < len; i++)
+        r = by_halves(r ^ s[i]);
     return r ^ 0xFFFF;
 }
 
@@ -235,6 +238,17 @@ uint16_t baseline_check_as(const uint8_t *s, size_t len)
         r = two_on(r, s + i);
     if (i < len)
         r = step(r, s[i]);
+    return r ^ 0xFFFF;
+}
+
+uint16_t baseline_check16_as(const uint8_t *s, size_t len)
+{
+    uint16_t r = 0xFFFF;
+    size_t pairs = len / 2 * 2, i;
+    for (i = 0; i < pairs; i += 2)
+        r = by_halves(by_halves(r ^ (s[i] | s[i + 1] << 8)));
+    if (i < len)
+        r = by_halves(r ^ s[i]);
     return r ^ 0xFFFF;
 }
 

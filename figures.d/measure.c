@@ -77,7 +77,7 @@ static void hold_to_each_other(void)
             damaged[i] = x;
             decoded_alike(damaged, len - 2, LINE);
         }
-    checker *const all[] = {baseline_check, baseline_check16, baseline_check8, baseline_check_as};
+    checker *const all[] = {baseline_check, baseline_check16, baseline_check8, baseline_check_as, baseline_check16_as};
     for (size_t n = 0; n <= sizeof frame; n++)
         for (size_t k = 0; k < sizeof all / sizeof *all; k++)
             same(gorittaem_check(frame, n), all[k](frame, n), frame, frame);
@@ -117,6 +117,7 @@ static const struct {
     {"c1", 0, baseline_decode1, baseline_write1},
     {"c8", baseline_check8, 0, 0},
     {"as", baseline_check_as, baseline_decode_as, baseline_write_as},
+    {"as16", baseline_check16_as, 0, 0},
 };
 
 static int call(const char *what, const char *which, long count)

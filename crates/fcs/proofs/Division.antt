@@ -24,7 +24,7 @@ comes-down (suc k) a b =
     ∙ xor-assoc (a * 2 ^ k) (b / 2) (b % 2 * polynomial))
     ∙ comes-down k a (bitStep b)
 
--- so k steps are a shift, and the remainder of the k low bits: k = 8 is the table of 256, k = 4 would be one of 16
+-- so k steps are a shift, and the remainder of the k low bits: k = 8 is the table of 256, k = 4 that of 16
 pub by-table : (k x : ℕ) → bitSteps k x ≡ bitXor (x / 2 ^ k) (bitSteps k (x % 2 ^ k))
 by-table k x =
     ap (bitSteps k) (sym (split x k) ∙ sym (xor-shifted (x / 2 ^ k) k (x % 2 ^ k) (mod-lt x (pow-pos k))))

@@ -1,5 +1,5 @@
 // The table of 256 sixteen-bit remainders: entry x is the remainder of x by bitwise division, 8 bits on.
-// That every entry is so is proved in proofs/Rule.antt by one computed test.
+// That every entry is so is one computed test (proofs/by_octets), by a law of proofs/Rule.antt.
 pub const REMAINDERS: [u16; 256] = [
     0x0000,
     0x1189,
