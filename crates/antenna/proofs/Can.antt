@@ -28,7 +28,6 @@ stopped-owing : (b : Bool) (a : Angle) → Stopped b ≡ Owing a → ⊥
 stopped-owing b a e = true-not-false (cc)
 
 pub runs-exactly : (m : Motion) → runs m ≡ true ↔ Runs m
-unfolding runs
 runs-exactly Still = (
   λ e. absurd (true-not-false (sym e)),
   ⊎-elim (λ e. absurd (still-moving e)) (λ w. absurd (still-owing (w .0) (w .1))),

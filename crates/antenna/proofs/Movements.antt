@@ -64,21 +64,18 @@ stop-moving t = refl
 
 -- nothing is owed once what is owed is dropped, and what runs goes on running
 pub unowed-owes : (m : Motion) → owesOf (unowedOf m) ≡ false
-unfolding owesOf unowedOf
 unowed-owes Still = refl
 unowed-owes Moving = refl
 unowed-owes (Owing asked) = refl
 unowed-owes (Stopped reached) = refl
 
 pub unowed-twice : (m : Motion) → unowedOf (unowedOf m) ≡ unowedOf m
-unfolding unowedOf
 unowed-twice Still = refl
 unowed-twice Moving = refl
 unowed-twice (Owing asked) = refl
 unowed-twice (Stopped reached) = refl
 
 pub unowed-runs : (m : Motion) → runs (unowedOf m) ≡ runs m
-unfolding runs unowedOf
 unowed-runs Still = refl
 unowed-runs Moving = refl
 unowed-runs (Owing asked) = refl
@@ -86,14 +83,12 @@ unowed-runs (Stopped reached) = refl
 
 -- what runs or waits is busy, and nothing else
 pub busy-runs : (m : Motion) → runs m ≡ true → busyOf m ≡ true
-unfolding runs busyOf
 busy-runs Still e = e
 busy-runs Moving e = refl
 busy-runs (Owing asked) e = refl
 busy-runs (Stopped reached) e = absurd (true-not-false (sym e))
 
 pub idle : (m : Motion) → busyOf m ≡ false → m ≡ Still
-unfolding busyOf
 idle Still e = refl
 idle Moving e = absurd (true-not-false e)
 idle (Owing asked) e = absurd (true-not-false e)
@@ -110,7 +105,7 @@ starts-no-result n t r e = nothing-not-result r e
 -- a result waits after a stop exactly where the movement owed one: success exactly if the stop is at the tilt asked
 pub stop-result : (m : Motion) (t : Angle) (r : Bool) → runs m ≡ true → waitingOf (restedOf m t) ≡ Result r
     → (asked : Angle) × (m ≡ Owing asked) × (r ≡ sameAs asked t)
-unfolding runs restedOf waitingOf
+unfolding restedOf waitingOf
 stop-result Still t r h e = absurd (true-not-false (sym h))
 stop-result Moving t r h e = absurd (nothing-not-result r e)
 stop-result (Owing asked) t r h e = (asked, refl, result-same (sameAs asked t) r e)
@@ -122,7 +117,7 @@ unfolding withAlarm
 alarm-no-result n k on = refl
 
 pub end-no-result : (m : Motion) → waitingOf (unowedOf m) ≡ Nothing
-unfolding waitingOf unowedOf
+unfolding waitingOf
 end-no-result Still = refl
 end-no-result Moving = refl
 end-no-result (Owing asked) = refl

@@ -35,19 +35,19 @@ unfoldable pub inRange : Antenna → Angle → Bool
 inRange n t = atMost (n .drive .lowest) t && atMost t (n .drive .highest)
 
 -- "Set and get tilt are busy while moving or while a result waits"
-unfoldable pub busyOf : Motion → Bool
+abbrev pub busyOf : Motion → Bool
 busyOf Still = false
 busyOf Moving = true
 busyOf (Owing asked) = true
 busyOf (Stopped reached) = true
 
-unfoldable pub runs : Motion → Bool
+abbrev pub runs : Motion → Bool
 runs Still = false
 runs Moving = true
 runs (Owing asked) = true
 runs (Stopped reached) = false
 
-unfoldable pub owesOf : Motion → Bool
+abbrev pub owesOf : Motion → Bool
 owesOf Still = false
 owesOf Moving = false
 owesOf (Owing asked) = true
@@ -60,7 +60,7 @@ waitingOf (Owing asked) = Nothing
 waitingOf (Stopped reached) = Result reached
 
 -- "Ending a session drops .. any tilt result owed; .. a running movement stay[s]"
-unfoldable pub unowedOf : Motion → Motion
+abbrev pub unowedOf : Motion → Motion
 unowedOf Still = Still
 unowedOf Moving = Moving
 unowedOf (Owing asked) = Moving

@@ -44,7 +44,6 @@ addressesAfter limit ds = map (λ (d : Device). d .station .desk .address) (afte
 
 fresh-good : (i : List ℕ) → dataAllowed i [] [] [] (freshAntenna level level level) ≡ true
     → allowedDevice (freshNamed i) ≡ true
-unfolding owesOf
 fresh-good i e = fresh-allowed i [] [] [] (freshAntenna level level level) e refl
 
 three-good : (allowedDevice (freshNamed aazz1) ≡ true) × (allowedDevice (freshNamed zz1) ≡ true)

@@ -90,7 +90,7 @@ module _ (d : Device) (p : Bits) where
 
     -- it answers exactly if its identity does, and stays as it was
     pub probe-replies : repliesTo d (lineFor (probeOf p)) ≡ asks
-    unfolding withFrame isFrame reacts frameBy isSilent
+    unfolding withFrame isFrame reacts frameBy
     probe-replies = ap withFrame probe-heard ∙ go asks
       where
         go : (b : Bool) → isFrame (frameBy d (cond b Say.Scanned Say.Silence)) ≡ b

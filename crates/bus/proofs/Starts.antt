@@ -57,7 +57,7 @@ module _ (d : Device) (w : Ready d) where
 
   pub snrm-heard : hears d (snrmFor d)
       ≡ gives (record { device = begun d; frame = some (d .station .desk .address ∷ 0x73 ∷ []) })
-  unfolding saying reacts frameBy isSilent controlBy payloadBy begun endedAs unsaidAt
+  unfolding saying reacts frameBy controlBy payloadBy begun endedAs unsaidAt
   snrm-heard =
       let (least, most) = address-bounds in
       hears-written d (d .station .desk .address) 0x93 [] (w .allowed) (omega arith) (omega arith)
@@ -65,7 +65,7 @@ module _ (d : Device) (w : Ready d) where
 
   pub snrm-alone : (o : Device) → allowedDevice o ≡ true → (o .station .desk .address ≡ d .station .desk .address → ⊥)
       → hears o (snrmFor d) ≡ gives (record { device = o; frame = none })
-  unfolding saying reacts frameBy isSilent controlledBy addressedBy isOwn polled
+  unfolding saying reacts frameBy controlledBy addressedBy isOwn polled
   snrm-alone o fine other =
       let (least, most) = address-bounds in
       let a = d .station .desk .address in

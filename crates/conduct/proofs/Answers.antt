@@ -44,7 +44,7 @@ use Rattle.conduct.proofs.Addressed.{link-addressed, addressed-bounds}
 
 snrm-linked : (d : Device) (l : Link) (c : ℕ) (p : List ℕ) → hasAddress l ≡ true
     → linkedBy d l Snrm c p ≡ saying (onSnrm d l) ua
-unfolding linkedBy isSnrm assignedBy connectedBy onSnrm
+unfolding linkedBy assignedBy connectedBy onSnrm
 snrm-linked d NoAddress c p h = absurd (true-not-false (sym h))
 snrm-linked d AddressAssigned c p h = refl
 snrm-linked d (Connected s) c p h = refl
@@ -75,7 +75,7 @@ snrm-in d f e = ap (λ (x : Link). saying (onSnrm d x) ua) e
 
 module _ (d : Device) (allowed : allowedDevice d ≡ true) (assigned : hasAddress (d .station .link) ≡ true) where
   snrm-own : Own d (d .station .desk .address ∷ 0x93 ∷ []) Snrm
-  unfolding stationAllowed polled askedBy quiet isOwn
+  unfolding stationAllowed polled askedBy isOwn
   snrm-own =
       let a = d .station .desk .address in
       let bounds =

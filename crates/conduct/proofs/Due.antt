@@ -9,7 +9,7 @@ use borrow.Author.Tests.{not-true}
 use Rattle.octets.proofs.Words.{true-not-false, and-parts}
 use Rattle.antenna.specs.declared.Motion.{Motion}
 use Rattle.antenna.specs.declared.Motion.the-variants.{Still}
-use Rattle.antenna.specs.Motions.{runs, started, moves}
+use Rattle.antenna.specs.Motions.{runs, started, moves, unowedOf}
 use Rattle.antenna.proofs.Movements.{unowed-runs, idle}
 use Rattle.record.specs.declared.Link.the-variants.{Connected}
 use Rattle.record.specs.declared.Device.{Device}
@@ -40,38 +40,40 @@ not-begun m k same e =
     absurd (true-not-false (sym (parts .1) ∙ same ∙ not-true _ (parts .0)))
 
 stood : {A : Type 0} (m : Motion) → Begins m Still → A
-unfolding runs
 stood m e = absurd (true-not-false (sym (and-parts (not (runs m)) false e .1)))
 
 -- ---- only where a tilt is due
 
 module _ (d : Device) (f : List ℕ) where
-  -- the motion is as it was, or runs as it did
-  same : (k : Motion) → runs k ≡ runs (d .antenna .motion) → Begins (d .antenna .motion) k → TiltDue d f
-  same k e = not-begun (d .antenna .motion) k e
+  -- the motion is as it was, or is owed no longer and runs as it did
+  kept : Begins (d .antenna .motion) (d .antenna .motion) → TiltDue d f
+  kept = not-begun (d .antenna .motion) (d .antenna .motion) refl
+
+  ended : Begins (d .antenna .motion) (unowedOf (d .antenna .motion)) → TiltDue d f
+  ended = not-begun (d .antenna .motion) (unowedOf (d .antenna .motion)) (unowed-runs (d .antenna .motion))
 
   due-by : (c : Comes d f) → Begins (d .antenna .motion) (left d f c .antenna .motion) → TiltDue d f
   unfolding left begun released endedAs moves deviceOf acknowledged quieted
-  due-by (unread w) = same _ refl
-  due-by (scans w a) = same _ refl
-  due-by (assigns a w) = same _ (unowed-runs (d .antenna .motion))
-  due-by (begins w l) = same _ (unowed-runs (d .antenna .motion))
-  due-by (declines o w n l) = same _ refl
-  due-by (renews s w l) = rw (renewed-ends d) (same _ (unowed-runs (d .antenna .motion)))
-  due-by (leaves s w l) = same _ (unowed-runs (d .antenna .motion))
-  due-by (miscounts s o r w l n b) = same _ (unowed-runs (d .antenna .motion))
-  due-by (unknown s w l) = same _ (unowed-runs (d .antenna .motion))
+  due-by (unread w) = kept
+  due-by (scans w a) = kept
+  due-by (assigns a w) = ended
+  due-by (begins w l) = ended
+  due-by (declines o w n l) = kept
+  due-by (renews s w l) = rw (renewed-ends d) ended
+  due-by (leaves s w l) = ended
+  due-by (miscounts s o r w l n b) = ended
+  due-by (unknown s w l) = ended
   due-by (come.starts s n r w due) = λ e. record { session = s; ns = n; nr = r; frame = w; message = due }
-  due-by (clears s n r w m) = same _ refl
-  due-by (subscribes s n r w m) = same _ refl
-  due-by (answers s n r b w e) = same _ refl
-  due-by (murmurs s n r w few) = same _ refl
-  due-by (repeats s n r w a) = same _ refl
-  due-by (resends s r w p) = same _ refl
+  due-by (clears s n r w m) = kept
+  due-by (subscribes s n r w m) = kept
+  due-by (answers s n r b w e) = kept
+  due-by (murmurs s n r w few) = kept
+  due-by (repeats s n r w a) = kept
+  due-by (resends s r w p) = kept
   due-by (delivers s r b w p q) = stood (d .antenna .motion)
-  due-by (indicates s r w p q t) = same _ refl
-  due-by (rests s r w p q t) = same _ refl
-  due-by (pauses s r w) = same _ refl
+  due-by (indicates s r w p q t) = kept
+  due-by (rests s r w p q t) = kept
+  due-by (pauses s r w) = kept
 
   starts-only : starts d f ≡ true → TiltDue d f
   unfolding starts
@@ -102,7 +104,7 @@ module _ (d : Device) (f : List ℕ) (w : TiltDue d f) where
       }
 
   starts-due : starts d f ≡ true
-  unfolding starts started moves runs
+  unfolding starts started moves
   starts-due =
       rw (due-moves-on .antenna, idle (d .antenna .motion) (w .message .idle))
 

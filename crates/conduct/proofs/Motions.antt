@@ -34,7 +34,6 @@ same-asked e = cc
 
 -- nothing is owed once it is dropped
 unowed-apart : (m : Motion) {t : Angle} → unowedOf m ≡ Owing t → ⊥
-unfolding unowedOf
 unowed-apart Still e = still-apart e
 unowed-apart Moving e = let z : _≡_ {A = ℕ} 0 1 = cc in omega arith
 unowed-apart (Owing asked) e = let z : _≡_ {A = ℕ} 0 1 = cc in omega arith

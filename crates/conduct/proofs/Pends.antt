@@ -120,7 +120,7 @@ module _ (d : Device) (f : List ℕ) where
           (λ a. relieved-empty))
 
       rr-empty : Numbered d f (Rr r) r s → Empty (after d f)
-      unfolding left pends
+      unfolding left
       rr-empty w = waits (waitingOf (d .antenna .motion)) refl
         where
           free : pends (sessionAfter s r .pending) ≡ false

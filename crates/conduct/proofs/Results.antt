@@ -60,7 +60,7 @@ module _ (d : Device) (f : List ℕ) (r : ℕ) (s : Session) (reached : Bool) (w
 -- ---- dropped
 
 owes-waits : (m : Motion) → owesOf m ≡ false → waitingOf m ≡ Nothing
-unfolding owesOf waitingOf
+unfolding waitingOf
 owes-waits Still e = refl
 owes-waits Moving e = refl
 owes-waits (Owing asked) e = refl
@@ -73,7 +73,7 @@ result-dropped d f w = owes-waits (after d f .antenna .motion) (drops-drop d f w
 -- ---- kept
 
 waiting-busy : (m : Motion) (reached : Bool) → waitingOf m ≡ Result reached → busyOf m ≡ true
-unfolding waitingOf busyOf
+unfolding waitingOf
 waiting-busy Still reached e = cc
 waiting-busy Moving reached e = refl
 waiting-busy (Owing asked) reached e = refl

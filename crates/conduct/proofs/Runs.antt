@@ -58,7 +58,7 @@ run-allowed d (m ∷ ms) a = run-allowed (meets d m) ms (meeting-allowed d m a)
 -- from a fresh device
 module _ (i p h s : List ℕ) (w : Span) (d : Device) (fresh : freshOf i p h s w ≡ gives d) where
   pub never-refused : (ms : List Meeting) → allowedDevice (run d ms) ≡ true
-  unfolding freshOf Clear owesOf
+  unfolding freshOf Clear
   never-refused ms =
       let told = exactly-given (6 when not (dataAllowed i p h s (antennaFrom w)) ∷ [])
       (freshFrom (plateFrom i p h s) (antennaFrom w)) d .0 fresh in

@@ -74,7 +74,7 @@ unfolding infoOf nextOf
 info-next s r = omega arith
 
 counts-are : (s : Session) → countsOf s ≡ 2 * sentNumber (s .s) (s .pending) + 32 * (s .r % 8)
-unfolding countsOf vsOf pends sentNumber nextOf
+unfolding countsOf vsOf sentNumber nextOf
 counts-are s = go (s .pending)
   where
     go : (p : Pending) → cond (pends p) (nextOf (s .s)) (s .s % 8) * 2 + s .r % 8 * 32
@@ -121,7 +121,7 @@ address-kept t s r = go (acknowledges s r)
 
 -- where it removes what is pending, RR is sent again
 emptied-rests : (s : Session) (r : ℕ) → acknowledges s r ≡ true → resent (sessionAfter s r) ≡ ready (sessionAfter s r)
-unfolding sessionAfter resent emptied pends
+unfolding sessionAfter resent emptied
 emptied-rests s r a = rw a
 
 -- ---- alarms
@@ -208,12 +208,12 @@ module _ (d : Device) (s : Session) (r : ℕ) (good : goodNumber s r ≡ true) w
   module _ (n : Antenna) where
     rests-says : frameBy (deviceOf d (stationAfter (d .station) s r) n) (ready (sessionAfter s r))
         ≡ rr (d .station .desk .address) (s .r)
-    unfolding frameBy isSilent controlBy payloadBy deviceOf rr
+    unfolding frameBy controlBy payloadBy deviceOf rr
     rests-says = same-frame (address-kept (d .station) s r) (ap rrOf (r-kept s r) ∙ rr-control (s .r)) refl
 
     heard-says : (told : Alarms) (sub : Bool)
         → frameBy (unansweredAs d s r n told sub) (ready (taken (sessionAfter s r))) ≡ rr (d .station .desk .address) (s .r + 1)
-    unfolding frameBy isSilent controlBy payloadBy deviceOf heeded taken rr
+    unfolding frameBy controlBy payloadBy deviceOf heeded taken rr
     heard-says told sub =
         same-frame (address-kept (d .station) s r) (ap (λ (k : ℕ). rrOf (nextOf k)) (r-kept s r) ∙ rr-next (s .r)) refl
 
@@ -221,7 +221,7 @@ module _ (d : Device) (s : Session) (r : ℕ) (good : goodNumber s r ≡ true) w
     replied-says : (told : Alarms) (sub : Bool) (b : List ℕ)
         → frameBy (answeredAs d s r n told sub b) (pend (taken (sessionAfter s r)))
         ≡ info (d .station .desk .address) r (s .r + 1) b
-    unfolding frameBy isSilent controlBy payloadBy deviceOf answersWith awaiting heeded taken linkOctets pendingOctets
+    unfolding frameBy controlBy payloadBy deviceOf answersWith awaiting heeded taken linkOctets pendingOctets
         info
     replied-says told sub b = same-frame (address-kept (d .station) s r) next (payload-says b)
 
@@ -229,7 +229,7 @@ module _ (d : Device) (s : Session) (r : ℕ) (good : goodNumber s r ≡ true) w
         → frameBy (deviceOf d (answersWith (stationAfter (d .station) s r) (sessionAfter s r) (payloadOf b)) n)
         (pend (sessionAfter s r))
         ≡ info (d .station .desk .address) r (s .r) b
-    unfolding frameBy isSilent controlBy payloadBy deviceOf answersWith awaiting linkOctets pendingOctets info
+    unfolding frameBy controlBy payloadBy deviceOf answersWith awaiting linkOctets pendingOctets info
     delivers-says b = same-frame (address-kept (d .station) s r) now (payload-says b)
 
     indicates-says : (a : Alarms)
@@ -237,7 +237,7 @@ module _ (d : Device) (s : Session) (r : ℕ) (good : goodNumber s r ≡ true) w
         (pend (sessionAfter s r))
         ≡ info (d .station .desk .address) r (s .r)
         (indication (changesOf (a .flags) (stationAfter (d .station) s r .desk .told .flags)))
-    unfolding frameBy isSilent controlBy payloadBy deviceOf poll.indicates awaiting linkOctets pendingOctets info
+    unfolding frameBy controlBy payloadBy deviceOf poll.indicates awaiting linkOctets pendingOctets info
         indicationOf messageOf indication
     indicates-says a = same-frame (address-kept (d .station) s r) now refl
 
@@ -245,18 +245,18 @@ module _ (d : Device) (s : Session) (r : ℕ) (good : goodNumber s r ≡ true) w
   module _ (link : d .station .link ≡ Connected s) where
     pends-says : r ≡ s .s → frameBy (deviceOf d (d .station) (d .antenna)) (pend s)
         ≡ info (d .station .desk .address) r (s .r) (pendingSaid (d .station .desk) (s .pending))
-    unfolding frameBy isSilent controlBy payloadBy deviceOf linkOctets info
+    unfolding frameBy controlBy payloadBy deviceOf linkOctets info
     pends-says e =
         same-frame refl (ap (λ (k : ℕ). infoOf k (s .r)) (sym e) ∙ info-control r (s .r))
         (ap (linkOctets (d .station .desk)) link ∙ pending-is (d .station .desk) (s .pending))
 
     ready-says : frameBy (deviceOf d (d .station) (d .antenna)) (ready s) ≡ rr (d .station .desk .address) (s .r)
-    unfolding frameBy isSilent controlBy payloadBy deviceOf rr
+    unfolding frameBy controlBy payloadBy deviceOf rr
     ready-says = same-frame refl (rr-control (s .r)) refl
 
     again-says : r ≡ s .s → (p : Pending) → s .pending ≡ p
         → frameBy (deviceOf d (d .station) (d .antenna)) (resent s) ≡ again (d .station .desk) s r p
-    unfolding resent pends again
+    unfolding resent again
     again-says e Nothing h =
         ap (λ (p : Pending). frameBy (deviceOf d (d .station) (d .antenna)) (cond (pends p) (pend s) (ready s))) h
         ∙ ready-says
@@ -292,7 +292,7 @@ module _ (d : Device) (f : List ℕ) where
       → pends (sessionAfter s r .pending) ≡ true
       → frameBy (acknowledged d s r) (pend (sessionAfter s r))
       ≡ info (d .station .desk .address) r (s .r) (pendingSaid (d .station .desk) (s .pending))
-  unfolding acknowledged sessionAfter emptied pends
+  unfolding acknowledged sessionAfter emptied
   resends-says s r link good p = ⊎-elim stays removes (good-cases s r good)
     where
       stays : Stays s r → frameBy (acknowledged d s r) (pend (sessionAfter s r))
@@ -313,7 +313,7 @@ module _ (d : Device) (f : List ℕ) where
 
   -- what a device says of a frame, of each case, octet by octet
   pub says-octets : (c : Comes d f) → frameBy (left d f c) (says d f c) ≡ octetsSaid d f c
-  unfolding left says octetsSaid frameBy isSilent controlBy payloadBy begun renewed released endedAs unsaidAt frmr acknowledged
+  unfolding left says octetsSaid frameBy controlBy payloadBy begun renewed released endedAs unsaidAt frmr acknowledged
   says-octets (unread w) = refl
   says-octets (scans w a) = ap some (scan-is (d .station .desk .address) (identityOf (d .plate)))
   says-octets (assigns a w) = ap some (assignment-is a (identityOf (d .plate)))

@@ -44,7 +44,6 @@ assigned-apart e = let z : _≡_ {A = ℕ} 0 1 = cc in omega arith
 
 -- what is not pending is nothing
 pub nothing-pends : (p : Pending) → pends p ≡ false → p ≡ Nothing
-unfolding pends
 nothing-pends Nothing e = refl
 nothing-pends Answer e = absurd (true-not-false e)
 nothing-pends Indication e = absurd (true-not-false e)

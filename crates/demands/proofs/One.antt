@@ -112,7 +112,7 @@ pub data Defined (x : Answer Reaction) (d : Device) (o : List ℕ) (r : Judged) 
 -- no frame is said by silence alone, which changes no device
 unsaid : (d : Device) (f : List ℕ) → frameBy (judgedFrame d f .device) (judgedFrame d f .say) ≡ none
     → judgedFrame d f .device ≡ d
-unfolding frameBy isSilent
+unfolding frameBy
 unsaid d f = go (judgedFrame d f .say) refl
   where
     go : (w : Say) → judgedFrame d f .say ≡ w → frameBy (judgedFrame d f .device) w ≡ none

@@ -204,7 +204,7 @@ module _ (d : Device) (allowed : allowedDevice d ≡ true) (assigned : hasAddres
       → heard d (inside (lineOf (d .station .desk .address ∷ 0x93 ∷ []))) room
       ≡ gives
       (record { device = onSnrm d (d .station .link); frame = some (d .station .desk .address ∷ 0x73 ∷ []) })
-  unfolding reacts saying frameBy isSilent controlBy payloadBy
+  unfolding reacts saying frameBy controlBy payloadBy
   snrm-heard room h =
       let a = d .station .desk .address in
       written-heard d a 0x93 [] room (omega (arith, address-fits d allowed), (omega arith, tt)) (omega arith)

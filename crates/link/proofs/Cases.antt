@@ -119,7 +119,7 @@ module _ (d : Device) (f : List ℕ) (P : Turn → Type 0)
   -- an XID is not read here
   connected-cases : (s : Session) (o : Order) → Own d f o → d .station .link ≡ Connected s
       → P (connectedBy d s o (controlOf f) (drop 2 f))
-  unfolding connectedBy infoBy rrBy rnrBy quiet
+  unfolding connectedBy infoBy rrBy rnrBy
   connected-cases s Xid w l = absurd (true-not-false (w .read))
   connected-cases s Snrm w l = renews s w l
   connected-cases s Disc w l = ends s w l
@@ -129,7 +129,7 @@ module _ (d : Device) (f : List ℕ) (P : Turn → Type 0)
   connected-cases s Unknown w l = unknown s w l
 
   assigned-cases : (o : Order) → Own d f o → d .station .link ≡ AddressAssigned → P (assignedBy d o)
-  unfolding assignedBy isSnrm
+  unfolding assignedBy
   assigned-cases Xid w l = refuses Xid w refl l
   assigned-cases Snrm w l = begins w l
   assigned-cases Disc w l = refuses Disc w refl l

@@ -24,7 +24,6 @@ own-exactly d a = (
 )
 
 why-quiet : (o : Order) (bare : Bool) → quiet o bare ≡ true → (o ≡ Xid) ⊎ ((bare ≡ false) × Supervised o)
-unfolding quiet
 why-quiet Xid bare e = inl refl
 why-quiet Snrm bare e = inr (not-true bare e, snrm refl)
 why-quiet Disc bare e = inr (not-true bare e, disc refl)
@@ -34,7 +33,6 @@ why-quiet (Rnr r) bare e = inr (not-true bare e, rnr r refl)
 why-quiet Unknown bare e = absurd (true-not-false (sym e))
 
 supervised-quiet : (o : Order) (bare : Bool) → Supervised o → quiet o bare ≡ not bare
-unfolding quiet
 supervised-quiet o bare (snrm e) = rw e
 supervised-quiet o bare (disc e) = rw e
 supervised-quiet o bare (rr r e) = rw e
@@ -42,7 +40,6 @@ supervised-quiet o bare (rnr r e) = rw e
 
 -- "Own address, XID: silence. SNRM, DISC, RR or RNR with payload: silence."
 pub quiet-exactly : (o : Order) (bare : Bool) → quiet o bare ≡ true ↔ ((o ≡ Xid) ⊎ ((bare ≡ false) × Supervised o))
-unfolding quiet
 quiet-exactly o bare = (
   why-quiet o bare,
   ⊎-elim (λ e. rw e) (λ w. supervised-quiet o bare (w .1) ∙ ap not (w .0)),

@@ -118,7 +118,7 @@ module _ (d : Device) (f : List ℕ) where
 
   -- an XID, whatever its address: at the own address it is silence, as the second row says
   pub xid-judged : controlOf f ≡ xidControl → judgedFrame d f ≡ xidBy d (xidMeans (identityOf (d .plate)) f)
-  unfolding wrongAddress askedBy quiet
+  unfolding wrongAddress askedBy
   xid-judged c = go (eqb (getD f 0 0) allStations) refl (wrongSize f) refl
     where
       unread : quiet (askedBy (controlOf f)) (eqb (length (drop 2 f)) 0) ≡ true

@@ -35,7 +35,7 @@ abbrev pub xidControl : ℕ
 xidControl = 0xBF
 
 -- "Own address, XID: silence. SNRM, DISC, RR or RNR with payload: silence."
-unfoldable pub quiet : Order → Bool → Bool
+abbrev pub quiet : Order → Bool → Bool
 quiet Xid bare = true
 quiet Snrm bare = not bare
 quiet Disc bare = not bare

@@ -138,7 +138,7 @@ module _ (p : Plate) (n : Antenna) (told : Alarms) (sub : Bool) (m : List ℕ) w
 
   -- a movement starts exactly where a set tilt is due
   pub moves-exactly : (carriedOf p n told sub m .antenna .motion ≡ n .motion → ⊥) ↔ Due n m
-  unfolding unanswered started moves busyOf
+  unfolding unanswered started moves
   moves-exactly = (
     λ changed. ⊎-elim (λ d. d) (λ same. absurd (changed same)) moved-or-not,
     λ d same.

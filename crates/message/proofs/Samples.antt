@@ -41,21 +41,21 @@ module _ (p : Plate) where
   -- "Tilt -15: get tilt gives 34 03 00 00 F1 FF"
   pub get-minus-15 : said (carriedOf p (at-rest (negsuc 14)) calm false (0x34 ∷ 0x00 ∷ 0x00 ∷ []))
       ≡ 0x34 ∷ 0x03 ∷ 0x00 ∷ 0x00 ∷ 0xF1 ∷ 0xFF ∷ []
-  unfolding carriedOf outcome answered checks driveChecks holds inTable takenBy busyOf doneBy replies payloadOf
+  unfolding carriedOf outcome answered checks driveChecks holds inTable takenBy doneBy replies payloadOf
       successOf messageOf tiltOctets _atStartOf_
   get-minus-15 = refl
 
   -- "33 02 00 32 00": no answer now, and a movement that owes its result, to the tilt 50
   pub set-50 : carriedOf p (at-rest (pos 0)) calm false (0x33 ∷ 0x02 ∷ 0x00 ∷ 0x32 ∷ 0x00 ∷ [])
       ≡ unanswered (moves (at-rest (pos 0)) (Owing (record { tenths = pos 50 }))) calm false
-  unfolding carriedOf outcome answered checks driveChecks holds inTable takenBy busyOf inRange atMost doneBy
+  unfolding carriedOf outcome answered checks driveChecks holds inTable takenBy inRange atMost doneBy
       started angleOf
   set-50 = refl
 
   -- 101 is out of range, and a data length of 1 is not the defined one
   pub set-101 : said (carriedOf p (at-rest (pos 0)) calm false (0x33 ∷ 0x02 ∷ 0x00 ∷ 0x65 ∷ 0x00 ∷ []))
       ≡ 0x33 ∷ 0x02 ∷ 0x00 ∷ 0x0B ∷ 0x13 ∷ []
-  unfolding carriedOf outcome answered checks driveChecks holds inTable takenBy busyOf inRange atMost replies payloadOf
+  unfolding carriedOf outcome answered checks driveChecks holds inTable takenBy inRange atMost replies payloadOf
       failureOf angleOf _atStartOf_
   set-101 = refl
 

@@ -135,7 +135,7 @@ module _ (t : List Identifier) where
 
   kept-bad : (ps : List Param) (f : List Slot) (at : ℕ) → length f ≡ length t
       → allRight t ps && noneTwice (identifiers ps) ≡ false → kept t f at ps ≡ unformed
-  unfolding allRight noneTwice identifiers kept isAbsent
+  unfolding allRight noneTwice identifiers kept
   kept-bad [] f at l h = absurd (false≢true (sym h))
   kept-bad (n is v ∷ ps) f at l h =
       go (kept-bad ps (set f (placeIn n t) x) (at + 2 + length v) (length-set f (placeIn n t) x ∙ l))
@@ -205,7 +205,6 @@ module _ (t : List Identifier) where
       ∙ ap formed (laid-set f x n h ps (at + 2 + length v) once))
 
   absent-none : (k i : ℕ) → isAbsent (partIn (noParts k) i) ≡ true
-  unfolding isAbsent
   absent-none zero i = refl
   absent-none (suc k) zero = refl
   absent-none (suc k) (suc i) = absent-none k i

@@ -40,7 +40,7 @@ partsAt t at (n is v ∷ ps) = set (partsAt t (at + 2 + length v) ps) (placeIn n
 abbrev pub partIn : List Slot → ℕ → Part
 partIn f i = getD f i (slot Absent) .part
 
-unfoldable pub isAbsent : Part → Bool
+abbrev pub isAbsent : Part → Bool
 isAbsent Absent = true
 isAbsent (At from len) = false
 

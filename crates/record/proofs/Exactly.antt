@@ -200,14 +200,12 @@ module _ (t : Desk) (n : length (t .said .flags) ≡ length (t .told .flags)) wh
 
 -- "a tilt result owed only in Connected"
 owes-words : (m : Motion) → owesOf m ≡ true → Owes m
-unfolding owesOf
 owes-words motion.Still e = absurd (true-not-false (sym e))
 owes-words motion.Moving e = absurd (true-not-false (sym e))
 owes-words (motion.Owing asked) e = inl (asked, refl)
 owes-words (motion.Stopped reached) e = inr (reached, refl)
 
 owes-by : (m : Motion) → Owes m → owesOf m ≡ true
-unfolding owesOf
 owes-by m (inl (asked, e)) = rw e
 owes-by m (inr (reached, e)) = rw e
 

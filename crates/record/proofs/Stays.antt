@@ -54,7 +54,7 @@ allowed-by d s = rw (s .plate, s .range, s .station, s .owed)
 
 -- a stop makes nothing owed where nothing was
 rested-owes : (m : Motion) (t : Angle) → owesOf m ≡ false → owesOf (restedOf m t) ≡ false
-unfolding owesOf restedOf
+unfolding restedOf
 rested-owes Still t e = refl
 rested-owes Moving t e = refl
 rested-owes (Owing asked) t e = absurd (true-not-false e)

@@ -67,7 +67,7 @@ stored a os at = record { line = a .line; values = a .values; octets = os; len =
 unfoldable pub withWord : ℕ → ℕ → Asked → ℕ → List ℕ → Asked
 withWord k d a n w = cond (eqb k (code "x")) (withHex a n (hexOf w)) (withValue a n (valueOf k d w))
 
-unfoldable pub isFaulty : Line → Bool
+abbrev pub isFaulty : Line → Bool
 isFaulty Silent = false
 isFaulty (Faulty f) = true
 isFaulty (Asks c) = false

@@ -17,7 +17,6 @@ use Rattle.session.specs.Session.{pends, acknowledges, goodNumber, accep
 
 -- "at most one pending answer": one is, or none is
 pub pends-exactly : (p : Pending) → pends p ≡ true ↔ (p ≡ Nothing → ⊥)
-unfolding pends
 pends-exactly Nothing = (λ e. absurd (true-not-false (sym e)), λ w. absurd (w refl))
 pends-exactly Answer = (λ e h. true-not-false (cc), λ w. refl)
 pends-exactly Indication = (λ e h. true-not-false (cc), λ w. refl)

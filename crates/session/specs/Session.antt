@@ -15,7 +15,7 @@ use Rattle.record.specs.declared.Pending.{Pending}
 use Rattle.record.specs.declared.Pending.the-variants.{Nothing, Answer, Indication}
 use Rattle.record.specs.declared.Session.{Session}
 
-unfoldable pub pends : Pending → Bool
+abbrev pub pends : Pending → Bool
 pends Nothing = false
 pends Answer = true
 pends Indication = true

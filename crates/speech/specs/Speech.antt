@@ -40,7 +40,7 @@ linkOctets k NoAddress = []
 linkOctets k AddressAssigned = []
 linkOctets k (Connected s) = pendingOctets k (s .pending)
 
-unfoldable pub isSilent : Say → Bool
+abbrev pub isSilent : Say → Bool
 isSilent Silence = true
 isSilent (Bare c) = false
 isSilent (Reject c v w) = false

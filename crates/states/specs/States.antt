@@ -88,7 +88,7 @@ connectedBy d s (Rr r) c p = rrBy d s r c
 connectedBy d s (Rnr r) c p = rnrBy d s r c
 connectedBy d s Unknown c p = rejected d s c 1
 
-unfoldable pub isSnrm : Order → Bool
+abbrev pub isSnrm : Order → Bool
 isSnrm Xid = false
 isSnrm Snrm = true
 isSnrm Disc = false

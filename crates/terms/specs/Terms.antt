@@ -93,7 +93,7 @@ endWord scan.Doubtful = spelled "doubtful"
 endWord scan.Limit = spelled "limit"
 endWord scan.Full = spelled "full"
 
-unfoldable pub behindOf : State → ℕ
+abbrev pub behindOf : State → ℕ
 behindOf (scan.Asking quiet doubt) = 0
 behindOf scan.Complete = 1
 behindOf scan.Doubtful = 1

@@ -14,7 +14,7 @@ use Rattle.xid.specs.Addressing.{valuesAt}
 use Rattle.xid.specs.Match.{isGiven, scanShape, assignmentShape, isScan, isAssignment}
 
 pub given-at : (m : List ℕ) (p : Part) → given (valueAt m p) ≡ isGiven p
-unfolding given valueAt isGiven
+unfolding given valueAt
 given-at m Absent = refl
 given-at m (At from len) = refl
 

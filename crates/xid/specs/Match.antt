@@ -164,6 +164,6 @@ readOf i m = orSilence (payloadAnswer i m)
 -- ---- the parts that the walk finds
 
 -- a part found by the walk stands for a value that is given
-unfoldable pub isGiven : Part → Bool
+abbrev pub isGiven : Part → Bool
 isGiven Absent = false
 isGiven (At from len) = true

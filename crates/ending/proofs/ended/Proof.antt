@@ -1,6 +1,4 @@
 -- `ending::ended` meets its promise: the station with nothing pending, the motion with nothing owed. Assumes nothing.
-use mathlib.Core.Path.{sym}
-use Rattle.octets.proofs.Rules.{tests}
 use Rattle.antenna.specs.Motions.{moves}
 use Rattle.record.specs.Changes.{endedAs}
 use borrow.Author.Needs.{needs}
@@ -15,7 +13,7 @@ unowed-requires c κs = search needs
 
 returns : tie.Need-returns
 unfolding endedAs moves
-returns c = search (tests, sym (c .unowed .ensures), sym (c .before .unsaid .ensures))
+returns c = rw (c .unowed .ensures, c .before .unsaid .ensures)
 
 pub ended-spec : {M : Type 1} → statement M
 ended-spec = tie.close (tie.spec unsaid-requires unowed-requires returns)

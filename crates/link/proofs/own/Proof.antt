@@ -1,7 +1,6 @@
 -- `link::own` meets its promise: each way out, by the tests that lead to it. Assumes nothing.
 use Rattle.link.specs.Link.{ownBy}
-use Rattle.octets.proofs.Rules.{tests}
-use mathlib.Core.Path.{sym, _∙_}
+use mathlib.Core.Path.{sym}
 use borrow.Author.Needs.{needs}
 use Rattle.link.proofs.own.Statement.{statement}
 use Rattle.link.proofs.own.Tie as tie
@@ -14,14 +13,14 @@ say-requires c κs = search needs
 
 returns : tie.Need-returns
 unfolding ownBy
-returns c = search (tests, sym (c .say .ensures), sym (c .before .before .is-quiet .ensures) ∙ c .before .if1 .taken)
+returns c = rw (c .say .ensures, sym (c .before .before .is-quiet .ensures), c .before .if1 .taken)
 
 linked-requires : tie.Need-linked-requires
 linked-requires c κs = search needs
 
 returns-2 : tie.Need-returns-2
 unfolding ownBy
-returns-2 c = search (tests, sym (c .linked .ensures), sym (c .before .before .is-quiet .ensures) ∙ c .before .if1 .left)
+returns-2 c = rw (c .linked .ensures, sym (c .before .before .is-quiet .ensures), c .before .if1 .left)
 
 pub own-spec : {M : Type 1} → statement M
 own-spec = tie.close (tie.spec is-quiet-requires say-requires returns linked-requires returns-2)
