@@ -10,7 +10,7 @@ use Rattle.octets.specs.Octets.{lastOf, _atStartOf_}
 use Rattle.identity.specs.Identity.{printable, allPrintable, allowedIdentity, padded}
 use Rattle.identity.specs.Order.{lower, Different}
 use Rattle.antenna.specs.Angles.{atMost}
-use Rattle.antenna.specs.Motions.{inRange, owesOf}
+use Rattle.antenna.specs.Motions.{inRange}
 use Rattle.record.specs.declared.Device.{Device}
 use Rattle.record.specs.Allowed.{allowedDevice}
 use Rattle.record.specs.Fresh.{identityFrom, plateFrom, freshFrom, freshAntenna, level, textsAllowed, dataAllowed}

@@ -26,7 +26,7 @@ use Rattle.station.specs.declared.Turn.{Turn}
 use Rattle.station.specs.Turns.{saying}
 use Rattle.link.specs.Link.{xidBy, judgedFrame}
 use Rattle.link.proofs.Cases.{everyone-is}
-use Rattle.speech.specs.Speech.{isSilent, frameBy}
+use Rattle.speech.specs.Speech.{frameBy}
 use Rattle.device.specs.Judge.{reacts, reactionOf, deviceAfter}
 use Rattle.scan.specs.Scan.{probeOf}
 use Rattle.bus.specs.Cable.{identityIn, paddedIn, lineFor, hears, isFrame, withFrame, repliesTo, afterLine}

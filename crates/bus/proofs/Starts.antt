@@ -26,7 +26,7 @@ use Rattle.states.specs.States.{begun, onSnrm, ua}
 use Rattle.link.specs.Link.{isOwn, addressedBy, controlledBy, judgedFrame}
 use Rattle.link.specs.Frames.{hasAddress}
 use Rattle.link.proofs.Judged.{judged-is}
-use Rattle.speech.specs.Speech.{isSilent, controlBy, payloadBy, frameBy}
+use Rattle.speech.specs.Speech.{controlBy, payloadBy, frameBy}
 use Rattle.device.specs.Judge.{reacts, reactionOf, deviceAfter}
 use Rattle.conduct.proofs.Addressed.{link-addressed, addressed-bounds}
 use Rattle.conduct.proofs.Answers.{snrm-answered}

@@ -30,8 +30,8 @@ use Rattle.xid.proofs.Exactly.{scan-read, scan-exactly, assignment-read, assign
 use Rattle.station.specs.declared.Say.{Say}
 use Rattle.station.specs.declared.Turn.{Turn}
 use Rattle.station.specs.Turns.{saying, mute}
-use Rattle.states.specs.States.{newSession, begun, released, renewed, onSnrm, ua, connectedBy, isSnrm, assignedBy, linkedBy}
-use Rattle.link.specs.Link.{quiet, isOwn}
+use Rattle.states.specs.States.{newSession, begun, released, renewed, onSnrm, ua, connectedBy, assignedBy, linkedBy}
+use Rattle.link.specs.Link.{isOwn}
 use Rattle.link.specs.Link.{xidBy}
 use Rattle.link.specs.Link.{judgedFrame}
 use Rattle.link.specs.Frames.{controlOf, hasAddress, Own, Everyone}

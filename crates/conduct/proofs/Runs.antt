@@ -8,7 +8,6 @@ use borrow.Author.Tests.{not-false}
 use Rattle.octets.proofs.Words.{true-not-false}
 use Rattle.refusal.specs.Answer.{Answer, gives, refuses, _when_, Clear, stateAfter}
 use Rattle.refusal.proofs.Exactly.{exactly-given}
-use Rattle.antenna.specs.Motions.{owesOf}
 use Rattle.record.specs.declared.Span.{Span}
 use Rattle.record.specs.declared.Device.{Device}
 use Rattle.record.specs.declared.Event.{Event}

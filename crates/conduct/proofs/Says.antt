@@ -39,7 +39,7 @@ use Rattle.acknowledge.proofs.Settled.{station-kept, session-kept}
 use Rattle.poll.specs.Poll as poll
 use Rattle.inform.specs.Inform.{heeded}
 use Rattle.states.specs.States.{begun, renewed, released}
-use Rattle.speech.specs.Speech.{pendingOctets, linkOctets, isSilent, controlBy, payloadBy, frameBy}
+use Rattle.speech.specs.Speech.{pendingOctets, linkOctets, controlBy, payloadBy, frameBy}
 use Rattle.link.specs.Link.{judgedFrame}
 use Rattle.link.specs.Frames.{controlOf}
 use Rattle.conduct.specs.Comes.{Comes, unread, scans, assigns, begins, declines, renews, leaves, miscounts}

@@ -26,7 +26,7 @@ use Rattle.control.specs.Control.{polled, nextOf, infoOf, rrOf, numberedBy, ask
 use Rattle.antenna.specs.declared.Angle.{Angle}
 use Rattle.antenna.specs.Angles.{atMost, sameAs}
 use Rattle.antenna.specs.Events.{restedOf, restedAt, canStop, withAlarm, isAlarm}
-use Rattle.antenna.specs.Motions.{inRange, busyOf, runs, owesOf, waitingOf, unowedOf, moves, started}
+use Rattle.antenna.specs.Motions.{inRange, waitingOf, moves, started}
 use Rattle.record.specs.declared.Device.{Device}
 use Rattle.record.specs.declared.Event.the-variants.{Stopped, Raised}
 use Rattle.record.specs.Allowed.{identityAllowed, platesAllowed, numbersAllowed, pendingFits, sessionAllowed, addressed}
@@ -34,7 +34,7 @@ use Rattle.record.specs.Allowed.{linkAllowed, stationAllowed, owedAllowed, allo
 use Rattle.record.specs.Fresh.{identityFrom, productFrom, versionFrom, plateFrom, freshFrom, textsAllowed, dataAllowed}
 use Rattle.record.specs.Fresh.{freshOf, blankDevice}
 use Rattle.record.specs.Changes.{unsaidAt, endedAs, canBe, afterEvent, eventRows, happened}
-use Rattle.session.specs.Session.{pends, acknowledges, goodNumber, accepts, taken, vsOf, countsOf}
+use Rattle.session.specs.Session.{acknowledges, goodNumber, accepts, taken, vsOf, countsOf}
 use Rattle.station.specs.Station.{resent, awaiting}
 use Rattle.acknowledge.specs.Acknowledge.{sessionAfter, stationAfter}
 use Rattle.station.specs.Station.{answersWith}
@@ -59,11 +59,11 @@ use Rattle.xid_answer.specs.Answer.{scanParams, assignmentParams, scanAnswer, a
 use Rattle.params.specs.Field.{tripleOf, fieldOf, xidPayload}
 use Rattle.inform.specs.Inform.{repliedBy, carriedBy, informOf}
 use Rattle.states.specs.States.{informedBy, polledBy, pausedBy, rnrBy}
-use Rattle.states.specs.States.{begun, renewed, released, rejected, infoBy, rrBy, connectedBy, isSnrm, assignedBy, linkedBy}
-use Rattle.link.specs.Link.{quiet, ownBy, xidBy, everyoneBy, isOwn, addressedBy, controlledBy, wrongSize}
+use Rattle.states.specs.States.{begun, renewed, released, rejected, infoBy, rrBy, connectedBy, assignedBy, linkedBy}
+use Rattle.link.specs.Link.{ownBy, xidBy, everyoneBy, isOwn, addressedBy, controlledBy, wrongSize}
 use Rattle.link.specs.Link.{judgedFrame}
 use Rattle.conduct.specs.Conduct.{after, Meeting, frame, event, meets, run}
-use Rattle.speech.specs.Speech.{pendingOctets, linkOctets, isSilent, controlBy, payloadBy, frameBy}
+use Rattle.speech.specs.Speech.{pendingOctets, linkOctets, controlBy, payloadBy, frameBy}
 use Rattle.device.specs.Judge.{reacts, judgeRows, judged, sizeOf, toldOf, frameAt, bufferAfter}
 use Rattle.frame.specs.Line.{frameLimit, frameMost}
 
@@ -229,20 +229,20 @@ _also_ a b = (a, b)
 computed : All starred × All further
 unfolding All Holds heard scan.driven scan.fresh scan.ended scan.over scan.reported stateAt step stepIn noted listing
     goOn next carry zeroHalf named word packed rowsOf flat phaseOf stateOf fresh assigned run meets judged
-    judgeRows wrongSize judgedFrame controlledBy addressedBy isOwn everyoneBy xidBy ownBy quiet linkedBy isSnrm assignedBy connectedBy
+    judgeRows wrongSize judgedFrame controlledBy addressedBy isOwn everyoneBy xidBy ownBy linkedBy assignedBy connectedBy
     rrBy infoBy rejected released begun renewed pollOf waitingPoll informedBy informOf carriedBy repliedBy polledBy saying
-    deviceOf acknowledged sessionAfter stationAfter resent awaiting answersWith heeded pends acknowledges goodNumber
+    deviceOf acknowledged sessionAfter stationAfter resent awaiting answersWith heeded acknowledges goodNumber
     accepts taken vsOf countsOf polled nextOf infoOf rrOf numberedBy askedBy unsaidAt endedAs canBe afterEvent eventRows
     happened freshOf freshFrom plateFrom identityFrom productFrom versionFrom textsAllowed dataAllowed stateAfter
     answered allowedDevice owedAllowed stationAllowed linkAllowed addressed sessionAllowed pendingFits numbersAllowed
-    platesAllowed identityAllowed allowedIdentity allPrintable printable lastOf holds _atStartOf_ inRange busyOf runs
-    owesOf waitingOf unowedOf moves started restedOf restedAt canStop atMost sameAs readOf payloadAnswer payloadRows
+    platesAllowed identityAllowed allowedIdentity allPrintable printable lastOf holds _atStartOf_ inRange
+    waitingOf moves started restedOf restedAt canStop atMost sameAs readOf payloadAnswer payloadRows
     valueRows orSilence meaningOf malformed noParams valuesIn neither badAddress otherIdentity otherType otherVendor
     otherScan paramsOf
     opened triplesAfter before checked allRight rightLength identifiers noneTwice valuesOf valueFor given
     octetsIn isScan scanShape assignmentShape scanMatches answersScan padded masked same identityMatches kindMatches
     vendorMatches messageOf successOf failureOf resultOf payloadOf tiltOctets angleOf
-    driveChecks checks inTable takenBy carriedOf outcome doneBy replies unanswered pendingOctets linkOctets isSilent
+    driveChecks checks inTable takenBy carriedOf outcome doneBy replies unanswered pendingOctets linkOctets
     controlBy payloadBy frameBy reacts sizeOf toldOf frameAt bufferAfter emptied toldAfter relieved indicates toTell
     idlePoll pausedBy rnrBy indicationOf changesAmong anyDiffer withAlarm isAlarm placeOf scanAnswer assignmentAnswer
     scanParams assignmentParams xidPayload fieldOf tripleOf

@@ -62,7 +62,7 @@ use Rattle.record.proofs.Exactly.{allowed-exactly, data-exactly, can-exactly}
 use Rattle.station.specs.declared.Say.{Say}
 use Rattle.link.specs.Link.{judgedFrame}
 use Rattle.conduct.proofs.Comes.{silence-keeps}
-use Rattle.speech.specs.Speech.{isSilent, frameBy}
+use Rattle.speech.specs.Speech.{frameBy}
 use Rattle.device.proofs.Only.{none-not-some}
 use Rattle.device.specs.declared.Said.{Said}
 use Rattle.device.specs.declared.Said.the-variants.{Silence, Frame, Refused}

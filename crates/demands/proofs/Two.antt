@@ -62,7 +62,7 @@ use Rattle.conduct.proofs.Runs.{run-allowed}
 use Rattle.conduct.proofs.Due.{starts-exactly, due-moves-on}
 use Rattle.conduct.proofs.Again.{starts-once}
 use Rattle.conduct.proofs.Answers.{snrm-answered, snrm-address, snrm-connects}
-use Rattle.speech.specs.Speech.{isSilent, controlBy, payloadBy, frameBy}
+use Rattle.speech.specs.Speech.{controlBy, payloadBy, frameBy}
 use Rattle.device.specs.Judge.{Reaction, reacts, reactionOf, judged, heardBy, heard, saidOf, sizeOf, toldOf, deviceAfter}
 use Rattle.device.specs.Judge.{frameAt, bufferAfter}
 use Rattle.device.proofs.judge.Reads as judge-reads

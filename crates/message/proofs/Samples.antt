@@ -11,7 +11,7 @@ use Rattle.refusal.specs.Answer.{answered}
 use Rattle.antenna.specs.declared.Antenna.{Antenna}
 use Rattle.antenna.specs.declared.Motion.the-variants.{Still, Owing}
 use Rattle.antenna.specs.Angles.{atMost}
-use Rattle.antenna.specs.Motions.{inRange, busyOf, started, moves}
+use Rattle.antenna.specs.Motions.{inRange, started, moves}
 use Rattle.record.specs.declared.Plate.{Plate}
 use Rattle.record.specs.Desk.{calm}
 use Rattle.payload.specs.Payloads.{payloadOf, successOf, failureOf, messageOf}

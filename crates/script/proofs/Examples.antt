@@ -12,7 +12,7 @@ use Rattle.script.specs.Commands as command
 use Rattle.script.specs.Values.{hexDigit, octetBy, octetOf, octetThen, pairsOf, hexOf, allDigits, numeral}
 use Rattle.script.specs.Values.{decimal, isNegative, digitsOf, patternOf, ranged, numberBy, fromOne, heardMeans}
 use Rattle.script.specs.Values.{valueOf}
-use Rattle.script.specs.Script.{commandOf, kindsOf, wordless, withValue, withOctets, withHex, withWord, isFaulty}
+use Rattle.script.specs.Script.{commandOf, kindsOf, wordless, withValue, withOctets, withHex, withWord}
 use Rattle.script.specs.Script.{wordsBy, isUnanswered, readLine}
 use Rattle.script.specs.declared.Fault.the-variants.{Long, Command, Words, Hex, Number, Room, Device}
 use Rattle.script.specs.declared.Line.the-variants.{Silent, Faulty, Asks}
@@ -86,7 +86,7 @@ read : (readLine (spelled "raise 1 20") 1 ≡ asks command.raise (1 ∷ 20 ∷ [
     ≡ asks command.device (1 ∷ 3 ∷ 3 ∷ 4 ∷ 65531 ∷ 5 ∷ 0 ∷ []) (0x4e ∷ 0x41 ∷ 0x41 ∷ 0x31 ∷ []))
 unfolding spelled firstOf behindFirst wordAt spacesIn placeFrom placeOf same hexDigit octetBy octetOf octetThen pairsOf
     hexOf allDigits numeral decimal isNegative digitsOf patternOf ranged numberBy fromOne heardMeans valueOf commandOf kindsOf
-    withValue withOctets withHex withWord isFaulty wordsBy isUnanswered readLine
+    withValue withOctets withHex withWord wordsBy isUnanswered readLine
 read = (refl, refl, refl, refl, refl, refl, refl, refl)
 
 -- a line that is long has that fault before every other, unless it is a comment
@@ -106,5 +106,5 @@ faults : (readLine (spelled "probe 601") 0 ≡ wordless (Faulty Room))
     × (readLine [] 0 ≡ wordless Silent)
 unfolding spelled firstOf behindFirst wordAt spacesIn placeFrom placeOf same hexDigit octetBy octetOf octetThen pairsOf
     hexOf allDigits numeral decimal isNegative digitsOf patternOf ranged numberBy fromOne heardMeans valueOf commandOf kindsOf
-    withValue withOctets withHex withWord isFaulty wordsBy isUnanswered readLine
+    withValue withOctets withHex withWord wordsBy isUnanswered readLine
 faults = (refl, refl, refl, refl, refl, refl, refl, refl, refl, refl, refl, refl, refl, refl)
