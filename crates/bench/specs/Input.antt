@@ -17,11 +17,12 @@ use lib.Dec.{ltb, eqb}
 use lib.ListN.{length, take, drop, replicate}
 use lib.Seq.{sets}
 use Rattle.octets.specs.Octets.{placeOf, lastOf}
+use Rattle.script.specs.Script.{lineLongest}
 use Rattle.bench.specs.declared.input.Input.{Input}
 
 -- one octet more than a line and its 0x0D have: "more than 2,000 octets, without the 0x0A and the dropped 0x0D"
 abbrev pub lineKept : ℕ
-lineKept = 2002
+lineKept = lineLongest + 2
 
 abbrev pub runMost : ℕ
 runMost = 4096

@@ -9,7 +9,7 @@ use libc::STDIN_FILENO;
 use script::Asked;
 
 // Octets kept of a line: one more than the longest has and a 0x0D, so that a longer one is too long whatever follows.
-const KEPT: usize = 2002;
+const KEPT: usize = script::LONGEST + 2;
 
 // Octets read at a time.
 const RUN: usize = 4096;

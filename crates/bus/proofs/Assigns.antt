@@ -16,7 +16,7 @@ use Rattle.identity.specs.Identity.{width, allowedIdentity, same}
 use Rattle.octets.proofs.Words.{and-parts}
 use Rattle.identity.proofs.Identities.{allowed-parts, printable-octets}
 use Rattle.identity.proofs.Scans.{same-is, is-same}
-use Rattle.xid.specs.Match.{rightmost, endsWith}
+use Rattle.xid.specs.Match.{endsWith}
 use Rattle.record.specs.declared.Device.{Device}
 use Rattle.record.specs.declared.Link.the-variants.{AddressAssigned}
 use Rattle.record.specs.Allowed.{addressed, allowedDevice}
@@ -38,17 +38,6 @@ use Rattle.device.specs.Judge.{reacts, deviceAfter}
 use Rattle.bus.specs.Cable.{identityIn, lineFor, afterLine}
 use Rattle.bus.specs.Install.{assignmentFor}
 use Rattle.bus.proofs.Hears.{hears-written}
-
--- ---- the right end
-
-pub ends-exactly : (i v : List ℕ) → (endsWith i v ≡ true) ↔ EndOf i v
-unfolding endsWith
-ends-exactly i v = (
-  λ e.
-      let (a, b) = and-parts (leb (length v) (length i)) (same v (rightmost (length v) i)) e in
-      (leb-true (length v) (length i) a, same-is v (rightmost (length v) i) b),
-  λ (h, e). of-both (le-leb (length v) (length i) h) (is-same v (rightmost (length v) i) e),
-)
 
 -- ---- the frame
 

@@ -21,7 +21,8 @@ use Rattle.identity.proofs.Identities.{unpadded-padded}
 use Rattle.bus.specs.Cable.{identityIn, paddedIn, afterLine, afterLines}
 use Rattle.bus.specs.Install.{assigning, assignments, NoRightEnd}
 use Rattle.bus.proofs.Heard.{identity-allowed}
-use Rattle.bus.proofs.Assigns.{ends-exactly, assignment-heard}
+use Rattle.xid.proofs.Ends.{ends-exactly}
+use Rattle.bus.proofs.Assigns.{assignment-heard}
 
 -- the device d after the lines for all of xs, the addresses counted from a on
 abbrev pub each : ℕ → List (List ℕ) → Device → Device

@@ -27,6 +27,8 @@ use Rattle.params.specs.Field.{_is_, xidPayload}
 use Rattle.xid.specs.Addressing.{identityId, addressId, addressing}
 use Rattle.xid.specs.Meaning.{EndOf}
 use Rattle.states.specs.States.{begun}
+use Rattle.control.specs.Control.{xidControl}
+use Rattle.link.specs.Link.{allStations}
 use Rattle.scan.specs.declared.State.the-variants.{Complete}
 use Rattle.scan.specs.Record.{listOf}
 use Rattle.whole_scan.specs.Demand.{probesEach}
@@ -35,7 +37,7 @@ use Rattle.bus.specs.Scanning.{scanned}
 
 -- 01: "Assignment: 2 present, 3 absent"; to 0xFF, control 0xBF
 unfoldable pub assignmentFor : List ℕ → ℕ → List ℕ
-assignmentFor i a = 0xFF ∷ 0xBF ∷ xidPayload addressing (identityId is i ∷ addressId is (a ∷ []) ∷ [])
+assignmentFor i a = allStations ∷ xidControl ∷ xidPayload addressing (identityId is i ∷ addressId is (a ∷ []) ∷ [])
 
 abbrev pub assigning : ℕ → List ℕ → List ℕ
 assigning a x = lineFor (assignmentFor (unpadded x) a)

@@ -5,9 +5,9 @@
 --   rr a r              == RR from the address a, with N(R) = r
 --   info a s r m        == the I-frame from a with N(S) = s, N(R) = r and the payload m
 --   kept s r            == what is pending in the session s after a good N(R) = r
---   pendingSaid t p     == the payload of what is pending in the station t, p
+--   pendingSaid k p     == the payload of what is pending at the desk k, p
 --   indication pairs    == the payload of an indication with these pairs
---   again t s r p       == the pending answer p again, else RR
+--   again k s r p       == the pending answer p again, else RR
 --   sentNumber s p      == V(S), where S is s and p is pending
 --   frmr a c s why      == FRMR from the address a for the control c, in the session s
 --   resultSaid reached, scanSaid a i, assignmentSaid a i == a tilt's result; the answers to a scan and an assignment

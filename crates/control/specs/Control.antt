@@ -3,6 +3,7 @@
 --   askedBy c  == what the control octet c, its poll bit set, asks; of one whose poll bit is clear it means nothing
 --   nextOf n   == the number after n: "Numbers run 0 to 7 and round"
 --   infoOf s r, rrOf r, rnrOf r == the controls of an I-frame, of RR and of RNR, by their numbers N(S) and N(R)
+--   xidControl, snrmControl, discControl == the controls without a number
 --   controlFor o == the paper's control octet of the order o, for each case; UpTo7 o == the numbers of o are 0 to 7
 --   Asks c r   == the code's answer r is what c asks, by these
 -- Assumes nothing.
@@ -32,11 +33,21 @@ rrOf nr = 0x11 + nr % 8 * 32
 unfoldable pub rnrOf : ℕ → ℕ
 rnrOf nr = 0x15 + nr % 8 * 32
 
--- "XID (0xBF)", "SNRM 0x93", "DISC 0x53"; "any control but XID, SNRM, DISC, I, RR and RNR" has none
+-- "XID (0xBF)", "SNRM 0x93", "DISC 0x53"
+abbrev pub xidControl : ℕ
+xidControl = 0xBF
+
+abbrev pub snrmControl : ℕ
+snrmControl = 0x93
+
+abbrev pub discControl : ℕ
+discControl = 0x53
+
+-- "any control but XID, SNRM, DISC, I, RR and RNR" has none
 unfoldable pub controlFor : Order → Option ℕ
-controlFor Xid = some 0xBF
-controlFor Snrm = some 0x93
-controlFor Disc = some 0x53
+controlFor Xid = some xidControl
+controlFor Snrm = some snrmControl
+controlFor Disc = some discControl
 controlFor (Info ns nr) = some (infoOf ns nr)
 controlFor (Rr nr) = some (rrOf nr)
 controlFor (Rnr nr) = some (rnrOf nr)
@@ -60,7 +71,8 @@ numberedBy c =
 
 -- with its poll bit set, the order that has this control, or Unknown (`asked-exactly` of proofs/Named)
 unfoldable pub askedBy : ℕ → Order
-askedBy c = cond (eqb c 0xBF) Xid (cond (eqb c 0x93) Snrm (cond (eqb c 0x53) Disc (numberedBy c)))
+askedBy c =
+    cond (eqb c xidControl) Xid (cond (eqb c snrmControl) Snrm (cond (eqb c discControl) Disc (numberedBy c)))
 
 -- the code's answer r to the octet c, by the paper's control of each order: with the poll bit set, r has this control, or
 -- r is Unknown and no order has it

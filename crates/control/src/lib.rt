@@ -16,6 +16,9 @@ pub enum Order {
     Unknown,
 }
 
+// The control of an XID, either way.
+pub const XID: u8 = 0xBF;
+
 // The number after this one.
 pub fn next(n: u8) -> u8
     ensures { λ r. ⌜ r ≡ nextOf n ⌝ }

@@ -24,6 +24,7 @@ pub use Rattle.whole_scan.proofs.Exactly.{run-exactly, new-run-exactly}
 pub use Rattle.params.proofs.Exact.{params-exactly, one-reading}
 pub use Rattle.xid.proofs.Table.{table-exactly, is-scan-exactly, is-assignment-exactly}
 pub use Rattle.xid.proofs.Exactly.{scan-exactly, assignment-exactly, never-both, address-edge}
+pub use Rattle.xid.proofs.Ends.{ends-exactly, end-exactly}
 pub use Rattle.xid.proofs.Probe.{probe-scan, probe-read}
 -- ---- why a device does not answer an XID frame: each condition, both ways, each number, both ways, and the device by them
 pub use Rattle.link.proofs.Judged.{wrong-size-exactly}
@@ -40,7 +41,7 @@ pub use Rattle.message.proofs.Exact.{given-24, given-25, given-19, given-05, gi
 pub use Rattle.message.proofs.Moves.{moves-exactly, clear-clears, subscribe-subscribes}
 pub use Rattle.message.proofs.Fails.{fails-exactly}
 pub use Rattle.message.proofs.Words.{declared-exactly, barred-exactly, known-exactly, fits-set, fits-other}
-pub use Rattle.message.proofs.Words.{busied-exactly, outside-exactly}
+pub use Rattle.message.proofs.Words.{busied-exactly, outside-exactly, code-is, asked-is}
 pub use Rattle.message.proofs.Tells.{status-tells, codes-are, information-tells, tilt-tells, tilt-busy}
 pub use Rattle.payload.proofs.Laws.{success-is, failure-is}
 -- ---- the tests that promises cite, in 01's words, both ways: records, data and events; numbers; silence; what there is to tell

@@ -24,7 +24,7 @@ use Rattle.frame.specs.Line.{Needed, inside}
 use Rattle.frame.specs.Decode.{decoded}
 use Rattle.frame.specs.Write.{lineOf, written}
 use Rattle.frame.proofs.Exact.{write-line}
-use Rattle.frame.proofs.Lengths.{write-fits}
+use Rattle.frame.proofs.Lengths.{line-most, write-fits}
 use Rattle.frame.proofs.Trip.{trip, round-trip}
 use Rattle.frame.proofs.Unique.{unique}
 use Rattle.control.specs.Control.{askedBy}
@@ -98,6 +98,10 @@ one-line = unique 78
 pub payload-written : (a c : ℕ) (p : List ℕ) (room : ℕ) → length p ≤ 74 → length (lineOf (a ∷ c ∷ p)) ≤ room
     → written 78 a c p room ≡ gives (lineOf (a ∷ c ∷ p))
 payload-written a c p room h = write-fits 78 a c p room h
+
+-- "A line is at most 158 octets"
+pub line-158 : (a c : ℕ) (p : List ℕ) → length p ≤ 74 → length (lineOf (a ∷ c ∷ p)) ≤ 158
+line-158 a c p h = line-most 78 a c p (omega arith) h
 
 -- a device that hears the line judges what was put in: no number of the decoder
 pub written-heard : (d : Device) (a c : ℕ) (p : List ℕ) (room : ℕ) → Octets (a ∷ c ∷ p) → length p ≤ 74

@@ -27,7 +27,7 @@ pub line-most : (N a c : ℕ) (p : List ℕ) → 4 ≤ N → length p ≤ payloa
 line-most N a c p m h = omega (arith, line-short (a ∷ c ∷ p))
 
 -- 0x7E stands only at its two ends
-pub flag-at-ends : (b : List ℕ) (i : ℕ) → 0 < i → i + 1 < length (lineOf b) → getD (lineOf b) i 0 ≡ flag → ⊥
+pub flag-at-ends : (b : List ℕ) (i : ℕ) → 0 < i → i + 1 < length (lineOf b) → getD (lineOf b) i 0 ≡ 0x7E → ⊥
 unfolding lineOf between
 flag-at-ends b zero h k e = not-suc-le-zero h
 flag-at-ends b (suc i) h k e =

@@ -23,8 +23,8 @@ module _ (s : List ℕ) (i : ℕ) where
 
   module _ (h : i < length s) where
     -- an escape, and the octet behind it
-    pub plain-pair : getD s i 0 ≡ escape → i + 1 < length s
-        → plain (drop i s) ≡ bitXor (getD s (i + 1) 0) toggle ∷ plain (drop (i + 1 + 1) s)
+    pub plain-pair : getD s i 0 ≡ 0x7D → i + 1 < length s
+        → plain (drop i s) ≡ bitXor (getD s (i + 1) 0) 0x20 ∷ plain (drop (i + 1 + 1) s)
     unfolding plainAfter
     plain-pair e k = rw (rest s i h, eq-eqb (getD s i 0) escape e, rest s (i + 1) k)
 
@@ -90,7 +90,7 @@ module _ (s : List ℕ) where
   unbroken-parts e = or-none (holds flag s) (eqb (lastOf 0 s) escape) e
 
   -- "0x7E inside, or 0x7D as the last octet", in words
-  pub broken-exactly : broken s ≡ true ↔ OneOf flag s ⊎ ((0 < length s) × (getD s (length s - 1) 0 ≡ escape))
+  pub broken-exactly : broken s ≡ true ↔ OneOf 0x7E s ⊎ ((0 < length s) × (getD s (length s - 1) 0 ≡ 0x7D))
   unfolding broken
   broken-exactly = (
     λ e. ⊎-elim (λ h. inl (holds-exactly flag s .0 h)) (λ h. inr (ended (eqb-true (lastOf 0 s) escape h)))

@@ -2,7 +2,7 @@
 --   vendor, leastSerial, mostSerial == how many octets the vendor and the serial number have
 --   width, depth       == the octets of a padded identity (19), and its bits (152)
 --   allowedIdentity i  == the octets i are an identity; AnIdentity i == the same, in the words of 01
---   blank, lastPrintable == 0x20 and 0x7E, the first and the last octet that an identity may have
+--   blank, lastPrintable == 0x20 and 0x7E, the lowest and the highest that an octet of an identity may be
 --   padded i           == i with 0x20 behind it to 19 octets; unpadded x == x without the blanks at its end
 --   octetsOf p         == the beginning p as 19 octets, zeros behind it; maskOf p == ones over it, zeros behind
 --   answersScan i m v  == the identity i answers a scan whose mask is m and whose value is v

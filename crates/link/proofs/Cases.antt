@@ -10,7 +10,7 @@ use lib.Dec.{eqb}
 use lib.ListN.{length, getD, drop}
 use Rattle.octets.proofs.Words.{true-not-false}
 use Rattle.frame.specs.Line.{frameLimit, frameMost}
-use Rattle.control.specs.Control.{polled, askedBy}
+use Rattle.control.specs.Control.{polled, xidControl, askedBy}
 use Rattle.control.specs.declared.Order.{Order}
 use Rattle.control.specs.declared.Order.the-variants.{Xid, Snrm, Disc, Info, Rr, Rnr, Unknown}
 use Rattle.record.specs.declared.Session.{Session}
@@ -28,7 +28,7 @@ use Rattle.station.specs.declared.Turn.{Turn}
 use Rattle.station.specs.Turns.{saying, mute}
 use Rattle.states.specs.States.{begun, renewed, released, ua, dm, rejected, informedBy, polledBy, pausedBy}
 use Rattle.states.specs.States.{infoBy, rrBy, rnrBy, connectedBy, isSnrm, assignedBy, linkedBy}
-use Rattle.link.specs.Link.{allStations, xidControl, quiet, ownBy, xidBy, everyoneBy, isOwn, addressedBy}
+use Rattle.link.specs.Link.{allStations, quiet, ownBy, xidBy, everyoneBy, isOwn, addressedBy}
 use Rattle.link.specs.Link.{controlledBy, wrongSize, judgedFrame}
 use Rattle.link.specs.Frames.{controlOf, Own, numberIn, Numbered, Everyone, Unread}
 use Rattle.link.specs.Frames.{missized, unpolled, unfit, unmeant, elsewhere, unheeded, unassigned}

@@ -17,7 +17,7 @@ use Rattle.link.specs.Link.{controlledBy, wrongSize, judgedFrame}
 
 module _ (f : List ℕ) where
   -- "fewer than 2 or more than 76 octets"
-  pub wrong-size-exactly : wrongSize f ≡ true ↔ (length f < 2) ⊎ (frameMost frameLimit < length f)
+  pub wrong-size-exactly : wrongSize f ≡ true ↔ (length f < 2) ⊎ (76 < length f)
   unfolding wrongSize
   wrong-size-exactly = (
     go (ltb (length f) 2) refl,

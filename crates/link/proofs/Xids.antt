@@ -12,7 +12,7 @@ use lib.ListN.{length, getD, drop}
 use Rattle.octets.specs.Octets.{holds}
 use Rattle.refusal.specs.Answer.{Answer, gives, refuses, answered, Clear, numbersOf}
 use Rattle.refusal.proofs.Exactly.{TestsFor, exactly-tests, exactly-given, answered-all}
-use Rattle.control.specs.Control.{askedBy}
+use Rattle.control.specs.Control.{xidControl, askedBy}
 use Rattle.xid.specs.Addressing.{Values}
 use Rattle.record.specs.declared.Device.{Device}
 use Rattle.record.specs.Allowed.{identityOf}
@@ -22,7 +22,7 @@ use Rattle.xid.specs.declared.Xid as xids
 use Rattle.station.specs.declared.Say.{Say}
 use Rattle.station.specs.declared.Turn.{Turn}
 use Rattle.station.specs.Turns.{saying, mute}
-use Rattle.link.specs.Link.{allStations, xidControl, quiet, xidBy, wrongSize, judgedFrame}
+use Rattle.link.specs.Link.{allStations, quiet, xidBy, wrongSize, judgedFrame}
 use Rattle.link.specs.Frames.{controlOf, Everyone, missized, unfit, unheeded}
 use Rattle.link.specs.Xids.{wrongAddress, wrongControl, xidRows, xidAnswer, xidMeans}
 use Rattle.link.proofs.Judged.{size-right, size-fits}
@@ -31,14 +31,14 @@ use Rattle.link.proofs.Cases.{everyone-is, unread-silent}
 -- ---- the rows 2 and 3, both ways; 1 is `wrong-size-exactly` of Judged
 
 module _ (f : List ℕ) where
-  pub wrong-address-exactly : wrongAddress f ≡ true ↔ (getD f 0 0 ≡ allStations → ⊥)
+  pub wrong-address-exactly : wrongAddress f ≡ true ↔ (getD f 0 0 ≡ 0xFF → ⊥)
   unfolding wrongAddress
   wrong-address-exactly = (
     λ e. eqb-false (getD f 0 0) allStations (not-true _ e),
     λ n. ap not (ne-eqb (getD f 0 0) allStations n),
   )
 
-  pub wrong-control-exactly : wrongControl f ≡ true ↔ (controlOf f ≡ xidControl → ⊥)
+  pub wrong-control-exactly : wrongControl f ≡ true ↔ (controlOf f ≡ 0xBF → ⊥)
   unfolding wrongControl
   wrong-control-exactly = (
     λ e. eqb-false (controlOf f) xidControl (not-true _ e),

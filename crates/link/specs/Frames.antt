@@ -17,7 +17,7 @@ use lib.Dec.{eqb}
 use lib.ListN.{length, getD, drop}
 use Rattle.frame.specs.Line.{frameLimit, frameMost}
 use Rattle.refusal.specs.Answer.{Given}
-use Rattle.control.specs.Control.{polled, askedBy}
+use Rattle.control.specs.Control.{polled, xidControl, askedBy}
 use Rattle.control.specs.declared.Order.{Order}
 use Rattle.control.specs.declared.Order.the-variants.{Xid, Snrm, Disc, Info, Rr, Rnr, Unknown}
 use Rattle.record.specs.declared.Session.{Session}
@@ -27,7 +27,7 @@ use Rattle.record.specs.declared.Device.{Device}
 use Rattle.record.specs.Allowed.{identityOf}
 use Rattle.xid.specs.Match.{payloadRows}
 use Rattle.session.specs.Session.{goodNumber}
-use Rattle.link.specs.Link.{allStations, xidControl, quiet, isOwn, wrongSize}
+use Rattle.link.specs.Link.{allStations, quiet, isOwn, wrongSize}
 
 abbrev pub controlOf : List ℕ → ℕ
 controlOf f = getD f 1 0

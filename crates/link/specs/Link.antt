@@ -1,5 +1,5 @@
 -- A decoded frame judged. 01, "The link".
---   allStations      == 0xFF, the address of a frame to every device; xidControl == 0xBF
+--   allStations      == 0xFF, the address of a frame to every device
 --   quiet o bare     == o is not read at the own address, with payload or bare
 --   ownBy d o c p    == at the own address
 --   xidBy d x        == to all stations, an XID that means x
@@ -12,7 +12,7 @@ use Prim.Native.Nat.{ℕ}
 use lib.Dec.{ltb, eqb}
 use lib.ListN.{length, getD, drop}
 use Rattle.frame.specs.Line.{frameLimit, frameMost}
-use Rattle.control.specs.Control.{polled, askedBy}
+use Rattle.control.specs.Control.{polled, xidControl, askedBy}
 use Rattle.control.specs.declared.Order.{Order}
 use Rattle.control.specs.declared.Order.the-variants.{Xid, Snrm, Disc, Info, Rr, Rnr, Unknown}
 use Rattle.record.specs.declared.Link.the-variants.{AddressAssigned}
@@ -29,10 +29,6 @@ use Rattle.states.specs.States.{linkedBy}
 -- "Address 0xFF"
 abbrev pub allStations : ℕ
 allStations = 0xFF
-
--- "XID (0xBF)"
-abbrev pub xidControl : ℕ
-xidControl = 0xBF
 
 -- "Own address, XID: silence. SNRM, DISC, RR or RNR with payload: silence."
 abbrev pub quiet : Order → Bool → Bool

@@ -1,6 +1,6 @@
 -- Why a device does not answer an XID frame: the first that holds of ten conditions, by the law of rows that the numbers
--- for "no" have (refusal/specs/Answer). The number of a row is its place in this order. 01, "The link" and "XID: scan
--- and assignment".
+-- for "no" have (refusal/specs/Answer); these are not those numbers. The conditions are 01's, "The link" and "XID: scan and
+-- assignment"; their order, and so the number of a row, is that of (viii) in 02.
 --   wrongAddress f == 2: the address octet of the frame f is not that of all stations
 --   wrongControl f == 3: the control of f is not that of an XID
 --   xidRows i f    == the ten rows of f, for a device with the identity i
@@ -15,7 +15,8 @@ use lib.ListN.{getD, drop}
 use Rattle.refusal.specs.Answer.{Answer, TestRow, _when_, answered}
 use Rattle.xid.specs.Match.{valuesIn, payloadRows, meaningOf, orSilence}
 use Rattle.xid.specs.declared.Xid.{Xid}
-use Rattle.link.specs.Link.{allStations, xidControl, wrongSize}
+use Rattle.control.specs.Control.{xidControl}
+use Rattle.link.specs.Link.{allStations, wrongSize}
 use Rattle.link.specs.Frames.{controlOf}
 
 -- "Address 0xFF": the only one at which an XID is read, for "Own address, XID: silence."

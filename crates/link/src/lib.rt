@@ -14,10 +14,8 @@ use station::Say;
 use station::Turn;
 use xid::Xid;
 
-// The address of a frame to every device, and the control of an XID.
+// The address of a frame to every device.
 const ALL_STATIONS: u8 = 0xFF;
-
-const XID_CONTROL: u8 = 0xBF;
 
 // ---- what a control octet asks
 
@@ -51,7 +49,7 @@ fn numbered(control: u8) -> Order
 fn asked(control: u8) -> Order
     ensures { λ r. ⌜ Asks control r ⌝ }
 {
-    if control == XID_CONTROL {
+    if control == control::XID {
         return Order::Xid;
     }
     if control == 0x93 {
@@ -115,7 +113,7 @@ fn everyone(device: Device, control: u8, m: &[u8]) -> Turn
     ensures { λ r. ⌜ r ≡ everyoneBy device control (now (m .entry)) ⌝ }
 {
     let plate = device.plate;
-    if control == XID_CONTROL {
+    if control == control::XID {
         return by_xid(device, xid::read(plate, m));
     }
     say(device, Say::Silence)

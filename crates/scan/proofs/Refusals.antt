@@ -26,7 +26,7 @@ or-right false b e = e
 -- 01: "a scan that has ended or a record whose count isn't below its limit, whose list passes 32 or whose beginning
 -- passes 152 bits"
 abbrev pub Over : Scan → Type 0
-Over s = (ended (s .state) ≡ true) ⊎ ((s .limit ≤ s .count) ⊎ ((listMost < s .listed) ⊎ (depth < s .bits)))
+Over s = (ended (s .state) ≡ true) ⊎ ((s .limit ≤ s .count) ⊎ ((32 < s .listed) ⊎ (152 < s .bits)))
 
 pub over-exactly : (s : Scan) → (over s ≡ true) ↔ Over s
 unfolding over

@@ -85,12 +85,16 @@ wordsBy d (k ∷ ks) n s a =
 unfoldable pub isUnanswered : List ℕ → Bool
 isUnanswered s = eqb (length s) 0 || eqb (getD s 0 0) (code "#")
 
+-- "more than 2,000 octets"
+abbrev pub lineLongest : ℕ
+lineLongest = 2000
+
 -- "A line's faults are looked for in this order: `long` (more than 2,000 octets ..; a comment is never too long),
 -- `command` (the first word), `words` (their number), then each word from the left."
 unfoldable pub readLine : List ℕ → ℕ → Asked
 readLine s d =
     cond (isUnanswered s) (wordless Silent)
-    (cond (ltb 2000 (length s)) (wordless (Faulty Long))
+    (cond (ltb lineLongest (length s)) (wordless (Faulty Long))
     (cond (eqb (length (kindsOf s)) 0) (wordless (Faulty Command))
     (cond (eqb (spacesIn s) (length (kindsOf s)))
     (wordsBy d (kindsOf s) 1 s (wordless (Asks (commandOf s))))

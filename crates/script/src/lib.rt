@@ -27,6 +27,9 @@ enum Value {
     Bad(Fault),
 }
 
+// The octets that a line has at most.
+pub const LONGEST: usize = 2000;
+
 // ---- the commands
 
 // A command is its place among the names. A new one goes behind the last: a const and COMMANDS, its name in
@@ -494,7 +497,7 @@ pub fn read_line(line: &[u8], devices: u8) -> Asked
     if is_unanswered(line) {
         return wordless(Line::Silent);
     }
-    if 2000 < line.len() {
+    if LONGEST < line.len() {
         return wordless(Line::Faulty(Fault::Long));
     }
     let command = command_of(line);

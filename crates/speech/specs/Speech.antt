@@ -11,6 +11,7 @@ use Prim.Native.Nat.{ℕ}
 use lib.ListN.{length, take, replicate}
 use Rattle.octets.specs.Octets.{_atStartOf_}
 use Rattle.frame.specs.Line.{frameLimit, frameMost}
+use Rattle.control.specs.Control.{xidControl}
 use Rattle.record.specs.declared.Pending.{Pending}
 use Rattle.record.specs.declared.Pending.the-variants.{Nothing, Answer, Indication}
 use Rattle.record.specs.declared.Link.{Link}
@@ -54,8 +55,8 @@ controlBy Silence = 0
 controlBy (Bare c) = c
 controlBy (Reject c v w) = 0x97
 controlBy (Pend c) = c
-controlBy Scanned = 0xBF
-controlBy Assigned = 0xBF
+controlBy Scanned = xidControl
+controlBy Assigned = xidControl
 
 -- "three payload octets: the control; 2·V(S) + 32·R; 8 .. or 1"
 unfoldable pub payloadBy : Device → Say → List ℕ

@@ -94,8 +94,8 @@ fn control_of(say: Say) -> u8
             why: _,
         } => 0x97,
         Say::Pend { control } => control,
-        Say::Scanned => 0xBF,
-        Say::Assigned => 0xBF,
+        Say::Scanned => control::XID,
+        Say::Assigned => control::XID,
     }
 }
 

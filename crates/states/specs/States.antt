@@ -31,7 +31,7 @@ use Rattle.inform.specs.Inform.{informOf}
 abbrev pub newSession : Session
 newSession = record { r = 0; s = 0; pending = Nothing }
 
--- a first session, in AddressAssigned: no session ends by it
+-- a first session, in AddressAssigned: none ends by it, and what an end drops is not there in an allowed record
 unfoldable pub begun : Device → Device
 begun d = endedAs d (d .station .desk .address) (Connected newSession)
 

@@ -20,11 +20,11 @@ use Rattle.params.specs.Field.{given, octetsIn}
 use Rattle.params.proofs.Exact.{one-reading}
 use Rattle.params.proofs.Kept.{both-of, of-both}
 use Rattle.xid.specs.Addressing.{addressing, Values, valuesOf}
-use Rattle.xid.specs.Match.{rightmost, endsWith}
 use Rattle.xid.specs.Match.{deviceType, isScan, scanShape, isAssignment, assignmentShape, scanMatches, addressOf}
 use Rattle.xid.specs.Match.{identityMatches, kindMatches, vendorMatches, badAddress, otherIdentity, otherType}
 use Rattle.xid.specs.Match.{otherVendor, otherScan, readOf}
 use Rattle.xid.specs.Meaning.{ScanOf, AssignmentOf, IfGiven, EndOf, Meant, Answers, Takes}
+use Rattle.xid.proofs.Ends.{ends-exactly}
 use Rattle.xid.proofs.Rows.{scan-meant, assignment-meant}
 use Rattle.xid.proofs.Told.{given-none, values-are, scan-values, address-one, scan-told}
 use Rattle.xid.proofs.Told.{scan-loud, assignment-loud, assignment-told, formed-of, read-is}
@@ -62,16 +62,14 @@ scan-exactly i m = (there, back)
 -- ---- the assignment
 
 own-told : (i : List ℕ) (x : Option (List ℕ)) → identityMatches i x ≡ true → IfGiven x (EndOf i)
-unfolding identityMatches endsWith
+unfolding identityMatches
 own-told i none e = tt
-own-told i (some v) e =
-    let (a, b) = both-of (leb (length v) (length i)) (same v (rightmost (length v) i)) e in
-    (leb-true (length v) (length i) a, same-is v (rightmost (length v) i) b)
+own-told i (some v) e = ends-exactly i v .0 e
 
 own-tells : (i : List ℕ) (x : Option (List ℕ)) → IfGiven x (EndOf i) → identityMatches i x ≡ true
-unfolding identityMatches endsWith
+unfolding identityMatches
 own-tells i none e = refl
-own-tells i (some v) e = of-both (le-leb (length v) (length i) (e .0)) (is-same v (rightmost (length v) i) (e .1))
+own-tells i (some v) e = ends-exactly i v .1 e
 
 kind-told : (x : Option (List ℕ)) → kindMatches x ≡ true → IfGiven x (λ (v : List ℕ). v ≡ deviceType ∷ [])
 unfolding kindMatches

@@ -39,8 +39,8 @@ right =
     ∷ (0x81 ∷ 0xF0 ∷ 8 ∷ 1 ∷ 3 ∷ 0x4B ∷ 0x41 ∷ 0x30 ∷ 2 ∷ 1 ∷ 7 ∷ []) gets refuses 7 ∷ []
 
 -- and unpadded: all of it, and its end with padding
-abbrev pub unpadded : List Row
-unpadded =
+abbrev pub shorter : List Row
+shorter =
     (0x81 ∷ 0xF0 ∷ 11 ∷ 2 ∷ 1 ∷ 7 ∷ 1 ∷ 6 ∷ 0x4B ∷ 0x41 ∷ 0x30 ∷ 0x31 ∷ 0x32 ∷ 0x33 ∷ []) gets gives (Assignment 7)
     ∷ (0x81 ∷ 0xF0 ∷ 7 ∷ 1 ∷ 2 ∷ 0x33 ∷ 0x20 ∷ 2 ∷ 1 ∷ 7 ∷ []) gets refuses 7 ∷ []
 
@@ -92,7 +92,7 @@ others =
     ∷ (0x81 ∷ 0xF0 ∷ 9 ∷ 4 ∷ 1 ∷ 0x11 ∷ 1 ∷ 1 ∷ 0x34 ∷ 2 ∷ 1 ∷ 7 ∷ []) gets refuses 7
     ∷ (0x81 ∷ 0xF0 ∷ 10 ∷ 6 ∷ 2 ∷ 0x4B ∷ 0x42 ∷ 4 ∷ 1 ∷ 0x11 ∷ 2 ∷ 1 ∷ 7 ∷ []) gets refuses 8 ∷ []
 
-pub computed : All right × All unpadded × All named × All left × All padding × All edges × All misformed × All others
+pub computed : All right × All shorter × All named × All left × All padding × All edges × All misformed × All others
 unfolding payloadAnswer payloadRows valueRows answered meaningOf malformed noParams valuesIn neither
     badAddress otherIdentity otherType otherVendor otherScan paramsOf opened triplesAfter before checked allRight
     rightLength identifiers noneTwice holds valuesOf valueFor given octetsIn isScan scanShape assignmentShape

@@ -8,5 +8,6 @@ pub mod Told
 pub mod Table
 pub mod Exactly
 pub mod Probe
+pub mod Ends
 pub mod Examples
 pub mod Only
