@@ -161,6 +161,15 @@ module _ (c : ℕ) (row : Row) (a : Asked) where
 
 -- ---- the scan by hand
 
+-- "`report heard` · `report silent` an answer to it": heard is 1, silent 0
+pub report-heard : (s : Scan) → scanAfter command.report s 1 ≡ stateAfter (reported s true) s
+unfolding scanAfter
+report-heard s = refl
+
+pub report-silent : (s : Scan) → scanAfter command.report s 0 ≡ stateAfter (reported s false) s
+unfolding scanAfter
+report-silent s = refl
+
 module _ (c : ℕ) (s : Scan) (v : ℕ) where
   pub scan-begun : c ≡ command.begin → fresh (v % 65536) ≡ scanAfter c s v
   unfolding scanAfter

@@ -1,2 +1,2 @@
 -- The laws that the bench's proofs cite.
-mod Laws
+pub mod Laws

@@ -2,3 +2,4 @@
 pub mod Ways
 pub mod Keeps
 pub mod Only
+pub mod Page
