@@ -1,4 +1,4 @@
--- What the definitions of the row of drives say, in the words of the page bench-script.md and with its numbers.
+-- What the definitions of the row of drives say, in the words of docs/BENCH.md and with its numbers.
 -- Assumes nothing.
 use mathlib.Core.Path.{_≡_, refl, sym, ap, _∙_}
 use mathlib.Core.Bool.{Bool, true, false, cond, not, _&&_, false≢true}
@@ -76,9 +76,9 @@ full-there row true x e = refl
 full-there row false x e = absurd (false≢true (sym (added-not-full row x) ∙ ap isFull e))
 
 -- "up to 32 tilt drives"; "a 33rd gets `error full`"
-pub full-exactly : (row : Row) (v os : List ℕ) → adds row v os .reply ≡ full ↔ 32 ≤ row .count
+pub row-full-exactly : (row : Row) (v os : List ℕ) → adds row v os .reply ≡ full ↔ 32 ≤ row .count
 unfolding adds
-full-exactly row v os = (
+row-full-exactly row v os = (
   λ e. leb-true 32 (row .count) (full-there row (leb 32 (row .count)) (freshBy v os) e),
   λ h. rw (le-leb 32 (row .count) h),
 )

@@ -80,6 +80,7 @@ read : (readLine (spelled "raise 1 20") 1 ≡ asks command.raise (1 ∷ 20 ∷ [
     × (readLine (spelled "stopped 1 -32768") 2 ≡ asks command.stopped (1 ∷ 32768 ∷ []) [])
     × (readLine (spelled "probe 600") 0 ≡ asks command.probe (600 ∷ []) [])
     × (readLine (spelled "report heard") 0 ≡ asks command.report (1 ∷ []) [])
+    × (readLine (spelled "report silent") 0 ≡ asks command.report (0 ∷ []) [])
     × (readLine (spelled "write 01 bf - 12") 0 ≡ asks command.write (0x01 ∷ 0xbf ∷ 0 ∷ 12 ∷ []) [])
     × (readLine (spelled "hear 1 81F0 9") 1 ≡ asks command.hear (1 ∷ 2 ∷ 9 ∷ []) (0x81 ∷ 0xF0 ∷ []))
     × (readLine (spelled "device 4e 4141 - 31 -5 5 0") 0
@@ -87,7 +88,7 @@ read : (readLine (spelled "raise 1 20") 1 ≡ asks command.raise (1 ∷ 20 ∷ [
 unfolding spelled firstOf behindFirst wordAt spacesIn placeFrom placeOf same hexDigit octetBy octetOf octetThen pairsOf
     hexOf allDigits numeral decimal isNegative digitsOf patternOf ranged numberBy fromOne heardMeans valueOf commandOf kindsOf
     withValue withOctets withHex withWord wordsBy isUnanswered readLine
-read = (refl, refl, refl, refl, refl, refl, refl, refl)
+read = (refl, refl, refl, refl, refl, refl, refl, refl, refl)
 
 -- a line that is long has that fault before every other, unless it is a comment
 faults : (readLine (spelled "probe 601") 0 ≡ wordless (Faulty Room))
