@@ -1,5 +1,5 @@
--- Octets in HEX, as they are written. bench-script.md: "`HEX` is an even number of digits `0-9a-f` ..., or `-` for no
--- octets".
+-- Octets in HEX, as they are written. docs/BENCH.md: "octets in pairs of hex digits; upper case is read, lower case is
+-- written. `-` is no octets."
 --   digitOf d     == the digit of the value d, of its last 16
 --   hexed s       == two digits for each octet of s
 --   hexRow mark s == the row that is written from: a mark and the digits, a `-` where there are none

@@ -1,4 +1,4 @@
--- The bench's row of drives. bench-script.md: its table, from `device` to `show`.
+-- The bench's row of drives. docs/BENCH.md: its table, from `device` to `show`.
 --   ScriptAnswer             == an answer, in the script's words
 --   After             == the row after a command, and the answer to it; Came == that, and the lent output, BUFFER
 --   value v n         == what the word n stands for

@@ -1,4 +1,4 @@
--- The words of the bench's answers, a case for each. bench-script.md: its table, and "`show`".
+-- The words of the bench's answers, a case for each. docs/BENCH.md: its table, and "`show`".
 --   nameOf w         == the word w with full stops behind it; lettersOf x == what the name x has before its first
 --   faultWord f      == a line with the fault f
 --   replyWord x      == the answer x of the row of devices; outcomeWord x, saidWord x == its parts
