@@ -1,8 +1,10 @@
 //! The second program: the list of its parts.
 //!
-//! Everything is written from two documents only: document 01 (the law of
-//! codec, device and scanner) and the bench script (commands in, answers out).
-//! Quotation marks in the comments hold sentences of those two.
+//! Everything is written from four documents only: document 01 (the law of
+//! codec, device and scanner), document 02 (what its requests change) as far
+//! as they have landed, REQUESTS.md (how 02 is read) and the bench script
+//! (commands in, answers out). Quotation marks in the comments hold sentences
+//! of those four.
 
 pub mod bench;
 pub mod check;

@@ -1,6 +1,6 @@
 //! XID from address 0xFF: the parameters, the scan and the assignment.
 
-use crate::identity::{PADDED, VENDOR};
+use crate::identity::{Identity, PADDED, VENDOR};
 use crate::record::{Link, Record, DEVICE_TYPE};
 
 /// "Payload: 0x81, 0xF0, ..."
@@ -12,6 +12,11 @@ pub const ADDRESS: u8 = 2;
 pub const MASK: u8 = 3;
 pub const TYPE: u8 = 4;
 pub const VENDOR_CODE: u8 = 6;
+
+/// "In an assignment, type 0xFF and vendor 0xFF 0xFF match every device";
+/// "one octet FF of two is no wild card; a scan has no such rule".
+pub const ANY_TYPE: u8 = 0xFF;
+pub const ANY_VENDOR: [u8; VENDOR] = [0xFF; VENDOR];
 
 /// The values found in a payload, each at most once.
 #[derive(Debug, Default, PartialEq, Eq)]
@@ -109,17 +114,28 @@ impl<'frame> Parameters<'frame> {
     }
 
     /// "Assignment: 2 present, 3 absent, value 1 to 254." What is given of 1,
-    /// 4 and 6 must be this device's.
+    /// 4 and 6 must match this device, each by its own rule.
     fn address_for(&self, record: &Record) -> Option<u8> {
         let address = *self.address?.first()?;
         let identity = &record.make.identity;
         let meant = self.mask.is_none()
             && (1..=254).contains(&address)
             && self.identity.is_none_or(|value| identity.right_matches(value))
-            && self.device_type.is_none_or(|value| value == [DEVICE_TYPE])
-            && self.vendor.is_none_or(|value| value == identity.vendor());
+            && self.device_type.is_none_or(type_matches)
+            && self.vendor.is_none_or(|value| vendor_matches(identity, value));
         meant.then_some(address)
     }
+}
+
+/// An assignment's 4: "If 4 or 6 is given, it is equal", or it is the wild
+/// card. "From now on those two values match every device in an assignment."
+fn type_matches(value: &[u8]) -> bool {
+    value == [DEVICE_TYPE] || value == [ANY_TYPE]
+}
+
+/// The same for an assignment's 6.
+fn vendor_matches(identity: &Identity, value: &[u8]) -> bool {
+    value == identity.vendor() || value == ANY_VENDOR
 }
 
 /// A payload of 0x81, 0xF0, length and triples. What passes the length octet
@@ -177,6 +193,25 @@ mod tests {
                 Parameters::read(&written(&[(identifier, value), (identifier, value)])),
                 None
             );
+        }
+    }
+
+    #[test]
+    fn an_assignment_names_the_own_type_or_any() {
+        for octet in 0..=0xFF {
+            assert_eq!(type_matches(&[octet]), octet == 0x01 || octet == 0xFF, "{octet:02x}");
+        }
+    }
+
+    #[test]
+    fn an_assignment_names_the_own_vendor_or_any() {
+        let identity = Identity::new(b"KA1234");
+        for first in 0..=0xFF {
+            for second in 0..=0xFF {
+                let vendor = [first, second];
+                let matches = vendor == *b"KA" || vendor == [0xFF, 0xFF];
+                assert_eq!(vendor_matches(&identity, &vendor), matches, "{vendor:02x?}");
+            }
         }
     }
 }

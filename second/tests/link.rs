@@ -1,10 +1,34 @@
 //! The link, its sessions and its messages, rule by rule.
 
 mod common;
-use common::{assigned, connected, fresh};
+use common::{assigned, connected, fresh, hex, Table};
 
-fn shown(table: &mut common::Table) -> String {
+fn shown(table: &mut Table) -> String {
     table.ask("show 1")
+}
+
+/// An XID frame to everyone with these triples.
+fn xid(triples: &str) -> String {
+    let field = triples.replace(' ', "");
+    format!("ffbf81f0{:02x}{field}", field.len() / 2)
+}
+
+/// The answer of the device KA1234 to an assignment of address 7.
+const TAKEN: &str = "07bf81f00b01064b4131323334040101";
+
+/// Gives an XID frame in each state of the link: an assignment of 7 that is
+/// taken, or one that gets silence and changes nothing.
+fn in_every_state(triples: &str, taken: bool) {
+    for mut table in [fresh(0), assigned(0), connected(0)] {
+        let before = shown(&mut table);
+        let (answer, after) = if taken {
+            (TAKEN, "state assigned 7 - still 0 - - 0")
+        } else {
+            ("silence", &before[..])
+        };
+        assert_eq!(table.give(&xid(triples)), answer, "{triples}, {before}");
+        assert_eq!(shown(&mut table), after, "{triples}, {before}");
+    }
 }
 
 #[test]
@@ -167,6 +191,9 @@ fn what_ends_a_session() {
         ("05ff", "assigned 5"),
         ("ffbf81f003020109", "assigned 9"),
         ("ffbf81f003020105", "assigned 5"),
+        ("ffbf81f0060201090401ff", "assigned 9"),
+        ("ffbf81f0070201050602ffff", "assigned 5"),
+        ("ffbf81f00d0602ffff0401ff010134020109", "assigned 9"),
     ] {
         // A result owed by a movement that runs on.
         let mut table = connected(0);
@@ -190,6 +217,8 @@ fn what_ends_a_session() {
         assert_eq!(shown(&mut table), "state connected:1:0 5 - stopped:ok 50 - - 0");
         assert_eq!(table.give("0511"), "053033010000");
         assert_eq!(shown(&mut table), "state connected:1:0 5 33010000 still 50 - - 0");
+        table.give(ending);
+        assert_eq!(shown(&mut table), format!("state {link} - still 50 - - 0"));
     }
 }
 
@@ -302,12 +331,222 @@ fn assignments() {
         ("020107 0100", false),
         ("040101", false),
     ] {
-        let field = field.replace(' ', "");
-        let frame = format!("ffbf81f0{:02x}{field}", field.len() / 2);
+        in_every_state(field, taken);
+    }
+}
+
+#[test]
+fn wild_cards_match_every_device() {
+    for field in [
+        "020107 0401ff",
+        "020107 0602ffff",
+        "020107 0401ff 0602ffff",
+        // Beside the device's own type and vendor.
+        "020107 0401ff 06024b41",
+        "020107 040101 0602ffff",
+        // With a part of the identity, with the whole of it.
+        "020107 010134 0401ff",
+        "020107 010134 0602ffff",
+        "020107 010134 0401ff 0602ffff",
+        "020107 01064b4131323334 0401ff 0602ffff",
+        "020107 01054131323334 0401ff 06024b41",
+        "020107 0103323334 040101 0602ffff",
+    ] {
+        in_every_state(field, true);
+    }
+}
+
+/// The triples in every order.
+fn orders(triples: &[&str]) -> Vec<String> {
+    if triples.is_empty() {
+        return vec![String::new()];
+    }
+    let mut all = Vec::new();
+    for place in 0..triples.len() {
+        let mut rest = triples.to_vec();
+        let first = rest.remove(place);
+        all.extend(orders(&rest).iter().map(|others| format!("{first} {others}")));
+    }
+    all
+}
+
+#[test]
+fn wild_cards_in_any_order() {
+    let orders = orders(&["010134", "020107", "0401ff", "0602ffff"]);
+    assert_eq!(orders.len(), 24);
+    for triples in orders {
+        in_every_state(&triples, true);
+    }
+}
+
+#[test]
+fn a_wild_card_stands_for_its_own_triple_alone() {
+    for others in ["0401ff", "0602ffff", "0401ff 0602ffff"] {
+        // The identity is still compared: another one, from the left, padded,
+        // too long, of octets FF.
+        for identity in [
+            "010133",
+            "01054b41313233",
+            "01024b41",
+            "01074b413132333420",
+            "0107204b4131323334",
+            "0101ff",
+            "0102ffff",
+            "0106ffffffffffff",
+        ] {
+            in_every_state(&format!("020107 {identity} {others}"), false);
+            in_every_state(&format!("{others} {identity} 020107"), false);
+        }
+        // The address value is still 1 to 254.
+        for address in ["020100", "0201ff"] {
+            in_every_state(&format!("{address} {others}"), false);
+            in_every_state(&format!("{others} 010134 {address}"), false);
+        }
+        // 2 is still present, 3 absent.
+        in_every_state(others, false);
+        in_every_state(&format!("010134 {others}"), false);
+        in_every_state(&format!("020107 0301ff {others}"), false);
+        in_every_state(&format!("020107 010134 0301ff {others}"), false);
+    }
+    // The other of the two is still compared.
+    in_every_state("020107 0401ff 0602414b", false);
+    in_every_state("020107 0401ff 06024b42", false);
+    in_every_state("020107 040102 0602ffff", false);
+    in_every_state("040111 010134 0602ffff 020107", false);
+}
+
+#[test]
+fn addresses_given_by_wild_card() {
+    for address in 0..=255 {
         let mut table = connected(0);
-        let answer = if taken { "07bf81f00b01064b4131323334040101" } else { "silence" };
-        assert_eq!(table.give(&frame), answer, "{field}");
-        let state = if taken { "state assigned 7" } else { "state connected:0:0 5" };
-        assert!(shown(&mut table).starts_with(state), "{field}");
+        let answer = table.give(&xid(&format!("0201{address:02x} 0401ff 0602ffff")));
+        if (1..=254).contains(&address) {
+            assert_eq!(answer, format!("{address:02x}{}", &TAKEN[2..]));
+            assert_eq!(shown(&mut table), format!("state assigned {address} - still 0 - - 0"));
+        } else {
+            assert_eq!(answer, "silence");
+            assert_eq!(shown(&mut table), "state connected:0:0 5 - still 0 - - 0");
+        }
+    }
+}
+
+#[test]
+fn other_types_are_no_wild_card() {
+    for kind in (0x00..=0xFF).filter(|kind| ![0x01, 0xFF].contains(kind)) {
+        in_every_state(&format!("020107 0401{kind:02x}"), false);
+    }
+    for kind in ["00", "fe", "7f", "11"] {
+        in_every_state(&format!("020107 010134 0401{kind} 06024b41"), false);
+        in_every_state(&format!("020107 0401{kind} 0602ffff"), false);
+    }
+}
+
+#[test]
+fn half_a_wild_card_is_none() {
+    for vendor in ["ff41", "4bff", "fffe", "feff", "ff00", "00ff", "0000", "fefe"] {
+        let vendor = format!("06{:02x}{vendor}", vendor.len() / 2);
+        in_every_state(&format!("020107 {vendor}"), false);
+        in_every_state(&format!("{vendor} 01064b4131323334 020107"), false);
+        in_every_state(&format!("020107 {vendor} 0401ff"), false);
+    }
+}
+
+#[test]
+fn wild_cards_of_another_length() {
+    for spoilt in ["0400", "0402ffff", "0403ffffff", "0600", "0601ff", "0603ffffff", "0604ffffffff"]
+    {
+        in_every_state(&format!("020107 {spoilt}"), false);
+        in_every_state(&format!("{spoilt} 010134 020107"), false);
+    }
+    // A repeat, also of the wild card beside the device's own.
+    for twice in ["0401ff 0401ff", "0401ff 040101", "0602ffff 0602ffff", "06024b41 0602ffff"] {
+        in_every_state(&format!("020107 {twice}"), false);
+    }
+    // FF and FF FF under other identifiers.
+    for other in ["0501ff", "0702ffff", "ff01ff"] {
+        in_every_state(&format!("020107 {other}"), false);
+    }
+}
+
+#[test]
+fn a_scan_has_no_wild_cards() {
+    // Octets FF in the value are plain octets, whatever the mask.
+    for scan in [
+        "0101ff 0301ff",
+        "0102ffff 0302ffff",
+        "0102ffff 03020000",
+        "0106ffffffffffff 0306ffffffffffff",
+        "0102ff41 0302ffff",
+        "01024bff 0302ffff",
+        "0102ffff 03027f7f",
+    ] {
+        in_every_state(scan, false);
+    }
+    let whole = "ff".repeat(19);
+    in_every_state(&format!("0113{whole} 0313{whole}"), false);
+    // 1, 3 and a wild card are neither scan nor assignment, though 1 and 3
+    // alone are a scan that is answered.
+    for scan in ["010100 030100", "01024b41 0302ffff", "01064b4131323334 0306ffffffffffff"] {
+        let answer = "00bf81f00e01064b4131323334020100040101";
+        assert_eq!(fresh(0).give(&xid(scan)), answer);
+        for third in ["0401ff", "0602ffff", "0401ff 0602ffff", "040101", "06024b41"] {
+            in_every_state(&format!("{scan} {third}"), false);
+            in_every_state(&format!("{third} {scan}"), false);
+        }
+    }
+}
+
+/// Devices of three vendors.
+fn of_three_vendors() -> Table {
+    let mut table = Table::default();
+    for (k, identity) in [(1, b"KA1234"), (2, b"AK1234"), (3, b"zz9994")] {
+        let line = format!("device {} - - - -20 100 0", hex(identity));
+        assert_eq!(table.ask(&line), format!("device {k}"));
+    }
+    table
+}
+
+#[test]
+fn devices_share_the_address_of_a_wild_card() {
+    for triples in
+        ["020107 0401ff", "020107 0602ffff", "0602ffff 0401ff 020107", "010134 0602ffff 020107"]
+    {
+        let mut table = of_three_vendors();
+        for (k, identity) in [(1, "4b4131323334"), (2, "414b31323334"), (3, "7a7a39393934")] {
+            // "the answer from the new address has 1 and 4": the device's own.
+            let answer = format!("07bf81f00b0106{identity}040101");
+            assert_eq!(table.give_to(k, &xid(triples)), answer);
+            assert_eq!(table.ask(&format!("show {k}")), "state assigned 7 - still 0 - - 0");
+        }
+        // Each has a link of its own under the one address.
+        assert_eq!(table.give_to(1, "0793"), "0773");
+        assert_eq!(table.give_to(2, "0711"), "071f");
+        assert_eq!(table.give_to(2, "0793"), "0773");
+        assert_eq!(table.give_to(1, "07103302003200"), "0731");
+        assert_eq!(table.ask("show 1"), "state connected:1:0 7 - moving:50 0 - - 0");
+        assert_eq!(table.ask("show 2"), "state connected:0:0 7 - still 0 - - 0");
+        assert_eq!(table.ask("show 3"), "state assigned 7 - still 0 - - 0");
+        // One of them is told apart by its vendor or its identity.
+        assert_eq!(table.give_to(1, &xid("020109 0602414b 0401ff")), "silence");
+        let moved = "09bf81f00b0106414b31323334040101";
+        assert_eq!(table.give_to(2, &xid("020109 0602414b 0401ff")), moved);
+        assert_eq!(table.give_to(2, "0711"), "silence");
+        assert_eq!(table.ask("show 1"), "state connected:1:0 7 - moving:50 0 - - 0");
+    }
+}
+
+#[test]
+fn a_wild_card_beside_an_identity_of_some() {
+    for (triples, takers) in [
+        ("020107 0401ff 0106414b31323334", [false, true, false]),
+        ("010431323334 0602ffff 020107", [true, true, false]),
+        ("0602ffff 020107 0401ff 01023934", [false, false, true]),
+    ] {
+        let mut table = of_three_vendors();
+        for (k, taken) in (1..).zip(takers) {
+            assert_eq!(table.give_to(k, &xid(triples)) != "silence", taken);
+            let state = if taken { "assigned 7" } else { "none 0" };
+            assert_eq!(table.ask(&format!("show {k}")), format!("state {state} - still 0 - - 0"));
+        }
     }
 }

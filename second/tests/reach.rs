@@ -19,6 +19,23 @@ struct Tally {
     codes: BTreeSet<u8>,
     controls: BTreeSet<u8>,
     numbers: BTreeSet<(u8, u8)>,
+    shared: Shared,
+}
+
+/// The last assignment that was taken by wild card, in this script, and who
+/// took it.
+#[derive(Default)]
+struct Shared {
+    frame: Vec<u8>,
+    /// Those that have the address still.
+    devices: BTreeSet<String>,
+}
+
+impl Shared {
+    /// The device has its address together with another one.
+    fn holds(&self, k: &str) -> bool {
+        self.devices.len() > 1 && self.devices.contains(k)
+    }
 }
 
 impl Tally {
@@ -42,6 +59,7 @@ impl Tally {
         let mut source = Lines::new(&text[..]);
         let mut line = Vec::new();
         let mut seen = 0;
+        self.shared = Shared::default();
         while source.next(&mut line).unwrap() {
             seen += 1;
             let before = device_of(&bench, &line).cloned();
@@ -127,7 +145,20 @@ impl Tally {
         };
         self.answered(before, answered);
         if answered.is_empty() {
-            self.count(format!("silence, {}", reason(before, octets)));
+            let reason = reason(before, octets);
+            if has_wild_card(octets) {
+                self.count(format!("wild card, {reason}"));
+            }
+            self.count(format!("silence, {reason}"));
+        }
+        match octets {
+            [0xFF, 0xBF, payload @ ..] if !answered.is_empty() => {
+                self.assigned(before, asked[1], octets, payload)
+            }
+            [address, _, ..] if *address == before.address && self.shared.holds(asked[1]) => {
+                self.count(format!("address shared, {}", kind(answered)))
+            }
+            _ => (),
         }
         self.ended(before, now, answered);
         if let (Some(session), [address, control, payload @ ..]) = (before.session(), octets) {
@@ -139,11 +170,7 @@ impl Tally {
     }
 
     fn answered(&mut self, before: &Record, answer: &[u8]) {
-        let link = match before.link {
-            Link::NoAddress => "none",
-            Link::AddressAssigned => "assigned",
-            Link::Connected(_) => "connected",
-        };
+        let link = link(before);
         let pending = before.session().is_some_and(|session| session.pending.is_some());
         match answer {
             [] => self.count(format!("silence in {link}")),
@@ -155,6 +182,36 @@ impl Tally {
             [_, control] if control & 0x1F == 0x11 => self.count("RR"),
             [_, control, ..] if control & 1 == 0 => self.count("I"),
             _ => panic!("{answer:?}"),
+        }
+    }
+
+    /// By which triples an assignment was taken, and by whom: the same by
+    /// wild card makes devices share an address.
+    fn assigned(&mut self, before: &Record, k: &str, octets: &[u8], payload: &[u8]) {
+        let values = triples(payload).unwrap();
+        if !values.contains_key(&2) {
+            return;
+        }
+        let name = |identifier: u8| match values.get(&identifier) {
+            None => "absent",
+            Some([0xFF] | [0xFF, 0xFF]) => "FF",
+            Some(_) => "own",
+        };
+        let identity = if values.contains_key(&1) { "with" } else { "without" };
+        self.count(format!("taken by type {}, vendor {}, {identity} 1", name(4), name(6)));
+        if self.shared.frame != octets {
+            self.shared.devices.remove(k);
+        }
+        if !has_wild_card(octets) {
+            return;
+        }
+        self.count(format!("taken by wild card in {}", link(before)));
+        if self.shared.frame != octets {
+            self.shared = Shared { frame: octets.to_vec(), devices: BTreeSet::new() };
+        }
+        self.shared.devices.insert(k.to_string());
+        if self.shared.devices.len() > 1 {
+            self.count("taken by wild card, and by another device before");
         }
     }
 
@@ -253,6 +310,27 @@ impl Tally {
     }
 }
 
+/// The state of a device's link, in the words of `show`.
+fn link(record: &Record) -> &'static str {
+    match record.link {
+        Link::NoAddress => "none",
+        Link::AddressAssigned => "assigned",
+        Link::Connected(_) => "connected",
+    }
+}
+
+/// The kind of an answer from an address of the device's own.
+fn kind(answer: &[u8]) -> &'static str {
+    match answer {
+        [] => "silence",
+        [_, 0x73] => "UA",
+        [_, 0x1F] => "DM",
+        [_, 0x97, ..] => "FRMR",
+        [_, control] if control & 0x1F == 0x11 => "RR",
+        _ => "I",
+    }
+}
+
 /// Why a frame gets silence: the first reason, going by 01 from the top.
 fn reason(before: &Record, octets: &[u8]) -> String {
     let [address, control, payload @ ..] = octets else {
@@ -280,47 +358,76 @@ fn reason(before: &Record, octets: &[u8]) -> String {
     }
 }
 
-/// The same for an XID frame to everyone.
-fn xid_reason(before: &Record, payload: &[u8]) -> String {
+/// The triples of an XID payload, or what is wrong with it.
+fn triples(payload: &[u8]) -> Result<BTreeMap<u8, &[u8]>, String> {
     let [0x81, 0xF0, length, field @ ..] = payload else {
-        return "XID head".into();
+        return Err("XID head".into());
     };
     if usize::from(*length) != field.len() {
-        return "XID outer length".into();
+        return Err("XID outer length".into());
     }
     let mut values: BTreeMap<u8, &[u8]> = BTreeMap::new();
     let mut rest = field;
     while !rest.is_empty() {
         let [identifier, length, more @ ..] = rest else {
-            return "XID triple cut short".into();
+            return Err("XID triple cut short".into());
         };
         let Some((value, next)) = more.split_at_checked(usize::from(*length)) else {
-            return "XID triple cut short".into();
+            return Err("XID triple cut short".into());
         };
-        let lengths = match identifier {
-            1 | 3 => 1..=19,
-            2 | 4 => 1..=1,
-            6 => 2..=2,
-            _ => return "XID identifier".into(),
+        let lengths = match (identifier, value) {
+            (4, [0xFF, 0xFF]) => return Err("XID type FF FF".into()),
+            (6, [0xFF]) => return Err("XID vendor FF".into()),
+            (1 | 3, _) => 1..=19,
+            (2 | 4, _) => 1..=1,
+            (6, _) => 2..=2,
+            _ => return Err("XID identifier".into()),
         };
         if !lengths.contains(&value.len()) {
-            return format!("XID length of {identifier}");
+            return Err(format!("XID length of {identifier}"));
         }
         if values.insert(*identifier, value).is_some() {
-            return format!("XID repeat of {identifier}");
+            return Err(format!("XID repeat of {identifier}"));
         }
         rest = next;
     }
+    Ok(values)
+}
+
+/// An XID frame to everyone, well formed, that names a wild card.
+fn has_wild_card(octets: &[u8]) -> bool {
+    let [0xFF, 0xBF, payload @ ..] = octets else {
+        return false;
+    };
+    let values = triples(payload).unwrap_or_default();
+    values.get(&4) == Some(&&[0xFF][..]) || values.get(&6) == Some(&&[0xFF, 0xFF][..])
+}
+
+/// The same for an XID frame to everyone.
+fn xid_reason(before: &Record, payload: &[u8]) -> String {
+    let values = match triples(payload) {
+        Ok(values) => values,
+        Err(reason) => return reason,
+    };
     let identity = &before.make.identity;
     match (values.get(&1), values.get(&2), values.get(&3)) {
         (Some(value), None, Some(mask)) if values.len() == 2 => {
             let outside = value.iter().zip(*mask).any(|(value, mask)| value & !mask != 0);
+            let all_ones = value.iter().all(|octet| *octet == 0xFF);
             match outside {
                 _ if value.len() != mask.len() => "scan of unequal lengths".into(),
+                true if all_ones => "scan of FF outside its mask".into(),
                 true => "scan value outside its mask".into(),
+                false if all_ones => "scan of FF".into(),
                 false => "scan of others".into(),
             }
         }
+        (Some(_), None, Some(_)) => match (values.get(&4), values.get(&6)) {
+            (Some([0xFF]), None) => "scan with type FF".into(),
+            (None, Some([0xFF, 0xFF])) => "scan with vendor FF FF".into(),
+            (Some([0xFF]), Some([0xFF, 0xFF])) => "scan with both wild cards".into(),
+            _ => "scan with type or vendor".into(),
+        },
         (_, Some([0]), None) => "assignment of 0".into(),
         (_, Some([255]), None) => "assignment of 255".into(),
         (Some(value), Some(_), None) if value.len() > identity.unpadded().len() => {
@@ -330,10 +437,14 @@ fn xid_reason(before: &Record, payload: &[u8]) -> String {
             let left = identity.unpadded().starts_with(value);
             format!("assignment, other identity, from the left {left}")
         }
-        (_, Some(_), None) if values.get(&4).is_some_and(|value| **value != [1]) => {
-            "assignment, other type".into()
-        }
-        (_, Some(_), None) => "assignment, other vendor".into(),
+        (_, Some(_), None) => match (values.get(&4), values.get(&6)) {
+            (Some([0x00]), _) => "assignment, type 00".into(),
+            (Some([0xFE]), _) => "assignment, type FE".into(),
+            (Some([kind]), _) if ![0x01, 0xFF].contains(kind) => "assignment, other type".into(),
+            (_, Some([0xFF, _])) => "assignment, vendor FF and another".into(),
+            (_, Some([_, 0xFF])) => "assignment, vendor another and FF".into(),
+            _ => "assignment, other vendor".into(),
+        },
         _ => "XID neither".into(),
     }
 }
@@ -345,7 +456,7 @@ fn device_of<'bench>(bench: &'bench Bench, line: &[u8]) -> Option<&'bench Record
 }
 
 /// Kinds that must come at least so often in all the scripts together.
-const OFTEN: [(&str, usize); 141] = [
+const OFTEN: [(&str, usize); 189] = [
     ("no answer", 1_000),
     ("devices 0", 1),
     ("devices 1", 1),
@@ -433,6 +544,8 @@ const OFTEN: [(&str, usize); 141] = [
     ("silence, XID length of 3", 50),
     ("silence, XID length of 4", 50),
     ("silence, XID length of 6", 50),
+    ("silence, XID type FF FF", 50),
+    ("silence, XID vendor FF", 50),
     ("silence, XID repeat of 1", 50),
     ("silence, XID repeat of 2", 50),
     ("silence, XID repeat of 3", 20),
@@ -442,6 +555,12 @@ const OFTEN: [(&str, usize); 141] = [
     ("silence, scan of unequal lengths", 50),
     ("silence, scan of others", 200),
     ("silence, scan value outside its mask", 200),
+    ("silence, scan of FF", 100),
+    ("silence, scan of FF outside its mask", 50),
+    ("silence, scan with type FF", 100),
+    ("silence, scan with vendor FF FF", 100),
+    ("silence, scan with both wild cards", 100),
+    ("silence, scan with type or vendor", 20),
     ("silence, assignment of 0", 100),
     ("silence, assignment of 255", 100),
     ("silence, assignment, identity too long", 100),
@@ -449,6 +568,22 @@ const OFTEN: [(&str, usize); 141] = [
     ("silence, assignment, other identity, from the left false", 100),
     ("silence, assignment, other type", 100),
     ("silence, assignment, other vendor", 100),
+    ("silence, assignment, type 00", 50),
+    ("silence, assignment, type FE", 50),
+    ("silence, assignment, vendor FF and another", 50),
+    ("silence, assignment, vendor another and FF", 50),
+    ("wild card, XID neither", 50),
+    ("wild card, assignment of 0", 20),
+    ("wild card, assignment of 255", 20),
+    ("wild card, assignment, identity too long", 50),
+    ("wild card, assignment, other identity, from the left true", 50),
+    ("wild card, assignment, other identity, from the left false", 100),
+    ("wild card, assignment, other type", 20),
+    ("wild card, assignment, other vendor", 50),
+    ("wild card, assignment, type 00", 10),
+    ("wild card, assignment, type FE", 10),
+    ("wild card, assignment, vendor FF and another", 20),
+    ("wild card, assignment, vendor another and FF", 20),
     ("UA in assigned", 1_000),
     ("UA in connected", 500),
     ("DM in assigned", 500),
@@ -462,6 +597,30 @@ const OFTEN: [(&str, usize); 141] = [
     ("XID assignment in none", 100),
     ("XID assignment in assigned", 50),
     ("XID assignment in connected", 200),
+    ("taken by type absent, vendor absent, with 1", 20),
+    ("taken by type absent, vendor absent, without 1", 10),
+    ("taken by type own, vendor own, with 1", 20),
+    ("taken by type own, vendor own, without 1", 10),
+    ("taken by type FF, vendor absent, with 1", 30),
+    ("taken by type FF, vendor absent, without 1", 30),
+    ("taken by type FF, vendor own, with 1", 30),
+    ("taken by type FF, vendor own, without 1", 30),
+    ("taken by type absent, vendor FF, with 1", 30),
+    ("taken by type absent, vendor FF, without 1", 30),
+    ("taken by type own, vendor FF, with 1", 30),
+    ("taken by type own, vendor FF, without 1", 30),
+    ("taken by type FF, vendor FF, with 1", 30),
+    ("taken by type FF, vendor FF, without 1", 30),
+    ("taken by wild card in none", 50),
+    ("taken by wild card in assigned", 50),
+    ("taken by wild card in connected", 200),
+    ("taken by wild card, and by another device before", 100),
+    ("address shared, UA", 200),
+    ("address shared, DM", 100),
+    ("address shared, I", 1_000),
+    ("address shared, RR", 1_000),
+    ("address shared, FRMR", 50),
+    ("address shared, silence", 200),
     ("ended with an indication pending", 100),
     ("ended with a message pending", 200),
     ("ended with a result owed, moving", 200),

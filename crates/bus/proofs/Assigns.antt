@@ -1,7 +1,7 @@
 -- One assignment, written as a line and heard by one device: the device takes the address exactly if the identity in
 -- the frame is the right end of its own; else it stays as it was. Assumes nothing.
 use mathlib.Core.Path.{_≡_, refl, ap, _∙_}
-use mathlib.Core.Bool.{Bool, true, false, cond, and-true}
+use mathlib.Core.Bool.{Bool, true, false, cond}
 use mathlib.Core.Logic.{_↔_}
 use mathlib.Core.List.{List, [], _∷_, _++_}
 use mathlib.Core.Option.{none, some}
@@ -25,10 +25,10 @@ use Rattle.params.specs.Field.{_is_, tripleOf, fieldOf, xidPayload, rightLength
 use Rattle.params.proofs.Exact.{once-different}
 use Rattle.params.proofs.Kept.{of-both}
 use Rattle.xid.specs.Addressing.{identityId, addressId, addressing, valuesOf}
-use Rattle.xid.specs.Match.{readOf, identityMatches, kindMatches, vendorMatches}
+use Rattle.xid.specs.Match.{readOf}
 use Rattle.xid.specs.Meaning.{AssignmentOf, EndOf}
 use Rattle.xid.specs.declared.Xid.{Xid}
-use Rattle.xid.proofs.Exactly.{assignment-read}
+use Rattle.xid.proofs.Wild.{identity-alone}
 use Rattle.station.specs.declared.Say.{Say}
 use Rattle.station.specs.declared.Turn.{Turn}
 use Rattle.station.specs.Turns.{saying, mute}
@@ -79,11 +79,11 @@ module _ (v : List ℕ) (a : ℕ) (whole : allowedIdentity v ≡ true) (least : 
   module _ (d : Device) where
     assignment-judged : judgedFrame d (0xFF ∷ 0xBF ∷ payload)
         ≡ cond (endsWith (identityIn d) v) (saying (endedAs d a AddressAssigned) Say.Assigned) (mute d)
-    unfolding xidBy addressed identityMatches kindMatches vendorMatches
+    unfolding xidBy addressed
     assignment-judged =
         let read : readOf (identityIn d) payload ≡ cond (endsWith (identityIn d) v) (Xid.Assignment a) Xid.Silence =
-        assignment-read (identityIn d) payload a (some v) none none assignment-formed
-        ∙ rw (lt-ltb 0 a least, lt-ltb a 255 (omega arith), and-true (endsWith (identityIn d) v)) in
+        identity-alone (identityIn d) payload v a assignment-formed
+        ∙ rw (lt-ltb 0 a least, lt-ltb a 255 (omega arith)) in
         everyone-is d (0xFF ∷ 0xBF ∷ payload)
         (record {
           least = omega arith;

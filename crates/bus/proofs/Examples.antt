@@ -1,7 +1,8 @@
 -- Two fresh devices on one cable, computed. AAZZ1 and ZZ1: the scan lists AAZZ1 first, and the assignment for ZZ1, its
 -- right end, moves it too; both hold the address 2, so that the condition is needed. ZZ1 and ZZZZ1: the longer one is
--- listed later and is simply given its own address afterwards. Assumes nothing.
-use mathlib.Core.Path.{_≡_, refl, subst}
+-- listed later and is simply given its own address afterwards. AAZZ1 and ZZ1 again: one assignment with the wild cards for
+-- type and vendor gives both the address 7. Assumes nothing.
+use mathlib.Core.Path.{_≡_, refl, ap, subst}
 use mathlib.Core.Bool.{true}
 use mathlib.Core.List.{List, [], _∷_, map, List·Memᴰ·head}
 use Prim.Native.Nat.{ℕ, _≤_}
@@ -13,14 +14,17 @@ use Rattle.antenna.specs.Angles.{atMost}
 use Rattle.antenna.specs.Motions.{inRange}
 use Rattle.record.specs.declared.Device.{Device}
 use Rattle.record.specs.Allowed.{allowedDevice}
+use Rattle.record.specs.Changes.{unsaidAt, endedAs}
 use Rattle.record.specs.Fresh.{identityFrom, plateFrom, freshFrom, freshAntenna, level, textsAllowed, dataAllowed}
 use Rattle.record.proofs.Stays.{fresh-allowed}
+use Rattle.xid.proofs.Wild.{wild-formed}
 use Rattle.scan.specs.declared.State.the-variants.{Complete}
 use Rattle.scan.specs.Record.{listOf}
-use Rattle.bus.specs.Cable.{identityIn}
+use Rattle.bus.specs.Cable.{identityIn, lineFor, allAfter}
 use Rattle.bus.specs.Scanning.{scanned}
 use Rattle.bus.specs.Install.{assignedAll, Installed}
-use Rattle.bus.proofs.Pairs.{pair-complete, pair-list, pair-moved, pair-kept}
+use Rattle.bus.proofs.Shared.{wild-shared}
+use Rattle.bus.proofs.Pairs.{pair-allowed, pair-complete, pair-list, pair-moved, pair-kept}
 
 abbrev pub aazz1 : List ℕ
 aazz1 = 0x41 ∷ 0x41 ∷ 0x5A ∷ 0x5A ∷ 0x31 ∷ []
@@ -56,10 +60,26 @@ three-named : (identityIn (freshNamed aazz1) ≡ aazz1) × (identityIn (freshNam
 unfolding freshFrom plateFrom identityFrom _atStartOf_
 three-named = (refl, refl, refl)
 
-module _ (limit : ℕ) (long : 609 ≤ limit) where
-  abbrev ending : List Device
-  ending = freshNamed aazz1 ∷ freshNamed zz1 ∷ []
+abbrev ending : List Device
+ending = freshNamed aazz1 ∷ freshNamed zz1 ∷ []
 
+abbrev wildSeven : List ℕ
+wildSeven = 0x81 ∷ 0xF0 ∷ 10 ∷ 2 ∷ 1 ∷ 7 ∷ 4 ∷ 1 ∷ 0xFF ∷ 6 ∷ 2 ∷ 0xFF ∷ 0xFF ∷ []
+
+-- both take the address 7, so that both answer what is sent to it
+pub two-share : (map (λ (d : Device). d .station .desk .address) (allAfter ending (lineFor (0xFF ∷ 0xBF ∷ wildSeven)))
+    ≡ 7 ∷ 7 ∷ [])
+    × (Different (map (λ (d : Device). d .station .desk .address) (allAfter ending (lineFor (0xFF ∷ 0xBF ∷ wildSeven))))
+    → ⊥)
+unfolding endedAs unsaidAt
+two-share =
+    let shared =
+    ap (map (λ (d : Device). d .station .desk .address))
+    (wild-shared wildSeven 7 (omega arith) (omega arith) (omega arith) (omega arith) (wild-formed 7) ending
+    (pair-allowed (freshNamed aazz1) (freshNamed zz1) (three-good .0) (three-good .1))) in
+    (shared, λ w. subst Different shared w .0 (List·Memᴰ·head refl))
+
+module _ (limit : ℕ) (long : 609 ≤ limit) where
   -- listed ascending, AAZZ1 first; the assignment for ZZ1 re-addresses it
   pub condition-needed : (scanned limit ending .scan .state ≡ Complete)
       × (listOf (scanned limit ending .scan) ≡ padded aazz1 ∷ padded zz1 ∷ [])

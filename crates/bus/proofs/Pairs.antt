@@ -28,6 +28,12 @@ use Rattle.bus.proofs.Installs.{row-listed}
 use Rattle.bus.proofs.Ascends.{lower-one-way, one-order}
 use Rattle.bus.proofs.Job.{list-ascending, list-members}
 
+pub pair-allowed : (d e : Device) → allowedDevice d ≡ true → allowedDevice e ≡ true → (b : Device)
+    → List·Memᴰ b (d ∷ e ∷ []) → allowedDevice b ≡ true
+pair-allowed d e good fine b m =
+    elim (List·Memᴰ·cases-cons m)
+    [ inl q ↦ ap allowedDevice q ∙ good | inr t ↦ ap allowedDevice (List·Memᴰ·eq-of-singleton t) ∙ fine ]
+
 -- the first one's identity is the lower
 module _ (d e : Device) (good : allowedDevice d ≡ true) (fine : allowedDevice e ≡ true)
     (up : lower (paddedIn d) (paddedIn e) ≡ true) (limit : ℕ) (long : 609 ≤ limit) where
@@ -44,15 +50,8 @@ module _ (d e : Device) (good : allowedDevice d ≡ true) (fine : allowedDevice 
   )
 
   cabled : Cabled pair
-  cabled = record { allowed = allowed; apart = (apart, ((λ m. List·Memᴰ·not-nil m), tt)) }
+  cabled = record { allowed = pair-allowed d e good fine; apart = (apart, ((λ m. List·Memᴰ·not-nil m), tt)) }
     where
-      allowed : (b : Device) → List·Memᴰ b pair → allowedDevice b ≡ true
-      allowed b m = go (List·Memᴰ·cases-cons m)
-        where
-          go : (b ≡ d) ⊎ List·Memᴰ b (e ∷ []) → allowedDevice b ≡ true
-          go (inl q) = ap allowedDevice q ∙ good
-          go (inr t) = ap allowedDevice (List·Memᴰ·eq-of-singleton t) ∙ fine
-
       apart : List·Memᴰ (paddedIn d) (paddedIn e ∷ []) → ⊥
       apart m =
           let self : lower (paddedIn d) (paddedIn d) ≡ true = rw (← List·Memᴰ·eq-of-singleton m) at up in

@@ -1,5 +1,16 @@
 -- The change requests, each in its own words: where its statement stands. Assumes nothing.
 
+-- ---- (ii) wild cards: vendor 0xFF 0xFF and type 0xFF, "those two values match every device in an assignment."
+-- as if no type, or no vendor, were given, whatever else is; with both, and no identity, an assignment is taken by every
+-- identity, exactly if the address value is 1 to 254
+pub use Rattle.xid.proofs.Wild.{wild-type, wild-vendor, wild-exactly, wild-formed}
+-- so on the cable: every device takes the address, answers from it, and answers SNRM to it; two then hold the same
+pub use Rattle.bus.proofs.Shared.{wild-heard, wild-shared, wild-begins}
+pub use Rattle.bus.proofs.Examples.{two-share}
+-- any other value is compared as 01 says; one octet FF of two is no wild card: no device with an identity of 01 is meant
+pub use Rattle.xid.proofs.Wild.{plain-type, plain-vendor, half-wild}
+-- a scan's rule is as before (`scan-exactly`): with a type or a vendor beside its mask, whatever they say, every device is silent
+pub use Rattle.xid.proofs.Wild.{masked-silent}
 -- ---- (iii) a smaller check table: "Its answer for every input stays the same."
 -- of the two routines of the code, by what each promises: whatever the one by the table of 16 and the one by that of 256 may
 -- give for one register and the same octets is one number; `go_on` is one of them, by a constant

@@ -2,8 +2,8 @@
 -- exactly if its address value is 1 to 254 and all that it names fits; no payload is both; each mismatch, which is of
 -- one of the two. For octets of any content and identities of any octets. Assumes nothing.
 use mathlib.Core.Path.{_≡_, refl, sym, ap, _∙_}
-use mathlib.Core.Bool.{Bool, true, false, cond, not, _&&_}
-use mathlib.Core.Logic.{_↔_, _⊎_, ⊎-elim}
+use mathlib.Core.Bool.{Bool, true, false, cond, not, _&&_, _||_, or-true}
+use mathlib.Core.Logic.{_↔_, _⊎_, inl, inr, ⊎-elim}
 use mathlib.Core.List.{List, [], _∷_}
 use mathlib.Core.Option.{Option, none, some}
 use Prim.Native.Nat.{ℕ, _≤_}
@@ -11,7 +11,7 @@ use native.Mathlib.Omega.{arith}
 use borrow.Author.Tests.{eq-eqb, leb-true, le-leb, ltb-true, lt-ltb, not-true}
 use lib.Dec.{leb, ltb}
 use lib.ListN.{length, take}
-use Rattle.octets.proofs.Words.{true-not-false}
+use Rattle.octets.proofs.Words.{true-not-false, or-parts}
 use Rattle.identity.specs.Bits.{masked}
 use Rattle.identity.specs.Identity.{vendor, same, padded, answersScan}
 use Rattle.identity.proofs.Scans.{same-is, is-same}
@@ -22,8 +22,8 @@ use Rattle.params.proofs.Kept.{both-of, of-both}
 use Rattle.xid.specs.Addressing.{addressing, Values, valuesOf}
 use Rattle.xid.specs.Match.{deviceType, isScan, scanShape, isAssignment, assignmentShape, scanMatches, addressOf}
 use Rattle.xid.specs.Match.{identityMatches, kindMatches, vendorMatches, badAddress, otherIdentity, otherType}
-use Rattle.xid.specs.Match.{otherVendor, otherScan, readOf}
-use Rattle.xid.specs.Meaning.{ScanOf, AssignmentOf, IfGiven, EndOf, Meant, Answers, Takes}
+use Rattle.xid.specs.Match.{anyType, anyVendor, anyOr, otherVendor, otherScan, readOf}
+use Rattle.xid.specs.Meaning.{ScanOf, AssignmentOf, IfGiven, EndOf, AnyOr, Meant, Answers, Takes}
 use Rattle.xid.proofs.Ends.{ends-exactly}
 use Rattle.xid.proofs.Rows.{scan-meant, assignment-meant}
 use Rattle.xid.proofs.Told.{given-none, values-are, scan-values, address-one, scan-told}
@@ -61,37 +61,29 @@ scan-exactly i m = (there, back)
 
 -- ---- the assignment
 
-own-told : (i : List ℕ) (x : Option (List ℕ)) → identityMatches i x ≡ true → IfGiven x (EndOf i)
+pub own-exactly : (i : List ℕ) (x : Option (List ℕ)) → identityMatches i x ≡ true ↔ IfGiven x (EndOf i)
 unfolding identityMatches
-own-told i none e = tt
-own-told i (some v) e = ends-exactly i v .0 e
+own-exactly i none = (λ e. tt, λ w. refl)
+own-exactly i (some v) = ends-exactly i v
 
-own-tells : (i : List ℕ) (x : Option (List ℕ)) → IfGiven x (EndOf i) → identityMatches i x ≡ true
-unfolding identityMatches
-own-tells i none e = refl
-own-tells i (some v) e = ends-exactly i v .1 e
+-- a value is the wild card or the device's own exactly if the test says so
+any-or-exactly : (any own v : List ℕ) → anyOr any own v ≡ true ↔ AnyOr any own v
+any-or-exactly any own v = (
+  λ e. ⊎-elim (λ (f : same v any ≡ true). inl (same-is v any f)) (λ (f : same v own ≡ true). inr (same-is v own f))
+      (or-parts (same v any) (same v own) e),
+  λ w. ⊎-elim (λ (f : v ≡ any). rw (is-same v any f)) (λ (f : v ≡ own). rw (is-same v own f, or-true (same v any))) w,
+)
 
-kind-told : (x : Option (List ℕ)) → kindMatches x ≡ true → IfGiven x (λ (v : List ℕ). v ≡ deviceType ∷ [])
+pub kind-exactly : (x : Option (List ℕ)) → kindMatches x ≡ true ↔ IfGiven x (AnyOr anyType (deviceType ∷ []))
 unfolding kindMatches
-kind-told none e = tt
-kind-told (some v) e = same-is v (deviceType ∷ []) e
+kind-exactly none = (λ e. tt, λ w. refl)
+kind-exactly (some v) = any-or-exactly anyType (deviceType ∷ []) v
 
-kind-tells : (x : Option (List ℕ)) → IfGiven x (λ (v : List ℕ). v ≡ deviceType ∷ []) → kindMatches x ≡ true
-unfolding kindMatches
-kind-tells none e = refl
-kind-tells (some v) e = is-same v (deviceType ∷ []) e
-
-maker-told : (i : List ℕ) (x : Option (List ℕ)) → vendorMatches i x ≡ true
-    → IfGiven x (λ (v : List ℕ). v ≡ take vendor i)
+pub maker-exactly : (i : List ℕ) (x : Option (List ℕ))
+    → vendorMatches i x ≡ true ↔ IfGiven x (AnyOr anyVendor (take vendor i))
 unfolding vendorMatches
-maker-told i none e = tt
-maker-told i (some v) e = same-is v (take vendor i) e
-
-maker-tells : (i : List ℕ) (x : Option (List ℕ)) → IfGiven x (λ (v : List ℕ). v ≡ take vendor i)
-    → vendorMatches i x ≡ true
-unfolding vendorMatches
-maker-tells i none e = refl
-maker-tells i (some v) e = is-same v (take vendor i) e
+maker-exactly i none = (λ e. tt, λ w. refl)
+maker-exactly i (some v) = any-or-exactly anyVendor (take vendor i) v
 
 pub matches-exactly : (i : List ℕ) (a : ℕ) (x y z : Option (List ℕ))
     → (addressed a && (identityMatches i x && (kindMatches y && vendorMatches i z)) ≡ true) ↔ Meant i a x y z
@@ -108,9 +100,9 @@ matches-exactly i a x y z = (there, back)
         record {
           least = ltb-true 0 a low;
           most = omega (arith, ltb-true a 255 high);
-          own = own-told i x own;
-          kind = kind-told y kind;
-          maker = maker-told i z maker;
+          own = own-exactly i x .0 own;
+          kind = kind-exactly y .0 kind;
+          maker = maker-exactly i z .0 maker;
         }
 
     back : Meant i a x y z → addressed a && (identityMatches i x && (kindMatches y && vendorMatches i z)) ≡ true
@@ -118,7 +110,8 @@ matches-exactly i a x y z = (there, back)
         let low = lt-ltb 0 a (w .least) in
         let high = lt-ltb a 255 (omega (arith, w .most)) in
         of-both (of-both low high)
-        (of-both (own-tells i x (w .own)) (of-both (kind-tells y (w .kind)) (maker-tells i z (w .maker))))
+        (of-both (own-exactly i x .1 (w .own))
+        (of-both (kind-exactly y .1 (w .kind)) (maker-exactly i z .1 (w .maker))))
 
 -- an assignment is taken by these devices, and all others stay silent
 pub assignment-read : (i m : List ℕ) (a : ℕ) (x y z : Option (List ℕ)) → AssignmentOf m a x y z
@@ -182,24 +175,22 @@ module _ (w : Values) where
       )
 
   pub other-type-exactly : otherType w ≡ true
-      ↔ (isAssignment w ≡ true) × (IfGiven (w .kind) (λ (v : List ℕ). v ≡ deviceType ∷ []) → ⊥)
+      ↔ (isAssignment w ≡ true) × (IfGiven (w .kind) (AnyOr anyType (deviceType ∷ [])) → ⊥)
   unfolding otherType
-  other-type-exactly =
-      mismatch (isAssignment w) (kindMatches (w .kind)) (kind-told (w .kind), kind-tells (w .kind))
+  other-type-exactly = mismatch (isAssignment w) (kindMatches (w .kind)) (kind-exactly (w .kind))
 
   module _ (i : List ℕ) where
     pub other-identity-exactly : otherIdentity i w ≡ true
         ↔ (isAssignment w ≡ true) × (IfGiven (w .identity) (EndOf i) → ⊥)
     unfolding otherIdentity
     other-identity-exactly =
-        mismatch (isAssignment w) (identityMatches i (w .identity))
-        (own-told i (w .identity), own-tells i (w .identity))
+        mismatch (isAssignment w) (identityMatches i (w .identity)) (own-exactly i (w .identity))
 
     pub other-vendor-exactly : otherVendor i w ≡ true
-        ↔ (isAssignment w ≡ true) × (IfGiven (w .vendor) (λ (v : List ℕ). v ≡ take vendor i) → ⊥)
+        ↔ (isAssignment w ≡ true) × (IfGiven (w .vendor) (AnyOr anyVendor (take vendor i)) → ⊥)
     unfolding otherVendor
     other-vendor-exactly =
-        mismatch (isAssignment w) (vendorMatches i (w .vendor)) (maker-told i (w .vendor), maker-tells i (w .vendor))
+        mismatch (isAssignment w) (vendorMatches i (w .vendor)) (maker-exactly i (w .vendor))
 
     pub other-scan-exactly : otherScan i w ≡ true
         ↔ (isScan w ≡ true) × (masked (padded i) (octetsIn (w .mask)) ≡ octetsIn (w .identity) → ⊥)

@@ -1,6 +1,6 @@
 -- Computed, for the device of vendor KA with the serial number 0123: an assignment compares from the right and
 -- unpadded, a scan from the left and padded; the edges of 01; payloads that are malformed; each of the numbers 4 to
--- 10. Assumes nothing.
+-- 10; the wild cards. Assumes nothing.
 use mathlib.Core.Path.{_≡_, refl}
 use mathlib.Core.List.{List, [], _∷_}
 use Prim.Native.Nat.{ℕ}
@@ -51,6 +51,31 @@ named =
     ∷ (0x81 ∷ 0xF0 ∷ 6 ∷ 4 ∷ 1 ∷ 0x11 ∷ 2 ∷ 1 ∷ 7 ∷ []) gets refuses 8
     ∷ (0x81 ∷ 0xF0 ∷ 7 ∷ 6 ∷ 2 ∷ 0x4B ∷ 0x42 ∷ 2 ∷ 1 ∷ 7 ∷ []) gets refuses 9 ∷ []
 
+-- the wild cards, alone and together, with the right end of the identity and with another, and an address value of 255
+abbrev pub wild : List Row
+wild =
+    (0x81 ∷ 0xF0 ∷ 6 ∷ 4 ∷ 1 ∷ 0xFF ∷ 2 ∷ 1 ∷ 7 ∷ []) gets gives (Assignment 7)
+    ∷ (0x81 ∷ 0xF0 ∷ 7 ∷ 2 ∷ 1 ∷ 7 ∷ 6 ∷ 2 ∷ 0xFF ∷ 0xFF ∷ []) gets gives (Assignment 7)
+    ∷ (0x81 ∷ 0xF0 ∷ 13 ∷ 6 ∷ 2 ∷ 0xFF ∷ 0xFF ∷ 4 ∷ 1 ∷ 0xFF ∷ 1 ∷ 1 ∷ 0x33 ∷ 2 ∷ 1 ∷ 7 ∷ []) gets gives (Assignment 7)
+    ∷ (0x81 ∷ 0xF0 ∷ 13 ∷ 6 ∷ 2 ∷ 0xFF ∷ 0xFF ∷ 4 ∷ 1 ∷ 0xFF ∷ 1 ∷ 1 ∷ 0x34 ∷ 2 ∷ 1 ∷ 7 ∷ []) gets refuses 7
+    ∷ (0x81 ∷ 0xF0 ∷ 10 ∷ 6 ∷ 2 ∷ 0xFF ∷ 0xFF ∷ 4 ∷ 1 ∷ 0xFF ∷ 2 ∷ 1 ∷ 255 ∷ []) gets refuses 6 ∷ []
+
+-- one octet FF of two; type 0x00; another type beside the wild vendor, and another vendor beside the wild type
+abbrev pub tame : List Row
+tame =
+    (0x81 ∷ 0xF0 ∷ 7 ∷ 6 ∷ 2 ∷ 0xFF ∷ 0x41 ∷ 2 ∷ 1 ∷ 7 ∷ []) gets refuses 9
+    ∷ (0x81 ∷ 0xF0 ∷ 7 ∷ 6 ∷ 2 ∷ 0x4B ∷ 0xFF ∷ 2 ∷ 1 ∷ 7 ∷ []) gets refuses 9
+    ∷ (0x81 ∷ 0xF0 ∷ 6 ∷ 4 ∷ 1 ∷ 0x00 ∷ 2 ∷ 1 ∷ 7 ∷ []) gets refuses 8
+    ∷ (0x81 ∷ 0xF0 ∷ 10 ∷ 6 ∷ 2 ∷ 0xFF ∷ 0xFF ∷ 4 ∷ 1 ∷ 0x11 ∷ 2 ∷ 1 ∷ 7 ∷ []) gets refuses 8
+    ∷ (0x81 ∷ 0xF0 ∷ 10 ∷ 6 ∷ 2 ∷ 0x4B ∷ 0x42 ∷ 4 ∷ 1 ∷ 0xFF ∷ 2 ∷ 1 ∷ 7 ∷ []) gets refuses 9 ∷ []
+
+-- in a scan they are plain octets, and type or vendor beside the mask are neither
+abbrev pub scanned : List Row
+scanned =
+    (0x81 ∷ 0xF0 ∷ 8 ∷ 1 ∷ 2 ∷ 0xFF ∷ 0xFF ∷ 3 ∷ 2 ∷ 0xFF ∷ 0xFF ∷ []) gets refuses 10
+    ∷ (0x81 ∷ 0xF0 ∷ 9 ∷ 1 ∷ 1 ∷ 0x4B ∷ 3 ∷ 1 ∷ 0xFF ∷ 4 ∷ 1 ∷ 0xFF ∷ []) gets refuses 5
+    ∷ (0x81 ∷ 0xF0 ∷ 10 ∷ 1 ∷ 1 ∷ 0x4B ∷ 3 ∷ 1 ∷ 0xFF ∷ 6 ∷ 2 ∷ 0xFF ∷ 0xFF ∷ []) gets refuses 5 ∷ []
+
 -- a scan, from the left: the left-most two octets, and the right-most two
 abbrev pub left : List Row
 left =
@@ -92,7 +117,8 @@ others =
     ∷ (0x81 ∷ 0xF0 ∷ 9 ∷ 4 ∷ 1 ∷ 0x11 ∷ 1 ∷ 1 ∷ 0x34 ∷ 2 ∷ 1 ∷ 7 ∷ []) gets refuses 7
     ∷ (0x81 ∷ 0xF0 ∷ 10 ∷ 6 ∷ 2 ∷ 0x4B ∷ 0x42 ∷ 4 ∷ 1 ∷ 0x11 ∷ 2 ∷ 1 ∷ 7 ∷ []) gets refuses 8 ∷ []
 
-pub computed : All right × All shorter × All named × All left × All padding × All edges × All misformed × All others
+pub computed : All right × All shorter × All named × All wild × All tame × All scanned × All left × All padding × All edges
+    × All misformed × All others
 unfolding payloadAnswer payloadRows valueRows answered meaningOf malformed noParams valuesIn neither
     badAddress otherIdentity otherType otherVendor otherScan paramsOf opened triplesAfter before checked allRight
     rightLength identifiers noneTwice holds valuesOf valueFor given octetsIn isScan scanShape assignmentShape
@@ -100,6 +126,9 @@ unfolding payloadAnswer payloadRows valueRows answered meaningOf malformed noPar
 computed = (
   (refl, (refl, tt)),
   (refl, (refl, tt)),
+  (refl, (refl, (refl, tt))),
+  (refl, (refl, (refl, (refl, (refl, tt))))),
+  (refl, (refl, (refl, (refl, (refl, tt))))),
   (refl, (refl, (refl, tt))),
   (refl, (refl, tt)),
   (refl, (refl, tt)),

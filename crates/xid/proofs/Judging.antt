@@ -16,7 +16,7 @@ use Rattle.params.specs.declared.Part.{Part}
 use Rattle.params.specs.declared.Part.the-variants.{Absent, At}
 use Rattle.xid.specs.declared.Parts.{Parts}
 use Rattle.xid.specs.Addressing.{addressing, valuesOf, valuesAt}
-use Rattle.xid.specs.Match.{deviceType, endsWith}
+use Rattle.xid.specs.Match.{deviceType, endsWith, anyType, anyVendor, anyOr}
 use Rattle.xid.specs.Match.{isScan, isAssignment, scanMatches, identityMatches, kindMatches}
 use Rattle.xid.specs.Match.{vendorMatches, meantTo, readOf}
 use Rattle.xid.specs.declared.Xid.{Xid}
@@ -24,6 +24,13 @@ use Rattle.xid.specs.declared.Xid.the-variants.{Silence, Scan, Assignmen
 use Rattle.xid.proofs.Rows.{scan-meant, assignment-meant, neither-meant, malformed-read, formed-read}
 
 -- ---- the end of the identity, the type, the vendor
+
+module _ (any own v : List ℕ) {r : Bool} (e : r ≡ same v any) where
+  pub any-so : r ≡ true → true ≡ anyOr any own v
+  any-so t = rw (sym e ∙ t)
+
+  pub any-not : r ≡ false → {q : Bool} → q ≡ same v own → q ≡ anyOr any own v
+  any-not t f = f ∙ rw (sym e ∙ t)
 
 module _ (m : List ℕ) {p : Part} where
   module _ (i : List ℕ) where
@@ -40,7 +47,7 @@ module _ (m : List ℕ) {p : Part} where
   kind-absent e = rw e
 
   module _ {from len : ℕ} {v : List ℕ} (e : p ≡ At from len) (f : v ≡ take len (drop from m)) where
-    pub kind-given : {r : Bool} → r ≡ same v (deviceType ∷ []) → r ≡ kindMatches (valueAt m p)
+    pub kind-given : {r : Bool} → r ≡ anyOr anyType (deviceType ∷ []) v → r ≡ kindMatches (valueAt m p)
     unfolding kindMatches valueAt
     kind-given g = g ∙ rw (e, f)
 
@@ -50,7 +57,7 @@ module _ (m : List ℕ) {p : Part} where
       unfolding identityMatches valueAt
       identity-given k g = g ∙ rw (e, f, k, take-within count width octets (omega arith))
 
-      pub vendor-given : {r : Bool} → n ≡ min count vendor → r ≡ same v (take n octets)
+      pub vendor-given : {r : Bool} → n ≡ min count vendor → r ≡ anyOr anyVendor (take n octets) v
           → r ≡ vendorMatches (take count octets) (valueAt m p)
       unfolding vendorMatches valueAt
       vendor-given k g = g ∙ rw (e, f, k, take-min count vendor octets)

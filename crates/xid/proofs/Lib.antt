@@ -7,6 +7,7 @@ pub mod Judging
 pub mod Told
 pub mod Table
 pub mod Exactly
+pub mod Wild
 pub mod Probe
 pub mod Ends
 pub mod Examples

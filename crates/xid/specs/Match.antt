@@ -8,8 +8,10 @@
 --   rightmost k s       == the k right-most octets of s
 --   endsWith s t        == t isn't longer than s and equals its right-most octets
 --   identityMatches i x == "If 1 is given": its value x is the end of the identity i
---   kindMatches x       == "If 4 .. is given": its value x is the device's type
---   vendorMatches i x   == "If .. 6 is given": its value x is the vendor of the identity i
+--   anyType, anyVendor  == the wild cards of an assignment, 0xFF and 0xFF 0xFF
+--   anyOr any own v     == the value v is the wild card, or the device's own
+--   kindMatches x       == "If 4 .. is given": its value x is the wild card, or the device's type
+--   vendorMatches i x   == "If .. 6 is given": its value x is the wild card, or the vendor of the identity i
 -- Why a device does not answer is the first that holds of ten conditions, in this order; the number of a row is its
 -- place. The first three, of the frame, stand in link/specs/Xids: 1 its size, 2 its address octet, 3 its control.
 --   malformed m         == 4: the payload m is not well formed: noParams of what is read in it
@@ -89,14 +91,24 @@ unfoldable pub identityMatches : List ℕ → Option (List ℕ) → Bool
 identityMatches i none = true
 identityMatches i (some v) = endsWith i v
 
--- "If 4 or 6 is given, it is equal."
+-- 02 (ii): "vendor 0xFF 0xFF and type 0xFF .. match every device in an assignment"
+abbrev pub anyType : List ℕ
+anyType = 0xFF ∷ []
+
+abbrev pub anyVendor : List ℕ
+anyVendor = 0xFF ∷ 0xFF ∷ []
+
+abbrev pub anyOr : List ℕ → List ℕ → List ℕ → Bool
+anyOr any own v = same v any || same v own
+
+-- "If 4 or 6 is given, it is equal", or the wild card
 unfoldable pub kindMatches : Option (List ℕ) → Bool
 kindMatches none = true
-kindMatches (some v) = same v (deviceType ∷ [])
+kindMatches (some v) = anyOr anyType (deviceType ∷ []) v
 
 unfoldable pub vendorMatches : List ℕ → Option (List ℕ) → Bool
 vendorMatches i none = true
-vendorMatches i (some v) = same v (take vendor i)
+vendorMatches i (some v) = anyOr anyVendor (take vendor i) v
 
 -- ---- why it is not answered: what the first row that holds says, by the law of refusal/specs/Answer
 
@@ -123,11 +135,11 @@ badAddress w = isAssignment w && not (addressed (addressOf w))
 unfoldable pub otherIdentity : List ℕ → Values → Bool
 otherIdentity i w = isAssignment w && not (identityMatches i (w .identity))
 
--- "If 4 .. is given, it is equal."
+-- "If 4 .. is given, it is equal", or the wild card
 unfoldable pub otherType : Values → Bool
 otherType w = isAssignment w && not (kindMatches (w .kind))
 
--- "If .. 6 is given, it is equal."
+-- "If .. 6 is given, it is equal", or the wild card
 unfoldable pub otherVendor : List ℕ → Values → Bool
 otherVendor i w = isAssignment w && not (vendorMatches i (w .vendor))
 

@@ -6,11 +6,13 @@
 --                             z are the identity, type and vendor, where they are given
 --   IfGiven x P            == P holds of the value x, if it is given
 --   EndOf i v              == v "isn't longer than the unpadded identity and equals its right-most octets"
+--   AnyOr any own v        == v is the wild card, or the device's own
 --   Meant i a x y z        == such an assignment is for a device with the identity i
 --   Answers i m            == the payload m is a scan that the identity i answers
 --   Takes i m a            == the payload m is an assignment of the address a, meant for the identity i
 -- Assumes nothing.
 use mathlib.Core.Path.{_≡_}
+use mathlib.Core.Logic.{_⊎_}
 use mathlib.Core.List.{List, [], _∷_}
 use mathlib.Core.Option.{Option, none, some}
 use Prim.Native.Nat.{ℕ, _≤_}
@@ -19,7 +21,7 @@ use Rattle.identity.specs.Bits.{masked}
 use Rattle.identity.specs.Identity.{vendor, padded}
 use Rattle.params.specs.Field.{Param, WellFormed}
 use Rattle.xid.specs.Addressing.{addressing, valuesOf}
-use Rattle.xid.specs.Match.{deviceType, rightmost}
+use Rattle.xid.specs.Match.{deviceType, rightmost, anyType, anyVendor}
 
 -- "Identifiers 1 (identity, 1 to 19), 2 (address, 1), 3 (mask, 1 to 19), 4 (type, 1), 6 (vendor, 2)"
 pub data Allows (n k : ℕ) : Type 0 where
@@ -48,12 +50,16 @@ IfGiven (some v) P = P v
 abbrev pub EndOf : List ℕ → List ℕ → Type 0
 EndOf i v = (length v ≤ length i) × (v ≡ rightmost (length v) i)
 
+-- 02 (ii): "those two values match every device in an assignment"
+abbrev pub AnyOr : List ℕ → List ℕ → List ℕ → Type 0
+AnyOr any own v = (v ≡ any) ⊎ (v ≡ own)
+
 pub record Meant (i : List ℕ) (a : ℕ) (x y z : Option (List ℕ)) : Type 0 where
   pub least : 1 ≤ a
   pub most : a ≤ 254
   pub own : IfGiven x (EndOf i)
-  pub kind : IfGiven y (λ (v : List ℕ). v ≡ deviceType ∷ [])
-  pub maker : IfGiven z (λ (v : List ℕ). v ≡ take vendor i)
+  pub kind : IfGiven y (AnyOr anyType (deviceType ∷ []))
+  pub maker : IfGiven z (AnyOr anyVendor (take vendor i))
 
 -- "The identity is padded with 0x20 to 19, its left-most octets are masked and must equal the value of 1, which isn't
 -- masked."

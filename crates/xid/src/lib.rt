@@ -11,7 +11,7 @@ ghost use Rattle.params.specs.Field.{octetsIn};
 ghost use Rattle.params.specs.Walk.{valueAt};
 ghost use Rattle.xid.specs.Addressing.{addressing, partsBy, valuesAt};
 ghost use Rattle.xid.specs.Match.{isGiven, scanShape, assignmentShape, isScan, isAssignment, scanMatches};
-ghost use Rattle.xid.specs.Match.{endsWith, identityMatches, kindMatches, vendorMatches, meantTo, readOf};
+ghost use Rattle.xid.specs.Match.{endsWith, identityMatches, anyOr, kindMatches, vendorMatches, meantTo, readOf};
 use identity::BLANK;
 use identity::OCTETS;
 use identity::VENDOR;
@@ -23,6 +23,11 @@ use record::Plate;
 
 // The device's type: a single-antenna tilt device.
 pub const KIND: u8 = 0x01;
+
+// The wild cards of an assignment: they match every device.
+const ANY_KIND: [u8; 1] = [0xFF];
+
+const ANY_VENDOR: [u8; VENDOR] = [0xFF, 0xFF];
 
 // The octet of the group of scans and assignments, and its identifiers.
 pub const GROUP_OCTET: u8 = 0xF0;
@@ -250,15 +255,26 @@ fn identity_matches(octets: [u8; OCTETS], len: usize, payload: &[u8], part: Part
     }
 }
 
+// Whether a value is the wild card, or the device's own.
+fn any_or(any: &[u8], own: &[u8], asked: &[u8]) -> bool
+    ensures { λ r. ⌜ r ≡ anyOr (now (any .entry)) (now (own .entry)) (now (asked .entry)) ⌝ }
+{
+    if compare::same(asked, any) {
+        return true;
+    }
+    compare::same(asked, own)
+}
+
 fn kind_matches(payload: &[u8], part: Part) -> bool
     ensures { λ r. ⌜ r ≡ kindMatches (valueAt (now (payload .entry)) part) ⌝ }
 {
     match part {
         Part::Absent => true,
         Part::At { from, len } => {
+            let any = ANY_KIND;
             let own = [KIND];
             let asked = params::value_at(payload, from, len);
-            compare::same(asked, &own)
+            any_or(&any, &own, asked)
         }
     }
 }
@@ -269,9 +285,10 @@ fn vendor_matches(octets: [u8; OCTETS], len: usize, payload: &[u8], part: Part) 
     match part {
         Part::Absent => true,
         Part::At { from, len: count } => {
+            let any = ANY_VENDOR;
             let n = octets::fewer(len, VENDOR);
             let asked = params::value_at(payload, from, count);
-            compare::same(asked, &octets[..n])
+            any_or(&any, &octets[..n], asked)
         }
     }
 }

@@ -107,7 +107,7 @@ impl Generator<'_> {
     }
 
     fn throw_policy(&mut self) -> Policy {
-        match self.dice.weighed(&[2, 3, 5, 2, 2, 8, 10]) {
+        match self.dice.weighed(&[2, 3, 5, 2, 3, 8, 12]) {
             0 => Policy::Silent,
             1 => Policy::Heard,
             2 => Policy::Coin(self.dice.pick(&[300, 400, 500, 650, 950])),
@@ -124,12 +124,12 @@ impl Generator<'_> {
 
     /// Identities some of which answer no probe past a number of bits.
     fn fading(&mut self) -> Vec<([u8; PADDED], usize)> {
-        let count = 1 + self.dice.below(5);
+        let count = 1 + self.dice.below(6);
         // The neighbours part in the first bits of their last octet.
         let mut fading =
             if self.dice.chance(800) { self.neighbours(count, 40) } else { self.someones(count) };
         for (_, most) in &mut fading {
-            match self.dice.below(5) {
+            match self.dice.below(6) {
                 0 => *most = self.dice.below(BITS),
                 1 | 2 => *most = BITS - 1 - self.dice.below(4),
                 _ => (),

@@ -25,16 +25,42 @@ impl Numbers {
 }
 
 impl Generator<'_> {
-    /// Some steps with one device.
+    /// Some steps with one device; now and then with several.
     pub(super) fn talk(&mut self) -> io::Result<()> {
         let devices = self.bench.devices.len();
         if devices == 0 {
             return if self.plan.devices == 0 { self.codec() } else { self.another_device() };
         }
+        if devices > 1 && self.dice.chance(30) {
+            return self.talk_with_several();
+        }
         // The first devices are talked to more often, so that they get deep.
         let device = self.dice.below(devices).min(self.dice.below(devices));
         for _ in 0..self.dice.between(3, 40) {
             self.step(device)?;
+        }
+        Ok(())
+    }
+
+    /// The same assignment, by wild card, for some devices, which share an
+    /// address then; steps with each of them, and frames that all of them get.
+    fn talk_with_several(&mut self) -> io::Result<()> {
+        let mut devices: Vec<usize> = (0..self.bench.devices.len()).collect();
+        self.dice.shuffle(&mut devices);
+        devices.truncate(self.dice.between(2, 6) as usize);
+        let payload = self.shared_assignment(devices[0]);
+        for &device in &devices {
+            self.give(device, EVERYONE, XID, &payload)?;
+        }
+        for _ in 0..self.dice.between(3, 40) {
+            let device = self.dice.pick(&devices);
+            self.step(device)?;
+            if self.dice.chance(250) {
+                let frame = self.last_frames[device].clone();
+                for &other in devices.iter().filter(|&&other| other != device) {
+                    self.give(other, frame[0], frame[1], &frame[2..])?;
+                }
+            }
         }
         Ok(())
     }

@@ -1,12 +1,33 @@
-//! XID payloads: scans that match and don't, assignments right and wrong.
+//! XID payloads: scans that match and don't, assignments right and wrong, wild
+//! cards where they count and where they don't.
 
 use super::Generator;
 use crate::identity::PADDED;
 use crate::record::DEVICE_TYPE;
-use crate::xid::{written, ADDRESS, IDENTITY, MASK, TYPE, VENDOR_CODE};
+use crate::xid::{written, ADDRESS, ANY_TYPE, ANY_VENDOR, IDENTITY, MASK, TYPE, VENDOR_CODE};
 
 /// Identifier and value.
 type Triple = (u8, Vec<u8>);
+
+/// How a payload names a device's type, or its vendor, rightly.
+#[derive(Clone, Copy)]
+enum Name {
+    Absent,
+    Own,
+    Wild,
+}
+
+use Name::{Absent, Own, Wild};
+
+impl Name {
+    fn triple(self, identifier: u8, own: &[u8], wild: &[u8]) -> Option<Triple> {
+        match self {
+            Absent => None,
+            Own => Some((identifier, own.to_vec())),
+            Wild => Some((identifier, wild.to_vec())),
+        }
+    }
+}
 
 impl Generator<'_> {
     /// A scan for a device: it matches more often than not.
@@ -17,7 +38,7 @@ impl Generator<'_> {
             1 => self.bench.devices[device].make.identity.unpadded().len(),
             _ => self.dice.between(1, PADDED as i64) as usize,
         };
-        let mask = self.mask(length);
+        let mut mask = self.mask(length);
         let mut value: Vec<u8> = padded.iter().zip(&mask).map(|(own, mask)| own & mask).collect();
         let place = self.dice.below(length);
         let bit = 1 << self.dice.below(8);
@@ -25,9 +46,21 @@ impl Generator<'_> {
             // A bit of the value turned, inside the mask or outside it.
             0 | 1 => value[place] ^= bit,
             2 => value[place] |= !mask[place],
+            // Octets FF, which are no wild card here.
+            3 => {
+                value.fill(0xFF);
+                if self.dice.chance(500) {
+                    mask.fill(0xFF);
+                }
+            }
             _ => (),
         }
         let mut triples = vec![(IDENTITY, value), (MASK, mask)];
+        if self.dice.chance(100) {
+            // No scan any more.
+            let (kind, vendor) = self.dice.pick(&[(Wild, Absent), (Absent, Wild), (Wild, Wild)]);
+            triples.extend(self.type_and_vendor(device, kind, vendor));
+        }
         self.spoil_triples(&mut triples, 120);
         self.payload_of(triples)
     }
@@ -50,26 +83,60 @@ impl Generator<'_> {
     /// An assignment for a device; wrong so many times of a thousand.
     pub(super) fn assignment(&mut self, device: usize, wrong: usize) -> Vec<u8> {
         let identity = self.bench.devices[device].make.identity.clone();
+        let names = [Absent, Absent, Absent, Absent, Own, Own, Own, Wild, Wild, Wild];
+        let (kind, vendor) = (self.dice.pick(&names), self.dice.pick(&names));
+        let mut triples = self.right_triples(device, kind, vendor, 700);
+        if self.dice.chance(wrong) {
+            self.wrong_value(&mut triples, identity.unpadded());
+        }
+        self.spoil_triples(&mut triples, wrong / 2);
+        self.payload_of(triples)
+    }
+
+    /// An assignment that several devices may take: by a wild card or both,
+    /// seldom with a part of one device's identity or with its vendor.
+    pub(super) fn shared_assignment(&mut self, device: usize) -> Vec<u8> {
+        let (kind, vendor) = self.dice.pick(&[
+            (Wild, Absent),
+            (Absent, Wild),
+            (Wild, Wild),
+            (Wild, Wild),
+            (Own, Wild),
+            (Wild, Own),
+        ]);
+        let mut triples = self.right_triples(device, kind, vendor, 150);
+        self.dice.shuffle(&mut triples);
+        self.payload_of(triples)
+    }
+
+    /// What an assignment must hold for a device to take it; so many times of
+    /// a thousand with a part of its identity.
+    fn right_triples(
+        &mut self,
+        device: usize,
+        kind: Name,
+        vendor: Name,
+        identified: usize,
+    ) -> Vec<Triple> {
         let address = match self.dice.below(8) {
             0 => self.dice.pick(&[1, 254]),
             1..=4 => self.dice.between(1, 12) as u8,
             _ => self.dice.between(1, 254) as u8,
         };
         let mut triples = vec![(ADDRESS, vec![address])];
-        if self.dice.chance(800) {
+        if self.dice.chance(identified) {
+            let identity = self.bench.devices[device].make.identity.clone();
             triples.push((IDENTITY, self.right_part(identity.unpadded())));
         }
-        if self.dice.chance(350) {
-            triples.push((TYPE, vec![DEVICE_TYPE]));
-        }
-        if self.dice.chance(350) {
-            triples.push((VENDOR_CODE, identity.vendor().to_vec()));
-        }
-        if self.dice.chance(wrong) {
-            self.wrong_value(&mut triples, identity.unpadded());
-        }
-        self.spoil_triples(&mut triples, wrong / 2);
-        self.payload_of(triples)
+        triples.extend(self.type_and_vendor(device, kind, vendor));
+        triples
+    }
+
+    fn type_and_vendor(&self, device: usize, kind: Name, vendor: Name) -> Vec<Triple> {
+        let own = self.bench.devices[device].make.identity.vendor();
+        let kind = kind.triple(TYPE, &[DEVICE_TYPE], &[ANY_TYPE]);
+        let vendor = vendor.triple(VENDOR_CODE, own, &ANY_VENDOR);
+        kind.into_iter().chain(vendor).collect()
     }
 
     fn right_part(&mut self, identity: &[u8]) -> Vec<u8> {
@@ -87,24 +154,35 @@ impl Generator<'_> {
             triples.retain(|(other, _)| *other != identifier);
             triples.push((identifier, value));
         };
-        match self.dice.below(12) {
+        match self.dice.below(17) {
             0 => set(ADDRESS, vec![0]),
             1 => set(ADDRESS, vec![255]),
-            2 => set(TYPE, vec![self.dice.pick(&[0x00, 0x02, 0x11, 0xFF])]),
-            3 => set(VENDOR_CODE, vec![identity[1], identity[0]]),
-            4 => set(VENDOR_CODE, vec![identity[0], identity[1] ^ 1]),
-            // From the left, padded, longer, one octet turned.
-            5 => set(IDENTITY, identity[..identity.len() - 1].to_vec()),
-            6 => set(IDENTITY, identity[..2].to_vec()),
-            7 => set(IDENTITY, [identity, b" "].concat()),
-            8 => set(IDENTITY, [b" ", identity].concat()),
-            9 => {
+            2 => set(TYPE, vec![self.dice.pick(&[0x02, 0x11, 0x7F])]),
+            3 => set(TYPE, vec![self.dice.pick(&[0x00, 0xFE])]),
+            4 => set(VENDOR_CODE, vec![identity[1], identity[0]]),
+            5 => set(VENDOR_CODE, vec![identity[0], identity[1] ^ 1]),
+            // Half a wild card, beside the device's own octet or another.
+            6 => set(VENDOR_CODE, vec![0xFF, self.dice.pick(&[identity[1], 0xFE, 0x00])]),
+            7 => set(VENDOR_CODE, vec![self.dice.pick(&[identity[0], 0xFE, 0x00]), 0xFF]),
+            // From the left, padded, longer, one octet turned, all FF.
+            8 => set(IDENTITY, identity[..identity.len() - 1].to_vec()),
+            9 => set(IDENTITY, identity[..2].to_vec()),
+            10 => set(IDENTITY, [identity, b" "].concat()),
+            11 => set(IDENTITY, [b" ", identity].concat()),
+            12 => {
                 let mut turned = identity.to_vec();
                 let place = self.dice.below(turned.len());
                 turned[place] ^= 1 << self.dice.below(7);
                 set(IDENTITY, turned);
             }
-            10 => set(MASK, vec![0xFF; identity.len()]),
+            13 => set(IDENTITY, vec![0xFF; 1 + self.dice.below(identity.len())]),
+            14 => set(MASK, vec![0xFF; identity.len()]),
+            // A wild card too long or too short.
+            15 => {
+                let wrong = [(TYPE, 2), (TYPE, 2), (VENDOR_CODE, 1), (VENDOR_CODE, 3)];
+                let (identifier, length) = self.dice.pick(&wrong);
+                set(identifier, vec![0xFF; length]);
+            }
             _ => triples.retain(|(identifier, _)| *identifier != ADDRESS),
         }
     }
@@ -123,11 +201,14 @@ impl Generator<'_> {
             1 => triples.push((self.dice.pick(&[0, 5, 7, 8, 0x81, 0xFF]), vec![1])),
             2 => triples[place].0 = self.dice.pick(&[0, 5, 7, 1, 2, 3, 4, 6]),
             3 => triples[place].1.clear(),
-            4 => triples[place].1.push(0x20),
+            4 => {
+                let last = triples[place].1.last().copied().unwrap_or(0x20);
+                triples[place].1.push(self.dice.pick(&[0x20, last]));
+            }
             5 => {
                 triples[place].1.pop();
             }
-            6 => triples.push((TYPE, vec![DEVICE_TYPE])),
+            6 => triples.push((TYPE, vec![self.dice.pick(&[DEVICE_TYPE, ANY_TYPE])])),
             _ => triples[place].1.resize(20, 0),
         }
     }

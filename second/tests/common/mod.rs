@@ -19,7 +19,12 @@ impl Table {
     /// The answer's octets to a frame for device 1, or the word before the
     /// buffer; the rest of the buffer must be untouched.
     pub fn give(&mut self, frame: &str) -> String {
-        let answer = self.ask(&format!("frame 1 {frame} 80"));
+        self.give_to(1, frame)
+    }
+
+    /// The same for device K.
+    pub fn give_to(&mut self, k: usize, frame: &str) -> String {
+        let answer = self.ask(&format!("frame {k} {frame} 80"));
         let words: Vec<&str> = answer.split(' ').collect();
         match words[..] {
             ["answer", length, buffer] => {

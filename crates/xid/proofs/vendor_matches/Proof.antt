@@ -18,25 +18,28 @@ fewer-requires c κs = tt
 value-at-requires : tie.Need-value-at-requires
 value-at-requires c κs = tt
 
+slice-aggregate-any-or : tie.Need-slice-aggregate-any-or
+slice-aggregate-any-or c = search needs
+
 array-share-prefix-octets : tie.Need-array-share-prefix-octets
 array-share-prefix-octets c = search needs
 
-slice-aggregate-same : tie.Need-slice-aggregate-same
-slice-aggregate-same c = simp length-take (omega arith)
+slice-aggregate-any-or-2 : tie.Need-slice-aggregate-any-or-2
+slice-aggregate-any-or-2 c = simp length-take (omega arith)
 
-same-requires : tie.Need-same-requires
-same-requires c κs = tt
+any-or-requires : tie.Need-any-or-requires
+any-or-requires c κs = tt
 
 returns : tie.Need-returns
 returns c = vendor-absent _ _ (c .enum-told .given .1)
 
 returns-2 : tie.Need-returns-2
 returns-2 c =
-    let value = c .before .before in
+    let value = c .before .before .before in
     let part = value .before .before .before in
     let a = part .before .before .before .args in
     vendor-given (a .payload .now) (part .part .given .1) (value .value-at .ensures) (a .t1) (a .len) (search needs)
-    (value .before .fewer .ensures) (c .same .ensures)
+    (value .before .fewer .ensures) (c .any-or .ensures)
 
 pub vendor-matches-spec : {M : Type 1} → statement M
 vendor-matches-spec =
@@ -46,8 +49,9 @@ vendor-matches-spec =
     enum-known-part
     fewer-requires
     value-at-requires
+    slice-aggregate-any-or
     array-share-prefix-octets
-    slice-aggregate-same
-    same-requires
+    slice-aggregate-any-or-2
+    any-or-requires
     returns
     returns-2)

@@ -1,0 +1,168 @@
+-- Wild cards. In an assignment type 0xFF and vendor 0xFF 0xFF match every device, as if they were not given; any other
+-- value, one octet FF of two among them, is compared as before; a scan has no such rule. For octets of any content.
+-- Assumes nothing.
+use mathlib.Core.Path.{_≡_, refl, sym, ap, _∙_}
+use mathlib.Core.Bool.{Bool, true, false, cond, _&&_, and-false}
+use mathlib.Core.Logic.{_↔_, _⊎_, inl, inr, ⊎-elim}
+use mathlib.Core.List.{List, [], _∷_}
+use mathlib.Core.Option.{Option, none, some}
+use Prim.Native.Nat.{ℕ, _<_, _≤_}
+use native.Mathlib.Omega.{arith}
+use lib.ListN.{length, length-append, getD, take}
+use lib.Seq.{getD-take}
+use Rattle.octets.specs.Octets.{holds}
+use Rattle.octets.proofs.Words.{true-not-false}
+use Rattle.identity.specs.Identity.{vendor, same, allowedIdentity}
+use Rattle.identity.proofs.Exactly.{identity-exactly}
+use Rattle.record.specs.Allowed.{addressed}
+use Rattle.params.specs.Field.{Param, _is_, tripleOf, fieldOf, xidPayload, rightLength, identifiers, noneTwice}
+use Rattle.params.specs.Field.{WellFormed, valueFor, given}
+use Rattle.params.proofs.Exact.{once-different}
+use Rattle.xid.specs.Addressing.{addressId, kindId, vendorId, addressing, Values, valuesOf}
+use Rattle.xid.specs.Match.{deviceType, identityMatches, anyType, anyVendor, kindMatches, vendorMatches, isScan}
+use Rattle.xid.specs.Match.{assignmentShape, endsWith, readOf}
+use Rattle.xid.specs.Meaning.{AssignmentOf, AnyOr}
+use Rattle.xid.proofs.Rows.{neither-meant}
+use Rattle.xid.proofs.Told.{scan-values, read-is}
+use Rattle.xid.proofs.Exactly.{kind-exactly, maker-exactly, assignment-read, assignment-exactly}
+use Rattle.xid.specs.declared.Xid.the-variants.{Silence, Assignment}
+
+-- ---- what is not given, and what is wild
+
+-- an assignment that names an identity alone
+pub identity-alone : (i m v : List ℕ) (a : ℕ) → AssignmentOf m a (some v) none none
+    → readOf i m ≡ cond (addressed a && endsWith i v) (Assignment a) Silence
+unfolding identityMatches kindMatches vendorMatches
+identity-alone i m v a s = assignment-read i m a (some v) none none s ∙ go (addressed a) (endsWith i v)
+  where
+    go : (p q : Bool) → cond (p && (q && true)) (Assignment a) Silence ≡ cond (p && q) (Assignment a) Silence
+    go true true = refl
+    go true false = refl
+    go false q = refl
+
+-- "type 0xFF and vendor 0xFF 0xFF match every device", as if no type, or no vendor, were given
+module _ (i m n : List ℕ) (a : ℕ) (x : Option (List ℕ)) where
+  pub wild-type : (z : Option (List ℕ)) → AssignmentOf m a x (some (0xFF ∷ [])) z → AssignmentOf n a x none z
+      → readOf i m ≡ readOf i n
+  unfolding kindMatches same
+  wild-type z s t = assignment-read i m a x (some (0xFF ∷ [])) z s ∙ sym (assignment-read i n a x none z t)
+
+  pub wild-vendor : (y : Option (List ℕ)) → AssignmentOf m a x y (some (0xFF ∷ 0xFF ∷ [])) → AssignmentOf n a x y none
+      → readOf i m ≡ readOf i n
+  unfolding vendorMatches same
+  wild-vendor y s t = assignment-read i m a x y (some (0xFF ∷ 0xFF ∷ [])) s ∙ sym (assignment-read i n a x y none t)
+
+-- with both, and no identity, an assignment is taken by every device, "if the address value is 1 to 254"
+pub wild-exactly : (i m : List ℕ) (a : ℕ) → AssignmentOf m a none (some (0xFF ∷ [])) (some (0xFF ∷ 0xFF ∷ []))
+    → readOf i m ≡ Assignment a ↔ (1 ≤ a) × (a ≤ 254)
+wild-exactly i m a s = (
+  λ e.
+      let (x, y, z, t, w) = assignment-exactly i m a .0 e in
+      (w .least, w .most),
+  λ (least, most).
+      assignment-exactly i m a .1 (
+        none,
+        some (0xFF ∷ []),
+        some (0xFF ∷ 0xFF ∷ []),
+        s,
+        record {
+          least = least;
+          most = most;
+          own = tt;
+          kind = inl refl;
+          maker = inl refl;
+        },
+      ),
+)
+
+-- 2, 4 and 6, in this order, are such an assignment
+pub wild-formed : (a : ℕ)
+    → AssignmentOf (0x81 ∷ 0xF0 ∷ 10 ∷ 2 ∷ 1 ∷ a ∷ 4 ∷ 1 ∷ 0xFF ∷ 6 ∷ 2 ∷ 0xFF ∷ 0xFF ∷ []) a none (some (0xFF ∷ []))
+    (some (0xFF ∷ 0xFF ∷ []))
+unfolding xidPayload fieldOf tripleOf rightLength identifiers noneTwice holds valuesOf valueFor
+wild-formed a =
+    record {
+      params = addressId is (a ∷ []) ∷ kindId is anyType ∷ vendorId is anyVendor ∷ [];
+      formed = record {
+        octets = refl;
+        right = (refl, (refl, (refl, tt)));
+        once = once-different (2 ∷ 4 ∷ 6 ∷ []) refl;
+      };
+      values = refl;
+    }
+
+-- ---- any other value
+
+plain : (any own v : List ℕ) → (v ≡ any → ⊥) → AnyOr any own v ↔ v ≡ own
+plain any own v n = (λ w. ⊎-elim (λ (e : v ≡ any). absurd (n e)) (λ (e : v ≡ own). e) w, λ e. inr e)
+
+through : {P Q R : Type 0} → (P ↔ Q) → (Q ↔ R) → P ↔ R
+through (a, b) (c, d) = (λ p. c (a p), λ r. b (d r))
+
+pub plain-type : (v : List ℕ) → (v ≡ 0xFF ∷ [] → ⊥) → kindMatches (some v) ≡ true ↔ v ≡ 0x01 ∷ []
+plain-type v n = through (kind-exactly (some v)) (plain anyType (deviceType ∷ []) v n)
+
+module _ (i v : List ℕ) (n : v ≡ 0xFF ∷ 0xFF ∷ [] → ⊥) where
+  pub plain-vendor : vendorMatches i (some v) ≡ true ↔ v ≡ take 2 i
+  plain-vendor = through (maker-exactly i (some v)) (plain anyVendor (take vendor i) v n)
+
+-- "one octet FF of two is no wild card": no device with an identity of 01 is meant
+module _ (i m v : List ℕ) (a : ℕ) (x y : Option (List ℕ)) (s : AssignmentOf m a x y (some v)) where
+  other-silent : vendorMatches i (some v) ≡ false → readOf i m ≡ Silence
+  other-silent e = assignment-read i m a x y (some v) s ∙ rw e (go (addressed a) (identityMatches i x) (kindMatches y))
+    where
+      go : (p q r : Bool) → cond (p && (q && (r && false))) (Assignment a) Silence ≡ Silence
+      go true true true = refl
+      go true true false = refl
+      go true false r = refl
+      go false q r = refl
+
+  plain-silent : (v ≡ 0xFF ∷ 0xFF ∷ [] → ⊥) → (v ≡ take 2 i → ⊥) → readOf i m ≡ Silence
+  plain-silent wild own = go (vendorMatches i (some v)) refl
+    where
+      go : (t : Bool) → vendorMatches i (some v) ≡ t → readOf i m ≡ Silence
+      go true e = absurd (own (plain-vendor i v wild .0 e))
+      go false e = other-silent e
+
+  -- an identity has no octet FF
+  module _ (allowed : allowedIdentity i ≡ true) where
+    unheld : (j : ℕ) → j < 2 → getD v j 0 ≡ 0xFF → v ≡ take 2 i → ⊥
+    unheld j h f e =
+        let w = identity-exactly i .0 allowed in
+        let two = w .maker-two in
+        let long = w .serial-least in
+        let whole = ap length (w .parts) ∙ length-append (w .maker) (w .serial) in
+        let (low, high) = w .all j (omega arith) in
+        let held : 0xFF ≡ getD i j 0 = sym f ∙ ap (λ (u : List ℕ). getD u j 0) e ∙ getD-take 2 i j 0 h in
+        omega arith
+
+    pub half-wild : (b : ℕ) → (b ≡ 0xFF → ⊥) → (v ≡ 0xFF ∷ b ∷ []) ⊎ (v ≡ b ∷ 0xFF ∷ []) → readOf i m ≡ Silence
+    half-wild b n (inl e) =
+        plain-silent (λ w. n (ap (λ (u : List ℕ). getD u 1 0) (sym e ∙ w)))
+        (unheld 0 (omega arith) (ap (λ (u : List ℕ). getD u 0 0) e))
+    half-wild b n (inr e) =
+        plain-silent (λ w. n (ap (λ (u : List ℕ). getD u 0 0) (sym e ∙ w)))
+        (unheld 1 (omega arith) (ap (λ (u : List ℕ). getD u 1 0) e))
+
+-- ---- a scan
+
+-- "a scan has no such rule": with a type or a vendor beside its mask, whatever they say, a payload is neither of the two
+module _ (i m : List ℕ) (ps : List Param) (f : WellFormed addressing m ps) where
+  pub masked-silent : (k v : List ℕ) → valuesOf ps .mask ≡ some k
+      → (valuesOf ps .kind ≡ some v) ⊎ (valuesOf ps .vendor ≡ some v) → readOf i m ≡ Silence
+  unfolding assignmentShape given
+  masked-silent k v mask named =
+      read-is i m ps f
+      ∙ neither-meant i (valuesOf ps) (no-scan (isScan (valuesOf ps)) refl)
+      (rw mask (and-false (given (valuesOf ps .address))))
+    where
+      not-none : {o : Option (List ℕ)} → o ≡ some v → o ≡ none → ⊥
+      not-none e n = true-not-false (ap given (sym e ∙ n))
+
+      no-scan : (t : Bool) → isScan (valuesOf ps) ≡ t → isScan (valuesOf ps) ≡ false
+      no-scan false e = e
+      no-scan true e =
+          let values = scan-values (valuesOf ps) e .0 in
+          absurd
+          (⊎-elim (λ (g : valuesOf ps .kind ≡ some v). not-none g (ap (λ (w : Values). w .kind) values))
+          (λ (g : valuesOf ps .vendor ≡ some v). not-none g (ap (λ (w : Values). w .vendor) values)) named)
