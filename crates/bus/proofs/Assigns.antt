@@ -2,20 +2,16 @@
 -- the frame is the right end of its own; else it stays as it was. Assumes nothing.
 use mathlib.Core.Path.{_≡_, refl, ap, _∙_}
 use mathlib.Core.Bool.{Bool, true, false, cond}
-use mathlib.Core.Logic.{_↔_}
 use mathlib.Core.List.{List, [], _∷_, _++_}
 use mathlib.Core.Option.{none, some}
 use Prim.Native.Nat.{ℕ, _+_, _≤_}
 use native.Mathlib.Omega.{arith}
-use borrow.Author.Tests.{leb-true, le-leb, lt-ltb}
-use lib.Dec.{leb}
+use borrow.Author.Tests.{le-leb, lt-ltb}
 use lib.ListN.{length, length-append}
 use Rattle.octets.specs.Octets.{Octets, holds}
 use Rattle.octets.proofs.Bounds.{octets-append}
-use Rattle.identity.specs.Identity.{width, allowedIdentity, same}
-use Rattle.octets.proofs.Words.{and-parts}
+use Rattle.identity.specs.Identity.{width, allowedIdentity}
 use Rattle.identity.proofs.Identities.{allowed-parts, printable-octets}
-use Rattle.identity.proofs.Scans.{same-is, is-same}
 use Rattle.xid.specs.Match.{endsWith}
 use Rattle.record.specs.declared.Device.{Device}
 use Rattle.record.specs.declared.Link.the-variants.{AddressAssigned}
@@ -26,9 +22,9 @@ use Rattle.params.proofs.Exact.{once-different}
 use Rattle.params.proofs.Kept.{of-both}
 use Rattle.xid.specs.Addressing.{identityId, addressId, addressing, valuesOf}
 use Rattle.xid.specs.Match.{readOf}
-use Rattle.xid.specs.Meaning.{AssignmentOf, EndOf}
+use Rattle.xid.specs.Meaning.{AssignmentOf}
 use Rattle.xid.specs.declared.Xid.{Xid}
-use Rattle.xid.proofs.Wild.{identity-alone}
+use Rattle.xid.proofs.Exactly.{identity-alone}
 use Rattle.station.specs.declared.Say.{Say}
 use Rattle.station.specs.declared.Turn.{Turn}
 use Rattle.station.specs.Turns.{saying, mute}

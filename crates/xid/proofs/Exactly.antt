@@ -2,14 +2,14 @@
 -- exactly if its address value is 1 to 254 and all that it names fits; no payload is both; each mismatch, which is of
 -- one of the two. For octets of any content and identities of any octets. Assumes nothing.
 use mathlib.Core.Path.{_≡_, refl, sym, ap, _∙_}
-use mathlib.Core.Bool.{Bool, true, false, cond, not, _&&_, _||_, or-true}
+use mathlib.Core.Bool.{Bool, true, false, cond, not, _&&_, or-true}
 use mathlib.Core.Logic.{_↔_, _⊎_, inl, inr, ⊎-elim}
 use mathlib.Core.List.{List, [], _∷_}
 use mathlib.Core.Option.{Option, none, some}
 use Prim.Native.Nat.{ℕ, _≤_}
 use native.Mathlib.Omega.{arith}
-use borrow.Author.Tests.{eq-eqb, leb-true, le-leb, ltb-true, lt-ltb, not-true}
-use lib.Dec.{leb, ltb}
+use borrow.Author.Tests.{eq-eqb, ltb-true, lt-ltb, not-true}
+use lib.Dec.{ltb}
 use lib.ListN.{length, take}
 use Rattle.octets.proofs.Words.{true-not-false, or-parts}
 use Rattle.identity.specs.Bits.{masked}
@@ -22,7 +22,7 @@ use Rattle.params.proofs.Kept.{both-of, of-both}
 use Rattle.xid.specs.Addressing.{addressing, Values, valuesOf}
 use Rattle.xid.specs.Match.{deviceType, isScan, scanShape, isAssignment, assignmentShape, scanMatches, addressOf}
 use Rattle.xid.specs.Match.{identityMatches, kindMatches, vendorMatches, badAddress, otherIdentity, otherType}
-use Rattle.xid.specs.Match.{anyType, anyVendor, anyOr, otherVendor, otherScan, readOf}
+use Rattle.xid.specs.Match.{endsWith, anyType, anyVendor, anyOr, otherVendor, otherScan, readOf}
 use Rattle.xid.specs.Meaning.{ScanOf, AssignmentOf, IfGiven, EndOf, AnyOr, Meant, Answers, Takes}
 use Rattle.xid.proofs.Ends.{ends-exactly}
 use Rattle.xid.proofs.Rows.{scan-meant, assignment-meant}
@@ -122,6 +122,17 @@ assignment-read i m a x y z s =
     read-is i m (s .params) (s .formed)
     ∙ assignment-meant i (valuesOf (s .params)) (rw (s .values))
     ∙ rw (s .values)
+
+-- an assignment that names an identity alone
+pub identity-alone : (i m v : List ℕ) (a : ℕ) → AssignmentOf m a (some v) none none
+    → readOf i m ≡ cond (addressed a && endsWith i v) (Assignment a) Silence
+unfolding identityMatches kindMatches vendorMatches
+identity-alone i m v a s = assignment-read i m a (some v) none none s ∙ go (addressed a) (endsWith i v)
+  where
+    go : (p q : Bool) → cond (p && (q && true)) (Assignment a) Silence ≡ cond (p && q) (Assignment a) Silence
+    go true true = refl
+    go true false = refl
+    go false q = refl
 
 pub assignment-exactly : (i m : List ℕ) (a : ℕ) → readOf i m ≡ Assignment a ↔ Takes i m a
 unfolding assignmentShape valuesOf

@@ -20,25 +20,14 @@ use Rattle.params.specs.Field.{WellFormed, valueFor, given}
 use Rattle.params.proofs.Exact.{once-different}
 use Rattle.xid.specs.Addressing.{addressId, kindId, vendorId, addressing, Values, valuesOf}
 use Rattle.xid.specs.Match.{deviceType, identityMatches, anyType, anyVendor, kindMatches, vendorMatches, isScan}
-use Rattle.xid.specs.Match.{assignmentShape, endsWith, readOf}
+use Rattle.xid.specs.Match.{assignmentShape, readOf}
 use Rattle.xid.specs.Meaning.{AssignmentOf, AnyOr}
 use Rattle.xid.proofs.Rows.{neither-meant}
 use Rattle.xid.proofs.Told.{scan-values, read-is}
 use Rattle.xid.proofs.Exactly.{kind-exactly, maker-exactly, assignment-read, assignment-exactly}
 use Rattle.xid.specs.declared.Xid.the-variants.{Silence, Assignment}
 
--- ---- what is not given, and what is wild
-
--- an assignment that names an identity alone
-pub identity-alone : (i m v : List ℕ) (a : ℕ) → AssignmentOf m a (some v) none none
-    → readOf i m ≡ cond (addressed a && endsWith i v) (Assignment a) Silence
-unfolding identityMatches kindMatches vendorMatches
-identity-alone i m v a s = assignment-read i m a (some v) none none s ∙ go (addressed a) (endsWith i v)
-  where
-    go : (p q : Bool) → cond (p && (q && true)) (Assignment a) Silence ≡ cond (p && q) (Assignment a) Silence
-    go true true = refl
-    go true false = refl
-    go false q = refl
+-- ---- the wild cards
 
 -- "type 0xFF and vendor 0xFF 0xFF match every device", as if no type, or no vendor, were given
 module _ (i m n : List ℕ) (a : ℕ) (x : Option (List ℕ)) where
