@@ -66,18 +66,14 @@ ending = freshNamed aazz1 ∷ freshNamed zz1 ∷ []
 abbrev wildSeven : List ℕ
 wildSeven = 0x81 ∷ 0xF0 ∷ 10 ∷ 2 ∷ 1 ∷ 7 ∷ 4 ∷ 1 ∷ 0xFF ∷ 6 ∷ 2 ∷ 0xFF ∷ 0xFF ∷ []
 
--- both take the address 7, so that both answer what is sent to it
-pub two-share : (map (λ (d : Device). d .station .desk .address) (allAfter ending (lineFor (0xFF ∷ 0xBF ∷ wildSeven)))
-    ≡ 7 ∷ 7 ∷ [])
-    × (Different (map (λ (d : Device). d .station .desk .address) (allAfter ending (lineFor (0xFF ∷ 0xBF ∷ wildSeven))))
-    → ⊥)
+-- both take the address 7
+pub two-share : map (λ (d : Device). d .station .desk .address) (allAfter ending (lineFor (0xFF ∷ 0xBF ∷ wildSeven)))
+    ≡ 7 ∷ 7 ∷ []
 unfolding endedAs unsaidAt
 two-share =
-    let shared =
     ap (map (λ (d : Device). d .station .desk .address))
     (wild-shared wildSeven 7 (omega arith) (omega arith) (omega arith) (omega arith) (wild-formed 7) ending
-    (pair-allowed (freshNamed aazz1) (freshNamed zz1) (three-good .0) (three-good .1))) in
-    (shared, λ w. subst Different shared w .0 (List·Memᴰ·head refl))
+    (pair-allowed (freshNamed aazz1) (freshNamed zz1) (three-good .0) (three-good .1)))
 
 module _ (limit : ℕ) (long : 609 ≤ limit) where
   -- listed ascending, AAZZ1 first; the assignment for ZZ1 re-addresses it

@@ -19,7 +19,7 @@ use Rattle.record.specs.Changes.{unsaidAt, endedAs}
 use Rattle.record.proofs.Stays.{end-stays}
 use Rattle.xid.specs.Meaning.{AssignmentOf}
 use Rattle.xid.proofs.Exactly.{assignment-exactly}
-use Rattle.xid.proofs.Wild.{wild-exactly}
+use Rattle.xid.proofs.Wild.{wild-taken}
 use Rattle.xid_answer.specs.Answer.{assignmentAnswer}
 use Rattle.station.specs.declared.Turn.{Turn}
 use Rattle.station.specs.Turns.{saying}
@@ -27,11 +27,11 @@ use Rattle.states.specs.States.{begun}
 use Rattle.speech.specs.Speech.{controlBy, payloadBy, frameBy}
 use Rattle.device.specs.Judge.{reacts, reactionOf, deviceAfter}
 use Rattle.conduct.proofs.Answers.{assignment-taken}
-use Rattle.bus.specs.Cable.{identityIn, lineFor, hears, allAfter}
+use Rattle.bus.specs.Cable.{identityIn, lineFor, hears, afterLine, allAfter}
 use Rattle.bus.proofs.Hears.{hears-written}
 use Rattle.bus.proofs.Starts.{snrm-heard}
 
--- the payload m: 2 with the address a, 4 with FF, 6 with FF FF, in any order
+-- the payload m: 2 with the address a, 4 with FF, 6 with FF FF, in any order (`wild-formed` of xid is one)
 module _ (m : List ℕ) (a : ℕ) (octets : Octets m) (fits : length m ≤ 74) (least : 1 ≤ a) (most : a ≤ 254)
     (wild : AssignmentOf m a none (some (0xFF ∷ [])) (some (0xFF ∷ 0xFF ∷ []))) where
   -- each device takes the address and answers from it
@@ -46,7 +46,7 @@ module _ (m : List ℕ) (a : ℕ) (octets : Octets m) (fits : length m ≤ 74) (
       hears-written d 0xFF 0xBF m allowed (octets-append (0xFF ∷ 0xBF ∷ []) m (omega arith) octets) fits
       ∙ ap (λ (t : Turn). gives (reactionOf t))
       (assignment-taken d m (omega arith) a
-      (assignment-exactly (identityIn d) m a .0 (wild-exactly (identityIn d) m a wild .1 (least, most))))
+      (assignment-exactly (identityIn d) m a .0 (wild-taken (identityIn d) m a wild least most)))
 
   -- all devices of a row
   pub wild-shared : (ds : List Device) → ((d : Device) → List·Memᴰ d ds → allowedDevice d ≡ true)
@@ -60,12 +60,18 @@ module _ (m : List ℕ) (a : ℕ) (octets : Octets m) (fits : length m ≤ 74) (
 
   -- and each then answers SNRM to the address
   pub wild-begins : (d : Device) → allowedDevice d ≡ true
-      → hears (endedAs d a AddressAssigned) (lineFor (a ∷ 0x93 ∷ []))
-      ≡ gives (record { device = begun (endedAs d a AddressAssigned); frame = some (a ∷ 0x73 ∷ []) })
-  unfolding endedAs unsaidAt linkAllowed addressed
+      → hears (afterLine d (lineFor (0xFF ∷ 0xBF ∷ m))) (lineFor (a ∷ 0x93 ∷ []))
+      ≡ gives (record {
+        device = begun (afterLine d (lineFor (0xFF ∷ 0xBF ∷ m)));
+        frame = some (a ∷ 0x73 ∷ []);
+      })
+  unfolding deviceAfter endedAs unsaidAt linkAllowed addressed
   wild-begins d allowed =
-      snrm-heard (endedAs d a AddressAssigned)
+      let taken : afterLine d (lineFor (0xFF ∷ 0xBF ∷ m)) ≡ endedAs d a AddressAssigned =
+      ap (λ x. deviceAfter x d) (wild-heard d allowed) in
+      rw taken
+      (snrm-heard (endedAs d a AddressAssigned)
       (record {
         allowed = end-stays d a AddressAssigned allowed (rw (lt-ltb 0 a least, lt-ltb a 255 (omega arith)));
         link = refl;
-      })
+      }))

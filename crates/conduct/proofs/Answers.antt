@@ -2,7 +2,7 @@
 -- answered and changes nothing, and an assignment that matches ends any session, takes the address and is answered
 -- from it; one that does not match is silence. Assumes nothing.
 use mathlib.Core.Path.{_≡_, refl, sym, ap, _∙_}
-use mathlib.Core.Bool.{Bool, true, false, cond, _&&_}
+use mathlib.Core.Bool.{Bool, true, false, cond}
 use mathlib.Core.List.{List, [], _∷_}
 use mathlib.Core.Option.{Option}
 use Prim.Native.Nat.{ℕ, _+_, _≤_}
@@ -19,14 +19,14 @@ use Rattle.control.specs.declared.Order.the-variants.{Snrm}
 use Rattle.record.specs.declared.Link.{Link}
 use Rattle.record.specs.declared.Link.the-variants.{NoAddress, AddressAssigned, Connected}
 use Rattle.record.specs.declared.Device.{Device}
-use Rattle.record.specs.Allowed.{identityOf, addressed, stationAllowed, allowedDevice}
+use Rattle.record.specs.Allowed.{identityOf, stationAllowed, allowedDevice}
 use Rattle.record.specs.Changes.{unsaidAt, endedAs}
 use Rattle.record.proofs.Stays.{sound}
-use Rattle.xid.specs.Match.{readOf, identityMatches, kindMatches, vendorMatches}
+use Rattle.xid.specs.Match.{readOf}
 use Rattle.xid.specs.Meaning.{ScanOf, AssignmentOf, Meant, Answers, Takes}
 use Rattle.xid.specs.declared.Xid.{Xid}
 use Rattle.xid.specs.declared.Xid.the-variants as xid
-use Rattle.xid.proofs.Exactly.{scan-read, scan-exactly, assignment-read, assignment-exactly, matches-exactly}
+use Rattle.xid.proofs.Exactly.{scan-read, scan-exactly, meant-silent, assignment-exactly}
 use Rattle.station.specs.declared.Say.{Say}
 use Rattle.station.specs.declared.Turn.{Turn}
 use Rattle.station.specs.Turns.{saying, mute}
@@ -158,14 +158,5 @@ module _ (d : Device) (m : List ℕ) (fits : length m + 2 ≤ frameMost frameLim
         → (Meant (identityOf (d .plate)) a x y z → ⊥) → judgedFrame d (0xFF ∷ 0xBF ∷ m) ≡ mute d
     unfolding xidBy
     assignment-silent x y z w other =
-        go (addressed a && (identityMatches i x && (kindMatches y && vendorMatches i z))) refl
-      where
-        i : List ℕ
-        i = identityOf (d .plate)
-
-        go : (b : Bool) → addressed a && (identityMatches i x && (kindMatches y && vendorMatches i z)) ≡ b
-            → judgedFrame d (0xFF ∷ 0xBF ∷ m) ≡ mute d
-        go true e = absurd (other (matches-exactly i a x y z .0 e))
-        go false e =
-            xid-means d (0xFF ∷ 0xBF ∷ m) to-everyone xid.Silence
-            (assignment-read i m a x y z w ∙ ap (λ (b : Bool). cond b (xid.Assignment a) xid.Silence) e)
+        xid-means d (0xFF ∷ 0xBF ∷ m) to-everyone xid.Silence
+        (meant-silent (identityOf (d .plate)) m a x y z w other)

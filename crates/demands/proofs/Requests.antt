@@ -1,13 +1,15 @@
 -- The change requests, each in its own words: where its statement stands. Assumes nothing.
 
 -- ---- (ii) wild cards: vendor 0xFF 0xFF and type 0xFF, "those two values match every device in an assignment."
--- as if no type, or no vendor, were given, whatever else is; with both, and no identity, an assignment is taken by every
--- identity, exactly if the address value is 1 to 254
-pub use Rattle.xid.proofs.Wild.{wild-type, wild-vendor, wild-exactly, wild-formed}
--- so on the cable: every device takes the address, answers from it, and answers SNRM to it; two then hold the same
+-- as if no type, or no vendor, were given, whatever else is
+pub use Rattle.xid.proofs.Wild.{wild-type, wild-vendor}
+-- with both, an assignment is taken exactly if the address value is 1 to 254 and the identity, where given, matches; with no
+-- identity by every device; such a payload
+pub use Rattle.xid.proofs.Wild.{wild-exactly, wild-taken, wild-formed}
+-- so on the cable: every device takes the address, answers from it, and then answers SNRM to it; two hold the same
 pub use Rattle.bus.proofs.Shared.{wild-heard, wild-shared, wild-begins}
 pub use Rattle.bus.proofs.Examples.{two-share}
--- any other value is compared as 01 says; one octet FF of two is no wild card: no device with an identity of 01 is meant
+-- any other type or vendor than the device's own is silence, as in 01; so is one octet FF of two, at every device
 pub use Rattle.xid.proofs.Wild.{plain-type, plain-vendor, half-wild}
 -- a scan's rule is as before (`scan-exactly`): with a type or a vendor beside its mask, whatever they say, every device is silent
 pub use Rattle.xid.proofs.Wild.{masked-silent}

@@ -195,7 +195,8 @@ judge-case κs a r s w allowed room c =
 
 -- ---- "address matching"
 
--- a payload is a scan for the identity i, or an assignment of the address a to it, exactly as 01 says
+-- a payload is a scan for the identity i, or an assignment of the address a to it, exactly as 01 says;
+-- a type or a vendor that is the wild card matches, by 02 (ii)
 pub matching : (i m : List ℕ) (a : ℕ) → (readOf i m ≡ xid.Scan ↔ Answers i m)
     × (readOf i m ≡ xid.Assignment a ↔ Takes i m a)
 matching i m a = (scan-exactly i m, assignment-exactly i m a)

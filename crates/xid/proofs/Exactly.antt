@@ -123,6 +123,30 @@ assignment-read i m a x y z s =
     ∙ assignment-meant i (valuesOf (s .params)) (rw (s .values))
     ∙ rw (s .values)
 
+-- so one that is read is taken exactly if it is meant for the device, and is silence where it is not
+module _ (i m : List ℕ) (a : ℕ) (x y z : Option (List ℕ)) (s : AssignmentOf m a x y z) where
+  abbrev fits : Bool
+  fits = addressed a && (identityMatches i x && (kindMatches y && vendorMatches i z))
+
+  pub meant-exactly : readOf i m ≡ Assignment a ↔ Meant i a x y z
+  meant-exactly = (
+    λ e. matches-exactly i a x y z .0 (go fits (sym (assignment-read i m a x y z s) ∙ e)),
+    λ w.
+        assignment-read i m a x y z s
+        ∙ ap (λ (t : Bool). cond t (Assignment a) Silence) (matches-exactly i a x y z .1 w),
+  )
+    where
+      go : (t : Bool) → cond t (Assignment a) Silence ≡ Assignment a → t ≡ true
+      go true e = refl
+      go false e = absurd (assignment-loud (sym e))
+
+  pub meant-silent : (Meant i a x y z → ⊥) → readOf i m ≡ Silence
+  meant-silent other = assignment-read i m a x y z s ∙ go fits (λ e. other (matches-exactly i a x y z .0 e))
+    where
+      go : (t : Bool) → (t ≡ true → ⊥) → cond t (Assignment a) Silence ≡ Silence
+      go true n = absurd (n refl)
+      go false n = refl
+
 -- an assignment that names an identity alone
 pub identity-alone : (i m v : List ℕ) (a : ℕ) → AssignmentOf m a (some v) none none
     → readOf i m ≡ cond (addressed a && endsWith i v) (Assignment a) Silence
@@ -154,9 +178,7 @@ assignment-exactly i m a = (there, back)
         )
 
     back : Takes i m a → readOf i m ≡ Assignment a
-    back (x, y, z, s, w) =
-        assignment-read i m a x y z s
-        ∙ ap (λ (t : Bool). cond t (Assignment a) Silence) (matches-exactly i a x y z .1 w)
+    back (x, y, z, s, w) = meant-exactly i m a x y z s .1 w
 
 -- ---- the rows 6 to 10, both ways: a payload of the shape, and what 01 asks of it is not so
 

@@ -60,10 +60,11 @@ wild =
     ∷ (0x81 ∷ 0xF0 ∷ 13 ∷ 6 ∷ 2 ∷ 0xFF ∷ 0xFF ∷ 4 ∷ 1 ∷ 0xFF ∷ 1 ∷ 1 ∷ 0x34 ∷ 2 ∷ 1 ∷ 7 ∷ []) gets refuses 7
     ∷ (0x81 ∷ 0xF0 ∷ 10 ∷ 6 ∷ 2 ∷ 0xFF ∷ 0xFF ∷ 4 ∷ 1 ∷ 0xFF ∷ 2 ∷ 1 ∷ 255 ∷ []) gets refuses 6 ∷ []
 
--- one octet FF of two; type 0x00; another type beside the wild vendor, and another vendor beside the wild type
+-- FF in an identity; one octet FF of two; type 0x00; another type beside the wild vendor, and another vendor beside the wild type
 abbrev pub tame : List Row
 tame =
-    (0x81 ∷ 0xF0 ∷ 7 ∷ 6 ∷ 2 ∷ 0xFF ∷ 0x41 ∷ 2 ∷ 1 ∷ 7 ∷ []) gets refuses 9
+    (0x81 ∷ 0xF0 ∷ 6 ∷ 1 ∷ 1 ∷ 0xFF ∷ 2 ∷ 1 ∷ 7 ∷ []) gets refuses 7
+    ∷ (0x81 ∷ 0xF0 ∷ 7 ∷ 6 ∷ 2 ∷ 0xFF ∷ 0x41 ∷ 2 ∷ 1 ∷ 7 ∷ []) gets refuses 9
     ∷ (0x81 ∷ 0xF0 ∷ 7 ∷ 6 ∷ 2 ∷ 0x4B ∷ 0xFF ∷ 2 ∷ 1 ∷ 7 ∷ []) gets refuses 9
     ∷ (0x81 ∷ 0xF0 ∷ 6 ∷ 4 ∷ 1 ∷ 0x00 ∷ 2 ∷ 1 ∷ 7 ∷ []) gets refuses 8
     ∷ (0x81 ∷ 0xF0 ∷ 10 ∷ 6 ∷ 2 ∷ 0xFF ∷ 0xFF ∷ 4 ∷ 1 ∷ 0x11 ∷ 2 ∷ 1 ∷ 7 ∷ []) gets refuses 8
@@ -128,7 +129,7 @@ computed = (
   (refl, (refl, tt)),
   (refl, (refl, (refl, tt))),
   (refl, (refl, (refl, (refl, (refl, tt))))),
-  (refl, (refl, (refl, (refl, (refl, tt))))),
+  (refl, (refl, (refl, (refl, (refl, (refl, tt)))))),
   (refl, (refl, (refl, tt))),
   (refl, (refl, tt)),
   (refl, (refl, tt)),

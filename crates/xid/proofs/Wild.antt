@@ -2,7 +2,7 @@
 -- value, one octet FF of two among them, is compared as before; a scan has no such rule. For octets of any content.
 -- Assumes nothing.
 use mathlib.Core.Path.{_≡_, refl, sym, ap, _∙_}
-use mathlib.Core.Bool.{Bool, true, false, cond, _&&_, and-false}
+use mathlib.Core.Bool.{Bool, true, false, and-false}
 use mathlib.Core.Logic.{_↔_, _⊎_, inl, inr, ⊎-elim}
 use mathlib.Core.List.{List, [], _∷_}
 use mathlib.Core.Option.{Option, none, some}
@@ -14,17 +14,16 @@ use Rattle.octets.specs.Octets.{holds}
 use Rattle.octets.proofs.Words.{true-not-false}
 use Rattle.identity.specs.Identity.{vendor, same, allowedIdentity}
 use Rattle.identity.proofs.Exactly.{identity-exactly}
-use Rattle.record.specs.Allowed.{addressed}
 use Rattle.params.specs.Field.{Param, _is_, tripleOf, fieldOf, xidPayload, rightLength, identifiers, noneTwice}
 use Rattle.params.specs.Field.{WellFormed, valueFor, given}
 use Rattle.params.proofs.Exact.{once-different}
 use Rattle.xid.specs.Addressing.{addressId, kindId, vendorId, addressing, Values, valuesOf}
-use Rattle.xid.specs.Match.{deviceType, identityMatches, anyType, anyVendor, kindMatches, vendorMatches, isScan}
+use Rattle.xid.specs.Match.{anyType, anyVendor, kindMatches, vendorMatches, isScan}
 use Rattle.xid.specs.Match.{assignmentShape, readOf}
-use Rattle.xid.specs.Meaning.{AssignmentOf, AnyOr}
+use Rattle.xid.specs.Meaning.{AssignmentOf, IfGiven, EndOf, Meant}
 use Rattle.xid.proofs.Rows.{neither-meant}
 use Rattle.xid.proofs.Told.{scan-values, read-is}
-use Rattle.xid.proofs.Exactly.{kind-exactly, maker-exactly, assignment-read, assignment-exactly}
+use Rattle.xid.proofs.Exactly.{assignment-read, meant-exactly, meant-silent}
 use Rattle.xid.specs.declared.Xid.the-variants.{Silence, Assignment}
 
 -- ---- the wild cards
@@ -41,28 +40,23 @@ module _ (i m n : List ℕ) (a : ℕ) (x : Option (List ℕ)) where
   unfolding vendorMatches same
   wild-vendor y s t = assignment-read i m a x y (some (0xFF ∷ 0xFF ∷ [])) s ∙ sym (assignment-read i n a x y none t)
 
--- with both, and no identity, an assignment is taken by every device, "if the address value is 1 to 254"
-pub wild-exactly : (i m : List ℕ) (a : ℕ) → AssignmentOf m a none (some (0xFF ∷ [])) (some (0xFF ∷ 0xFF ∷ []))
-    → readOf i m ≡ Assignment a ↔ (1 ≤ a) × (a ≤ 254)
-wild-exactly i m a s = (
-  λ e.
-      let (x, y, z, t, w) = assignment-exactly i m a .0 e in
-      (w .least, w .most),
-  λ (least, most).
-      assignment-exactly i m a .1 (
-        none,
-        some (0xFF ∷ []),
-        some (0xFF ∷ 0xFF ∷ []),
-        s,
-        record {
-          least = least;
-          most = most;
-          own = tt;
-          kind = inl refl;
-          maker = inl refl;
-        },
-      ),
-)
+-- with both, an assignment is taken exactly "if the address value is 1 to 254 and the identity, where given, matches"
+module _ (i m : List ℕ) (a : ℕ) where
+  pub wild-exactly : (x : Option (List ℕ)) → AssignmentOf m a x (some (0xFF ∷ [])) (some (0xFF ∷ 0xFF ∷ []))
+      → readOf i m ≡ Assignment a ↔ (1 ≤ a) × (a ≤ 254) × IfGiven x (EndOf i)
+  wild-exactly x s = (
+    λ e. let w = whole .0 e in (w .least, w .most, w .own),
+    λ (least, most, own).
+        whole .1 (record { least = least; most = most; own = own; kind = inl refl; maker = inl refl }),
+  )
+    where
+      whole : readOf i m ≡ Assignment a ↔ Meant i a x (some (0xFF ∷ [])) (some (0xFF ∷ 0xFF ∷ []))
+      whole = meant-exactly i m a x (some (0xFF ∷ [])) (some (0xFF ∷ 0xFF ∷ [])) s
+
+  -- so with no identity by every device
+  pub wild-taken : AssignmentOf m a none (some (0xFF ∷ [])) (some (0xFF ∷ 0xFF ∷ [])) → 1 ≤ a → a ≤ 254
+      → readOf i m ≡ Assignment a
+  wild-taken s least most = wild-exactly none s .1 (least, most, tt)
 
 -- 2, 4 and 6, in this order, are such an assignment
 pub wild-formed : (a : ℕ)
@@ -82,38 +76,17 @@ wild-formed a =
 
 -- ---- any other value
 
-plain : (any own v : List ℕ) → (v ≡ any → ⊥) → AnyOr any own v ↔ v ≡ own
-plain any own v n = (λ w. ⊎-elim (λ (e : v ≡ any). absurd (n e)) (λ (e : v ≡ own). e) w, λ e. inr e)
+-- another than the wild card and the device's own is silence
+module _ (i m v : List ℕ) (a : ℕ) (x : Option (List ℕ)) where
+  pub plain-type : (z : Option (List ℕ)) → AssignmentOf m a x (some v) z → (v ≡ 0xFF ∷ [] → ⊥) → (v ≡ 0x01 ∷ [] → ⊥)
+      → readOf i m ≡ Silence
+  plain-type z s wild own = meant-silent i m a x (some v) z s (λ w. ⊎-elim wild own (w .kind))
 
-through : {P Q R : Type 0} → (P ↔ Q) → (Q ↔ R) → P ↔ R
-through (a, b) (c, d) = (λ p. c (a p), λ r. b (d r))
-
-pub plain-type : (v : List ℕ) → (v ≡ 0xFF ∷ [] → ⊥) → kindMatches (some v) ≡ true ↔ v ≡ 0x01 ∷ []
-plain-type v n = through (kind-exactly (some v)) (plain anyType (deviceType ∷ []) v n)
-
-module _ (i v : List ℕ) (n : v ≡ 0xFF ∷ 0xFF ∷ [] → ⊥) where
-  pub plain-vendor : vendorMatches i (some v) ≡ true ↔ v ≡ take 2 i
-  plain-vendor = through (maker-exactly i (some v)) (plain anyVendor (take vendor i) v n)
-
--- "one octet FF of two is no wild card": no device with an identity of 01 is meant
 module _ (i m v : List ℕ) (a : ℕ) (x y : Option (List ℕ)) (s : AssignmentOf m a x y (some v)) where
-  other-silent : vendorMatches i (some v) ≡ false → readOf i m ≡ Silence
-  other-silent e = assignment-read i m a x y (some v) s ∙ rw e (go (addressed a) (identityMatches i x) (kindMatches y))
-    where
-      go : (p q r : Bool) → cond (p && (q && (r && false))) (Assignment a) Silence ≡ Silence
-      go true true true = refl
-      go true true false = refl
-      go true false r = refl
-      go false q r = refl
+  pub plain-vendor : (v ≡ 0xFF ∷ 0xFF ∷ [] → ⊥) → (v ≡ take 2 i → ⊥) → readOf i m ≡ Silence
+  plain-vendor wild own = meant-silent i m a x y (some v) s (λ w. ⊎-elim wild own (w .maker))
 
-  plain-silent : (v ≡ 0xFF ∷ 0xFF ∷ [] → ⊥) → (v ≡ take 2 i → ⊥) → readOf i m ≡ Silence
-  plain-silent wild own = go (vendorMatches i (some v)) refl
-    where
-      go : (t : Bool) → vendorMatches i (some v) ≡ t → readOf i m ≡ Silence
-      go true e = absurd (own (plain-vendor i v wild .0 e))
-      go false e = other-silent e
-
-  -- an identity has no octet FF
+  -- "one octet FF of two is no wild card": an identity of 01 has no octet FF, so no device is meant
   module _ (allowed : allowedIdentity i ≡ true) where
     unheld : (j : ℕ) → j < 2 → getD v j 0 ≡ 0xFF → v ≡ take 2 i → ⊥
     unheld j h f e =
@@ -127,10 +100,10 @@ module _ (i m v : List ℕ) (a : ℕ) (x y : Option (List ℕ)) (s : AssignmentO
 
     pub half-wild : (b : ℕ) → (b ≡ 0xFF → ⊥) → (v ≡ 0xFF ∷ b ∷ []) ⊎ (v ≡ b ∷ 0xFF ∷ []) → readOf i m ≡ Silence
     half-wild b n (inl e) =
-        plain-silent (λ w. n (ap (λ (u : List ℕ). getD u 1 0) (sym e ∙ w)))
+        plain-vendor (λ w. n (ap (λ (u : List ℕ). getD u 1 0) (sym e ∙ w)))
         (unheld 0 (omega arith) (ap (λ (u : List ℕ). getD u 0 0) e))
     half-wild b n (inr e) =
-        plain-silent (λ w. n (ap (λ (u : List ℕ). getD u 0 0) (sym e ∙ w)))
+        plain-vendor (λ w. n (ap (λ (u : List ℕ). getD u 0 0) (sym e ∙ w)))
         (unheld 1 (omega arith) (ap (λ (u : List ℕ). getD u 1 0) e))
 
 -- ---- a scan

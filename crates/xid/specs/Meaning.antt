@@ -1,4 +1,4 @@
--- Scans and assignments, of any device, in the words of 01: what the theorems of this crate speak of.
+-- Scans and assignments, of any device, in the words of 01 and 02: what the theorems of this crate speak of.
 --   Allows n k             == there is a parameter n, and it may have k octets
 --   ScanOf m v k           == the payload m is a scan for the value v under the mask k: "exactly 1 and 3, of equal
 --                             length"
