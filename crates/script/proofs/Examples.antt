@@ -1,8 +1,11 @@
 -- Lines of the bench script and what they ask, computed. Assumes nothing.
 use mathlib.Core.Path.{_≡_, refl}
-use mathlib.Core.List.{List, [], _∷_}
+use mathlib.Core.Bool.{cond}
+use mathlib.Core.List.{List, [], _∷_, map}
 use Prim.Native.Nat.{ℕ}
 use Prim.Native.Char.{code}
+use Prim.Native.String.{String}
+use lib.Dec.{eqb}
 use lib.ListN.{length, replicate}
 use lib.Seq.{sets}
 use Rattle.octets.specs.Octets.{placeOf}
@@ -34,42 +37,29 @@ places : (commandOf (spelled "frame") ∷ commandOf (spelled "hear") ∷ command
 unfolding spelled firstOf behindFirst wordAt placeFrom placeOf same commandOf
 places = refl
 
--- the kinds of word, by the bench script's names for them; "ADDRESS and CONTROL are exactly two hex digits"
-abbrev pub K : ℕ
-K = code "d"
+-- the bench script's name for each kind of word; "ADDRESS and CONTROL are exactly two hex digits"
+abbrev pub named : ℕ → String
+named k =
+    cond (eqb k (code "d")) "K"
+    (cond (eqb k (code "x")) "HEX"
+    (cond (eqb k (code "r")) "ROOM"
+    (cond (eqb k (code "t")) "TILT"
+    (cond (eqb k (code "a")) "ALARM"
+    (cond (eqb k (code "l")) "LIMIT"
+    (cond (eqb k (code "o")) "two digits" (cond (eqb k (code "h")) "heard or silent" "none")))))))
 
-abbrev pub HEX : ℕ
-HEX = code "x"
+abbrev pub wordsOf : String → List String
+wordsOf c = map named (kindsOf (spelled c))
 
-abbrev pub ROOM : ℕ
-ROOM = code "r"
-
-abbrev pub TILT : ℕ
-TILT = code "t"
-
-abbrev pub ALARM : ℕ
-ALARM = code "a"
-
-abbrev pub LIMIT : ℕ
-LIMIT = code "l"
-
-abbrev pub OCTET : ℕ
-OCTET = code "o"
-
-abbrev pub HEARD : ℕ
-HEARD = code "h"
-
--- the words behind each command: `frame K HEX ROOM`, `hear K HEX ROOM`, `show K`, `stopped K T`, `raise K A`, `clear K A`,
--- `device IDENTITY PRODUCT HARDWARE SOFTWARE LOWEST HIGHEST PRESENT`, "the four texts in HEX", `scan LIMIT`, `begin LIMIT`,
--- `probe ROOM`, `report heard` or `silent`, `decode HEX ROOM`, `write ADDRESS CONTROL HEX ROOM`
-pub words-of : (kindsOf (spelled "frame") ∷ kindsOf (spelled "hear") ∷ kindsOf (spelled "show")
-    ∷ kindsOf (spelled "stopped") ∷ kindsOf (spelled "raise") ∷ kindsOf (spelled "clear") ∷ kindsOf (spelled "device")
-    ∷ kindsOf (spelled "scan") ∷ kindsOf (spelled "begin") ∷ kindsOf (spelled "probe") ∷ kindsOf (spelled "report")
-    ∷ kindsOf (spelled "decode") ∷ kindsOf (spelled "write") ∷ [])
-    ≡ (K ∷ HEX ∷ ROOM ∷ []) ∷ (K ∷ HEX ∷ ROOM ∷ []) ∷ (K ∷ [])
-    ∷ (K ∷ TILT ∷ []) ∷ (K ∷ ALARM ∷ []) ∷ (K ∷ ALARM ∷ []) ∷ (HEX ∷ HEX ∷ HEX ∷ HEX ∷ TILT ∷ TILT ∷ TILT ∷ [])
-    ∷ (LIMIT ∷ []) ∷ (LIMIT ∷ []) ∷ (ROOM ∷ []) ∷ (HEARD ∷ [])
-    ∷ (HEX ∷ ROOM ∷ []) ∷ (OCTET ∷ OCTET ∷ HEX ∷ ROOM ∷ []) ∷ []
+-- the words behind each command, as the bench script has them; of `device` "the four texts in HEX"
+pub words-of : (wordsOf "frame" ∷ wordsOf "hear" ∷ wordsOf "show" ∷ wordsOf "stopped" ∷ wordsOf "raise"
+    ∷ wordsOf "clear" ∷ wordsOf "device" ∷ wordsOf "scan" ∷ wordsOf "begin" ∷ wordsOf "probe" ∷ wordsOf "report"
+    ∷ wordsOf "decode" ∷ wordsOf "write" ∷ [])
+    ≡ ("K" ∷ "HEX" ∷ "ROOM" ∷ []) ∷ ("K" ∷ "HEX" ∷ "ROOM" ∷ []) ∷ ("K" ∷ [])
+    ∷ ("K" ∷ "TILT" ∷ []) ∷ ("K" ∷ "ALARM" ∷ []) ∷ ("K" ∷ "ALARM" ∷ [])
+    ∷ ("HEX" ∷ "HEX" ∷ "HEX" ∷ "HEX" ∷ "TILT" ∷ "TILT" ∷ "TILT" ∷ [])
+    ∷ ("LIMIT" ∷ []) ∷ ("LIMIT" ∷ []) ∷ ("ROOM" ∷ []) ∷ ("heard or silent" ∷ [])
+    ∷ ("HEX" ∷ "ROOM" ∷ []) ∷ ("two digits" ∷ "two digits" ∷ "HEX" ∷ "ROOM" ∷ []) ∷ []
 unfolding spelled firstOf behindFirst wordAt placeFrom placeOf same commandOf kindsOf
 words-of = refl
 

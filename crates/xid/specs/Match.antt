@@ -91,7 +91,7 @@ unfoldable pub identityMatches : List ℕ → Option (List ℕ) → Bool
 identityMatches i none = true
 identityMatches i (some v) = endsWith i v
 
--- 02 (ii): "vendor 0xFF 0xFF and type 0xFF .. match every device in an assignment"
+-- 02 (ii): "vendor 0xFF 0xFF and type 0xFF to mean "any""
 abbrev pub anyType : List ℕ
 anyType = 0xFF ∷ []
 
