@@ -125,18 +125,23 @@ module _ (d : Device) (m : List ℕ) (fits : length m + 2 ≤ frameMost frameLim
   to-everyone : Everyone (0xFF ∷ 0xBF ∷ m)
   to-everyone = record { least = omega arith; most = omega arith; address = refl; control = refl }
 
+  -- a payload that means nothing to the device: it stays as it was, and is silent
+  pub xid-silent : readOf (identityOf (d .plate)) m ≡ xid.Silence → judgedFrame d (0xFF ∷ 0xBF ∷ m) ≡ mute d
+  unfolding xidBy
+  xid-silent e = xid-means d (0xFF ∷ 0xBF ∷ m) to-everyone xid.Silence e
+
   pub scan-answered : Answers (identityOf (d .plate)) m → judgedFrame d (0xFF ∷ 0xBF ∷ m) ≡ saying d Say.Scanned
   scan-answered w = scan-answers d (0xFF ∷ 0xBF ∷ m) to-everyone w
 
   pub scan-silent : (v k : List ℕ) → ScanOf m v k → (masked (padded (identityOf (d .plate))) k ≡ v → ⊥)
       → judgedFrame d (0xFF ∷ 0xBF ∷ m) ≡ mute d
-  unfolding xidBy answersScan
+  unfolding answersScan
   scan-silent v k w other = go (answersScan (identityOf (d .plate)) k v) refl
     where
       go : (b : Bool) → answersScan (identityOf (d .plate)) k v ≡ b → judgedFrame d (0xFF ∷ 0xBF ∷ m) ≡ mute d
       go true e = absurd (other (same-is _ _ e))
       go false e =
-          xid-means d (0xFF ∷ 0xBF ∷ m) to-everyone xid.Silence
+          xid-silent
           (scan-read (identityOf (d .plate)) m v k w ∙ ap (λ (b : Bool). cond b xid.Scan xid.Silence) e)
 
   module _ (a : ℕ) where
@@ -156,7 +161,4 @@ module _ (d : Device) (m : List ℕ) (fits : length m + 2 ≤ frameMost frameLim
 
     pub assignment-silent : (x y z : Option (List ℕ)) → AssignmentOf m a x y z
         → (Meant (identityOf (d .plate)) a x y z → ⊥) → judgedFrame d (0xFF ∷ 0xBF ∷ m) ≡ mute d
-    unfolding xidBy
-    assignment-silent x y z w other =
-        xid-means d (0xFF ∷ 0xBF ∷ m) to-everyone xid.Silence
-        (meant-silent (identityOf (d .plate)) m a x y z w other)
+    assignment-silent x y z w other = xid-silent (meant-silent (identityOf (d .plate)) m a x y z w other)

@@ -22,10 +22,10 @@ use Rattle.params.proofs.Kept.{both-of, of-both}
 use Rattle.xid.specs.Addressing.{addressing, Values, valuesOf}
 use Rattle.xid.specs.Match.{deviceType, isScan, scanShape, isAssignment, assignmentShape, scanMatches, addressOf}
 use Rattle.xid.specs.Match.{identityMatches, kindMatches, vendorMatches, badAddress, otherIdentity, otherType}
-use Rattle.xid.specs.Match.{endsWith, anyType, anyVendor, anyOr, otherVendor, otherScan, readOf}
+use Rattle.xid.specs.Match.{anyType, anyVendor, anyOr, otherVendor, otherScan, readOf}
 use Rattle.xid.specs.Meaning.{ScanOf, AssignmentOf, IfGiven, EndOf, AnyOr, Meant, Answers, Takes}
 use Rattle.xid.proofs.Ends.{ends-exactly}
-use Rattle.xid.proofs.Rows.{scan-meant, assignment-meant}
+use Rattle.xid.proofs.Rows.{allFit, scan-meant, assignment-meant}
 use Rattle.xid.proofs.Told.{given-none, values-are, scan-values, address-one, scan-told}
 use Rattle.xid.proofs.Told.{scan-loud, assignment-loud, assignment-told, formed-of, read-is}
 use Rattle.xid.specs.declared.Xid.the-variants.{Silence, Scan, Assignment}
@@ -86,11 +86,11 @@ maker-exactly i none = (λ e. tt, λ w. refl)
 maker-exactly i (some v) = any-or-exactly anyVendor (take vendor i) v
 
 pub matches-exactly : (i : List ℕ) (a : ℕ) (x y z : Option (List ℕ))
-    → (addressed a && (identityMatches i x && (kindMatches y && vendorMatches i z)) ≡ true) ↔ Meant i a x y z
+    → allFit i a x y z ≡ true ↔ Meant i a x y z
 unfolding addressed
 matches-exactly i a x y z = (there, back)
   where
-    there : addressed a && (identityMatches i x && (kindMatches y && vendorMatches i z)) ≡ true → Meant i a x y z
+    there : allFit i a x y z ≡ true → Meant i a x y z
     there e =
         let rest = identityMatches i x && (kindMatches y && vendorMatches i z) in
         let (good, e₁) = both-of (ltb 0 a && ltb a 255) rest e in
@@ -105,7 +105,7 @@ matches-exactly i a x y z = (there, back)
           maker = maker-exactly i z .0 maker;
         }
 
-    back : Meant i a x y z → addressed a && (identityMatches i x && (kindMatches y && vendorMatches i z)) ≡ true
+    back : Meant i a x y z → allFit i a x y z ≡ true
     back w =
         let low = lt-ltb 0 a (w .least) in
         let high = lt-ltb a 255 (omega (arith, w .most)) in
@@ -115,8 +115,7 @@ matches-exactly i a x y z = (there, back)
 
 -- an assignment is taken by these devices, and all others stay silent
 pub assignment-read : (i m : List ℕ) (a : ℕ) (x y z : Option (List ℕ)) → AssignmentOf m a x y z
-    → readOf i m
-    ≡ cond (addressed a && (identityMatches i x && (kindMatches y && vendorMatches i z))) (Assignment a) Silence
+    → readOf i m ≡ cond (allFit i a x y z) (Assignment a) Silence
 unfolding assignmentShape given octetsIn
 assignment-read i m a x y z s =
     read-is i m (s .params) (s .formed)
@@ -125,12 +124,9 @@ assignment-read i m a x y z s =
 
 -- so one that is read is taken exactly if it is meant for the device, and is silence where it is not
 module _ (i m : List ℕ) (a : ℕ) (x y z : Option (List ℕ)) (s : AssignmentOf m a x y z) where
-  abbrev fits : Bool
-  fits = addressed a && (identityMatches i x && (kindMatches y && vendorMatches i z))
-
   pub meant-exactly : readOf i m ≡ Assignment a ↔ Meant i a x y z
   meant-exactly = (
-    λ e. matches-exactly i a x y z .0 (go fits (sym (assignment-read i m a x y z s) ∙ e)),
+    λ e. matches-exactly i a x y z .0 (go (allFit i a x y z) (sym (assignment-read i m a x y z s) ∙ e)),
     λ w.
         assignment-read i m a x y z s
         ∙ ap (λ (t : Bool). cond t (Assignment a) Silence) (matches-exactly i a x y z .1 w),
@@ -141,22 +137,11 @@ module _ (i m : List ℕ) (a : ℕ) (x y z : Option (List ℕ)) (s : AssignmentO
       go false e = absurd (assignment-loud (sym e))
 
   pub meant-silent : (Meant i a x y z → ⊥) → readOf i m ≡ Silence
-  meant-silent other = assignment-read i m a x y z s ∙ go fits (λ e. other (matches-exactly i a x y z .0 e))
+  meant-silent other = assignment-read i m a x y z s ∙ go (allFit i a x y z) (λ e. other (matches-exactly i a x y z .0 e))
     where
       go : (t : Bool) → (t ≡ true → ⊥) → cond t (Assignment a) Silence ≡ Silence
       go true n = absurd (n refl)
       go false n = refl
-
--- an assignment that names an identity alone
-pub identity-alone : (i m v : List ℕ) (a : ℕ) → AssignmentOf m a (some v) none none
-    → readOf i m ≡ cond (addressed a && endsWith i v) (Assignment a) Silence
-unfolding identityMatches kindMatches vendorMatches
-identity-alone i m v a s = assignment-read i m a (some v) none none s ∙ go (addressed a) (endsWith i v)
-  where
-    go : (p q : Bool) → cond (p && (q && true)) (Assignment a) Silence ≡ cond (p && q) (Assignment a) Silence
-    go true true = refl
-    go true false = refl
-    go false q = refl
 
 pub assignment-exactly : (i m : List ℕ) (a : ℕ) → readOf i m ≡ Assignment a ↔ Takes i m a
 unfolding assignmentShape valuesOf

@@ -46,11 +46,9 @@ module _ (w : Values) where
 
 -- ---- what the rows come to
 
--- all four of an assignment
-abbrev pub allFit : List ℕ → Values → Bool
-allFit i w =
-    addressed (addressOf w)
-    && (identityMatches i (w .identity) && (kindMatches (w .kind) && vendorMatches i (w .vendor)))
+-- all four of an assignment of the address value a: it, and what is given of identity, type and vendor
+abbrev pub allFit : List ℕ → ℕ → Option (List ℕ) → Option (List ℕ) → Option (List ℕ) → Bool
+allFit i a x y z = addressed a && (identityMatches i x && (kindMatches y && vendorMatches i z))
 
 module _ (i : List ℕ) (w : Values) where
   pub scan-meant : isScan w ≡ true → meantTo i w ≡ cond (scanMatches i w) Scan Silence
@@ -63,7 +61,7 @@ module _ (i : List ℕ) (w : Values) where
       go false = refl
 
   pub assignment-meant : isAssignment w ≡ true
-      → meantTo i w ≡ cond (allFit i w) (Assignment (addressOf w)) Silence
+      → meantTo i w ≡ cond (allFit i (addressOf w) (w .identity) (w .kind) (w .vendor)) (Assignment (addressOf w)) Silence
   unfolding meantTo valueRows neither badAddress otherIdentity otherType otherVendor otherScan meaningOf answered
       orSilence
   assignment-meant a =

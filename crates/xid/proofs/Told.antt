@@ -134,7 +134,7 @@ module _ (i : List ℕ) (w : Values) where
       go false s f = absurd (no-scan f)
 
   pub assignment-told : (a : ℕ) → meantTo i w ≡ Assignment a
-      → (isAssignment w ≡ true) × (allFit i w ≡ true) × (addressOf w ≡ a)
+      → (isAssignment w ≡ true) × (allFit i (addressOf w) (w .identity) (w .kind) (w .vendor) ≡ true) × (addressOf w ≡ a)
   unfolding Clear valueRows neither badAddress otherIdentity otherType otherVendor meaningOf
   assignment-told a e =
       let (c, m) = cleared e assignment-loud in

@@ -19,16 +19,16 @@ use Rattle.params.specs.Field.{WellFormed, valueFor, given}
 use Rattle.params.proofs.Exact.{once-different}
 use Rattle.xid.specs.Addressing.{addressId, kindId, vendorId, addressing, Values, valuesOf}
 use Rattle.xid.specs.Match.{anyType, anyVendor, kindMatches, vendorMatches, isScan}
-use Rattle.xid.specs.Match.{assignmentShape, readOf}
+use Rattle.xid.specs.Match.{assignmentShape, neither, readOf}
 use Rattle.xid.specs.Meaning.{AssignmentOf, IfGiven, EndOf, Meant}
-use Rattle.xid.proofs.Rows.{neither-meant}
+use Rattle.xid.proofs.Rows.{neither-meant, neither-exactly}
 use Rattle.xid.proofs.Told.{scan-values, read-is}
 use Rattle.xid.proofs.Exactly.{assignment-read, meant-exactly, meant-silent}
 use Rattle.xid.specs.declared.Xid.the-variants.{Silence, Assignment}
 
 -- ---- the wild cards
 
--- "type 0xFF and vendor 0xFF 0xFF match every device", as if no type, or no vendor, were given
+-- type 0xFF and vendor 0xFF 0xFF match every device, as if no type, or no vendor, were given
 module _ (i m n : List ℕ) (a : ℕ) (x : Option (List ℕ)) where
   pub wild-type : (z : Option (List ℕ)) → AssignmentOf m a x (some (0xFF ∷ [])) z → AssignmentOf n a x none z
       → readOf i m ≡ readOf i n
@@ -40,7 +40,7 @@ module _ (i m n : List ℕ) (a : ℕ) (x : Option (List ℕ)) where
   unfolding vendorMatches same
   wild-vendor y s t = assignment-read i m a x y (some (0xFF ∷ 0xFF ∷ [])) s ∙ sym (assignment-read i n a x y none t)
 
--- with both, an assignment is taken exactly "if the address value is 1 to 254 and the identity, where given, matches"
+-- with both, an assignment is taken exactly if the address value is 1 to 254 and the identity, where given, matches
 module _ (i m : List ℕ) (a : ℕ) where
   pub wild-exactly : (x : Option (List ℕ)) → AssignmentOf m a x (some (0xFF ∷ [])) (some (0xFF ∷ 0xFF ∷ []))
       → readOf i m ≡ Assignment a ↔ (1 ≤ a) × (a ≤ 254) × IfGiven x (EndOf i)
@@ -86,7 +86,7 @@ module _ (i m v : List ℕ) (a : ℕ) (x y : Option (List ℕ)) (s : AssignmentO
   pub plain-vendor : (v ≡ 0xFF ∷ 0xFF ∷ [] → ⊥) → (v ≡ take 2 i → ⊥) → readOf i m ≡ Silence
   plain-vendor wild own = meant-silent i m a x y (some v) s (λ w. ⊎-elim wild own (w .maker))
 
-  -- "one octet FF of two is no wild card": an identity of 01 has no octet FF, so no device is meant
+  -- one octet FF of two is no wild card: an identity of 01 has no octet FF, so no device is meant
   module _ (allowed : allowedIdentity i ≡ true) where
     unheld : (j : ℕ) → j < 2 → getD v j 0 ≡ 0xFF → v ≡ take 2 i → ⊥
     unheld j h f e =
@@ -108,23 +108,26 @@ module _ (i m v : List ℕ) (a : ℕ) (x y : Option (List ℕ)) (s : AssignmentO
 
 -- ---- a scan
 
--- "a scan has no such rule": with a type or a vendor beside its mask, whatever they say, a payload is neither of the two
-module _ (i m : List ℕ) (ps : List Param) (f : WellFormed addressing m ps) where
-  pub masked-silent : (k v : List ℕ) → valuesOf ps .mask ≡ some k
-      → (valuesOf ps .kind ≡ some v) ⊎ (valuesOf ps .vendor ≡ some v) → readOf i m ≡ Silence
+-- a scan has no such rule: with a type or a vendor beside its mask, whatever they say, a payload is neither of the two
+module _ (w : Values) (k v : List ℕ) (mask : w .mask ≡ some k) (named : (w .kind ≡ some v) ⊎ (w .vendor ≡ some v)) where
+  pub masked-neither : neither w ≡ true
   unfolding assignmentShape given
-  masked-silent k v mask named =
-      read-is i m ps f
-      ∙ neither-meant i (valuesOf ps) (no-scan (isScan (valuesOf ps)) refl)
-      (rw mask (and-false (given (valuesOf ps .address))))
+  masked-neither =
+      neither-exactly w .1 (no-scan (isScan w) refl, rw mask (and-false (given (w .address))))
     where
       not-none : {o : Option (List ℕ)} → o ≡ some v → o ≡ none → ⊥
       not-none e n = true-not-false (ap given (sym e ∙ n))
 
-      no-scan : (t : Bool) → isScan (valuesOf ps) ≡ t → isScan (valuesOf ps) ≡ false
+      no-scan : (t : Bool) → isScan w ≡ t → isScan w ≡ false
       no-scan false e = e
       no-scan true e =
-          let values = scan-values (valuesOf ps) e .0 in
+          let values = scan-values w e .0 in
           absurd
-          (⊎-elim (λ (g : valuesOf ps .kind ≡ some v). not-none g (ap (λ (w : Values). w .kind) values))
-          (λ (g : valuesOf ps .vendor ≡ some v). not-none g (ap (λ (w : Values). w .vendor) values)) named)
+          (⊎-elim (λ (g : w .kind ≡ some v). not-none g (ap (λ (u : Values). u .kind) values))
+          (λ (g : w .vendor ≡ some v). not-none g (ap (λ (u : Values). u .vendor) values)) named)
+
+pub masked-silent : (i m k v : List ℕ) (ps : List Param) → WellFormed addressing m ps → valuesOf ps .mask ≡ some k
+    → (valuesOf ps .kind ≡ some v) ⊎ (valuesOf ps .vendor ≡ some v) → readOf i m ≡ Silence
+masked-silent i m k v ps f mask named =
+    let (scan, assignment) = neither-exactly (valuesOf ps) .0 (masked-neither (valuesOf ps) k v mask named) in
+    read-is i m ps f ∙ neither-meant i (valuesOf ps) scan assignment

@@ -10,8 +10,8 @@
 --   identityMatches i x == "If 1 is given": its value x is the end of the identity i
 --   anyType, anyVendor  == the wild cards of an assignment, 0xFF and 0xFF 0xFF
 --   anyOr any own v     == the value v is the wild card, or the device's own
---   kindMatches x       == "If 4 .. is given": its value x, by the device's type
---   vendorMatches i x   == "If .. 6 is given": its value x, by the vendor of the identity i
+--   kindMatches x       == "If 4 .. is given": its value x matches the device's type
+--   vendorMatches i x   == "If .. 6 is given": its value x matches the vendor of the identity i
 -- Why a device does not answer is the first that holds of ten conditions, in this order; the number of a row is its
 -- place. The first three, of the frame, stand in link/specs/Xids: 1 its size, 2 its address octet, 3 its control.
 --   malformed m         == 4: the payload m is not well formed: noParams of what is read in it
