@@ -16,7 +16,7 @@ use Rattle.refusal.specs.declared.Outcome.{Outcome}
 use Rattle.refusal.specs.declared.Handed.{Handed}
 use Rattle.refusal.specs.Answer.{Changes, stateAfter, answered, Hands}
 use Rattle.refusal.proofs.Answers.{hands-is}
-use Rattle.frame.specs.Line.{frameLimit}
+use Rattle.limits.specs.Limits.{frameLimit}
 use Rattle.frame.specs.Decode.{decoded}
 use Rattle.frame.specs.Write.{written}
 use Rattle.identity.specs.Identity.{allowedIdentity}

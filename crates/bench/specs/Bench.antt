@@ -15,7 +15,7 @@ use Prim.Native.Nat.{ℕ, _+_, _%_}
 use lib.Dec.{leb, eqb}
 use lib.ListN.{getD, take, replicate}
 use Rattle.refusal.specs.Answer.{Answer, stateAfter}
-use Rattle.frame.specs.Line.{frameLimit}
+use Rattle.limits.specs.Limits.{frameLimit}
 use Rattle.frame.specs.Decode.{decoded}
 use Rattle.frame.specs.Write.{written}
 use Rattle.record.specs.Fresh.{blankDevice}

@@ -12,7 +12,8 @@ use Rattle.octets.specs.Octets.{Octets}
 use Rattle.octets.proofs.Words.{or-parts, true-not-false}
 use Rattle.refusal.specs.Answer.{gives, answered}
 use Rattle.refusal.proofs.Answers.{in-room}
-use Rattle.frame.specs.Line.{frameLimit, frameMost, payloadMost, lineMost, inside}
+use Rattle.limits.specs.Limits.{frameLimit, frameMost, payloadMost, lineMost}
+use Rattle.frame.specs.Line.{inside}
 use Rattle.frame.specs.Decode.{decoded}
 use Rattle.frame.specs.Write.{lineOf}
 use Rattle.frame.proofs.Lengths.{line-most, write-fits}

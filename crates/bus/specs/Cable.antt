@@ -19,7 +19,8 @@ use mathlib.Core.Option.{Option, none, some}
 use Prim.Native.Nat.{ℕ}
 use lib.ListN.{getD, drop}
 use Rattle.refusal.specs.Answer.{Answer, gives, refuses}
-use Rattle.frame.specs.Line.{frameLimit, frameMost, lineMost, inside}
+use Rattle.limits.specs.Limits.{frameLimit, frameMost, lineMost}
+use Rattle.frame.specs.Line.{inside}
 use Rattle.frame.specs.Write.{written}
 use Rattle.identity.specs.Bits.{Bits}
 use Rattle.identity.specs.Identity.{padded}

@@ -6,7 +6,8 @@ use Prim.Native.Nat.{ℕ, _-_, _<_, _≤_}
 use native.Mathlib.Omega.{arith}
 use lib.ListN.{length, take, length-take}
 use Rattle.refusal.specs.Answer.{Answer, gives, refuses}
-use Rattle.frame.specs.Line.{lineMost, plain}
+use Rattle.limits.specs.Limits.{lineMost}
+use Rattle.frame.specs.Line.{plain}
 use Rattle.frame.specs.Decode.{body, decoded}
 use Rattle.frame.specs.Write.{written}
 use Rattle.frame.proofs.Exact.{decode-frame, write-line}

@@ -6,10 +6,11 @@ ghost use mathlib.Core.Path.{_≡_};
 ghost use lib.ListN.{length};
 ghost use Rattle.refusal.specs.Answer.{answerOf};
 ghost use Rattle.fcs.specs.Check.{checkOf};
-ghost use Rattle.frame.specs.Line.{frameLimit};
+ghost use Rattle.limits.specs.Limits.{frameLimit};
 ghost use Rattle.frame.specs.Decode.{decoded};
 ghost use Rattle.frame.specs.Write.{written};
 ghost use Rattle.capi.specs.Crossing.{crossed, Crosses};
+use limits::LIMIT;
 use refusal::Handed;
 
 // What a refusal's number is added to.
@@ -39,7 +40,16 @@ pub extern "C" fn gorittaem_decode(src: &[u8], out: &mut [u8]) -> usize
     ensures { λ r. ⌜ Crosses (decoded frameLimit (now (src .entry)) (length (now (out .entry))))
         (now (out .entry)) r (now (out .exit)) ⌝ }
 {
-    let answer = frame::decode(src, out);
+    gorittaem_decode_n(LIMIT, src, out)
+}
+
+// The same, with the frame limit `limit`.
+#[no_mangle]
+pub extern "C" fn gorittaem_decode_n(limit: usize, src: &[u8], out: &mut [u8]) -> usize
+    ensures { λ r. ⌜ Crosses (decoded limit (now (src .entry)) (length (now (out .entry))))
+        (now (out .entry)) r (now (out .exit)) ⌝ }
+{
+    let answer = frame::decode(limit, src, out);
     crossing(answer)
 }
 
@@ -49,6 +59,21 @@ pub extern "C" fn gorittaem_write(address: u8, control: u8, payload: &[u8], out:
     ensures { λ r. ⌜ Crosses (written frameLimit address control (now (payload .entry)) (length (now (out .entry))))
         (now (out .entry)) r (now (out .exit)) ⌝ }
 {
-    let answer = writer::write(address, control, payload, out);
+    gorittaem_write_n(LIMIT, address, control, payload, out)
+}
+
+// The same, with the frame limit `limit`.
+#[no_mangle]
+pub extern "C" fn gorittaem_write_n(
+    limit: usize,
+    address: u8,
+    control: u8,
+    payload: &[u8],
+    out: &mut [u8],
+) -> usize
+    ensures { λ r. ⌜ Crosses (written limit address control (now (payload .entry)) (length (now (out .entry))))
+        (now (out .entry)) r (now (out .exit)) ⌝ }
+{
+    let answer = writer::write(limit, address, control, payload, out);
     crossing(answer)
 }

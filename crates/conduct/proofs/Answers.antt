@@ -36,7 +36,7 @@ use Rattle.link.specs.Link.{xidBy}
 use Rattle.link.specs.Link.{judgedFrame}
 use Rattle.link.specs.Frames.{controlOf, hasAddress, Own, Everyone}
 use Rattle.link.proofs.Cases.{own-is, everyone-is}
-use Rattle.frame.specs.Line.{frameLimit, frameMost}
+use Rattle.limits.specs.Limits.{frameLimit, frameMost}
 use Rattle.conduct.specs.Conduct.{after}
 use Rattle.conduct.proofs.Addressed.{link-addressed, addressed-bounds}
 

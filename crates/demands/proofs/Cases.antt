@@ -65,7 +65,7 @@ use Rattle.link.specs.Link.{judgedFrame}
 use Rattle.conduct.specs.Conduct.{after, Meeting, frame, event, meets, run}
 use Rattle.speech.specs.Speech.{pendingOctets, linkOctets, controlBy, payloadBy, frameBy}
 use Rattle.device.specs.Judge.{reacts, judgeRows, judged, sizeOf, toldOf, frameAt, bufferAfter}
-use Rattle.frame.specs.Line.{frameLimit, frameMost}
+use Rattle.limits.specs.Limits.{frameLimit, frameMost}
 
 -- ---- who is tried
 

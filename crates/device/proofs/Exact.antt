@@ -15,7 +15,8 @@ use Rattle.refusal.specs.Numbers.{numberOf}
 use Rattle.refusal.specs.declared.Refusal.{Refusal}
 use Rattle.refusal.proofs.Exactly.{TestsFor, exactly-tests, exactly-given, answered-all}
 use Rattle.refusal.proofs.Answers.{gives-not-refuses, refuses-same, gives-same}
-use Rattle.frame.specs.Line.{frameLimit, frameMost, broken, plain}
+use Rattle.limits.specs.Limits.{frameLimit, frameMost}
+use Rattle.frame.specs.Line.{broken, plain}
 use Rattle.frame.specs.Decode.{body, rightCheck}
 use Rattle.frame.proofs.Exact.{Sized, decode-4, decode-1, decode-2, decode-3}
 use Rattle.record.specs.declared.Device.{Device}

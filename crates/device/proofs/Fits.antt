@@ -28,7 +28,7 @@ use Rattle.station.specs.declared.Say.the-variants.{Silence, Bare, Reject, Pend
 use Rattle.link.specs.Link.{judgedFrame}
 use Rattle.speech.specs.Speech.{pendingOctets, linkOctets, isSilent, controlBy, payloadBy, frameBy}
 use Rattle.conduct.proofs.Stays.{stays-allowed}
-use Rattle.frame.specs.Line.{frameLimit, frameMost}
+use Rattle.limits.specs.Limits.{frameLimit, frameMost}
 use Rattle.device.proofs.Only.{none-not-some, some-same}
 
 -- ---- what is pending has at most so many octets as a payload of the record

@@ -13,7 +13,8 @@ use Rattle.octets.proofs.Words.{true-not-false}
 use Rattle.refusal.specs.Answer.{gives, refuses, numbersOf}
 use Rattle.refusal.proofs.Exactly.{answered-all}
 use Rattle.refusal.proofs.Answers.{gives-not-refuses, refuses-same}
-use Rattle.frame.specs.Line.{frameLimit, frameMost, plain}
+use Rattle.limits.specs.Limits.{frameLimit, frameMost}
+use Rattle.frame.specs.Line.{plain}
 use Rattle.frame.specs.Decode.{body, rightCheck}
 use Rattle.frame.proofs.Exact.{Sized, decode-5, decode-frame, decode-all}
 use Rattle.record.specs.declared.Device.{Device}

@@ -20,7 +20,7 @@ use Rattle.station.specs.declared.Turn.{Turn}
 use Rattle.link.specs.Link.{judgedFrame}
 use Rattle.speech.specs.declared.Spoken.{Spoken}
 use Rattle.speech.specs.Speech.{isSilent, controlBy, payloadBy, frameBy, spokenOf}
-use Rattle.frame.specs.Line.{frameLimit, frameMost}
+use Rattle.limits.specs.Limits.{frameLimit, frameMost}
 use Rattle.device.specs.declared.Said.the-variants.{Silence, Frame, Refused}
 use Rattle.device.specs.declared.Judged.{Judged}
 use Rattle.device.specs.Judge.{Reaction, reacts, reactionOf, judgeRows, judged, heardBy, decodedHere, heard, refusalIn}

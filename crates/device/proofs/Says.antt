@@ -18,7 +18,7 @@ use Rattle.conduct.specs.Comes.{Comes, scans, assigns, left}
 use Rattle.conduct.specs.Spelt.{scanSaid, assignmentSaid, octetsSaid}
 use Rattle.conduct.proofs.Comes.{comes-leaves}
 use Rattle.conduct.proofs.Says.{frame-octets}
-use Rattle.frame.specs.Line.{frameLimit, frameMost}
+use Rattle.limits.specs.Limits.{frameLimit, frameMost}
 use Rattle.device.specs.Judge.{reacts, judged}
 use Rattle.device.proofs.Exact.{judge-answer}
 

@@ -6,7 +6,7 @@ ghost use Prim.Native.Nat.{_≤_};
 ghost use lib.ListN.{length, take};
 ghost use lib.Seq.{sets};
 ghost use Rattle.refusal.specs.Answer.{gives};
-ghost use Rattle.frame.specs.Line.{frameLimit, frameMost};
+ghost use Rattle.limits.specs.Limits.{frameLimit, frameMost};
 ghost use Rattle.device.specs.Judge.{Judges, reacts, judged, heard, refusalIn};
 use frame::FRAME_MOST;
 use record::Device;

@@ -9,7 +9,7 @@ use Rattle.octets.specs.Octets.{lowOf, highOf}
 use Rattle.octets.specs.Puts.{Puts}
 use Rattle.octets.proofs.Runs.{Run, run-all, run-one, run-two, run-some, run-done, put-back}
 use Rattle.fcs.specs.Check.{checkOf, withCheck}
-use Rattle.frame.specs.Line.{payloadMost}
+use Rattle.limits.specs.Limits.{payloadMost}
 
 pub length-withCheck : (b : List ℕ) → length (withCheck b) ≡ length b + 2
 unfolding withCheck

@@ -10,7 +10,8 @@ use lib.ListN.{length, getD, drop, drop-of-length-le, length-append, length-drop
 use Rattle.octets.specs.Puts.{Puts}
 use Rattle.octets.proofs.Rest.{rest}
 use Rattle.octets.proofs.Runs.{run-all, run-one, run-put, run-done}
-use Rattle.frame.specs.Line.{lineMost, flag, escape, toggle, special, escaped, onLine, between}
+use Rattle.limits.specs.Limits.{lineMost}
+use Rattle.frame.specs.Line.{flag, escape, toggle, special, escaped, onLine, between}
 
 pub escaped-special : (x : ℕ) → special x ≡ true → escaped x ≡ escape ∷ bitXor x toggle ∷ []
 unfolding escaped

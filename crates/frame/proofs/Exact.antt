@@ -14,7 +14,8 @@ use Rattle.refusal.specs.declared.Refusal.{Refusal}
 use Rattle.refusal.specs.declared.Handed.the-variants.{Refused}
 use Rattle.refusal.proofs.Exactly.{TestsFor, exactly-tests, exactly-given, answered-all}
 use Rattle.refusal.proofs.Answers.{refusal-told}
-use Rattle.frame.specs.Line.{payloadMost, broken, plain}
+use Rattle.limits.specs.Limits.{payloadMost}
+use Rattle.frame.specs.Line.{broken, plain}
 use Rattle.frame.specs.Decode.{body, rightCheck, decodeRows, decoded}
 use Rattle.frame.specs.Write.{lineOf, writeRows, written}
 

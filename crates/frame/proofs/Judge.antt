@@ -9,7 +9,8 @@ use Rattle.octets.specs.Octets.{pairOf}
 use Rattle.refusal.specs.Answer.{refuses, answered, handedOut}
 use Rattle.refusal.proofs.Answers.{answered-here, answered-later}
 use Rattle.fcs.specs.Check.{checkOf, withCheck}
-use Rattle.frame.specs.Line.{payloadMost, broken, plain, between}
+use Rattle.limits.specs.Limits.{payloadMost}
+use Rattle.frame.specs.Line.{broken, plain, between}
 use Rattle.frame.specs.Decode.{body, rightCheck, framed, decodeRows, decoded}
 use Rattle.frame.specs.Write.{lineOf, writeRows, written}
 

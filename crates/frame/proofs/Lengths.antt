@@ -9,7 +9,8 @@ use Rattle.octets.proofs.Words.{holds-nowhere}
 use Rattle.refusal.specs.Answer.{gives, refuses}
 use Rattle.refusal.proofs.Answers.{no-room, in-room}
 use Rattle.fcs.specs.Check.{withCheck}
-use Rattle.frame.specs.Line.{payloadMost, lineMost, flag, onLine, between}
+use Rattle.limits.specs.Limits.{payloadMost, lineMost}
+use Rattle.frame.specs.Line.{flag, onLine, between}
 use Rattle.frame.specs.Write.{lineOf, written}
 use Rattle.frame.proofs.Assembled.{length-withCheck}
 use Rattle.frame.proofs.Escapes.{length-between, onLine-short}

@@ -14,7 +14,8 @@ use Rattle.octets.specs.Octets.{holds, OneOf, lastOf}
 use Rattle.octets.proofs.Rest.{rest}
 use Rattle.octets.proofs.Words.{true-not-false, or-parts, or-none, holds-here, holds-more, holds-done, holds-exactly}
 use Rattle.octets.proofs.Words.{last-at, last-empty}
-use Rattle.frame.specs.Line.{lineMost, flag, escape, broken, plainAfter, plain}
+use Rattle.limits.specs.Limits.{lineMost}
+use Rattle.frame.specs.Line.{flag, escape, broken, plainAfter, plain}
 
 module _ (s : List ℕ) (i : ℕ) where
   pub plain-done : length s ≤ i → plain (drop i s) ≡ []

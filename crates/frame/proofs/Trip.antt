@@ -16,7 +16,8 @@ use Rattle.refusal.specs.declared.Handed.the-variants.{Octets as Handed·Octets
 use Rattle.refusal.proofs.Answers.{in-room, octets-told, hands-is}
 use Rattle.refusal.proofs.Exactly.{handed-out-told}
 use Rattle.fcs.specs.Check.{withCheck}
-use Rattle.frame.specs.Line.{payloadMost, flag, escape, broken, plainAfter, plain, special, escaped, onLine}
+use Rattle.limits.specs.Limits.{payloadMost}
+use Rattle.frame.specs.Line.{flag, escape, broken, plainAfter, plain, special, escaped, onLine}
 use Rattle.frame.specs.Line.{between, inside}
 use Rattle.frame.specs.Decode.{decoded}
 use Rattle.frame.specs.Write.{lineOf, written}

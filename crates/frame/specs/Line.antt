@@ -1,7 +1,4 @@
--- Octets on the line: 01, "Octets on the line". N, where a definition takes it, is the frame limit.
---   frameLimit   == the frame limit of 01: 78 octets of address, control, payload and check
---   frameMost N, payloadMost N, lineMost N == what follows from it: the most octets without the check (76), of a
---                   payload to be written (74), and of a line with its flags (158)
+-- Octets on the line: 01, "Octets on the line".
 --   flag, escape, toggle == 0x7E, 0x7D, and the 0x20 that an escaped octet is changed by
 --   broken s     == refusal 4 looks before anything is decoded: 0x7E inside, or 0x7D as the last octet
 --   plain s      == the decoded octets: escapes taken out
@@ -14,27 +11,11 @@ use mathlib.Core.Path.{_≡_}
 use mathlib.Core.Bool.{Bool, true, false, cond, _||_}
 use mathlib.Core.List.{List, [], _∷_, _++_}
 use mathlib.Core.Logic.{_⊎_}
-use Prim.Native.Nat.{ℕ, _+_, _-_, _*_}
+use Prim.Native.Nat.{ℕ, _-_}
 use lib.Bits.{bitXor}
 use lib.Dec.{eqb}
 use lib.ListN.{length, take, drop}
 use Rattle.octets.specs.Octets.{holds, lastOf}
-
--- "decoded octets .. more than 78"
-abbrev pub frameLimit : ℕ
-frameLimit = 78
-
--- "and two check octets"
-abbrev pub frameMost : ℕ → ℕ
-frameMost N = N - 2
-
--- "payload to be written longer than 74 octets": without address, control and check
-abbrev pub payloadMost : ℕ → ℕ
-payloadMost N = N - 4
-
--- "at most 158": each octet escaped, and two flags
-abbrev pub lineMost : ℕ → ℕ
-lineMost N = 2 * N + 2
 
 abbrev pub flag : ℕ
 flag = 0x7E

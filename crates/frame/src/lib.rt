@@ -10,8 +10,11 @@ ghost use lib.ListN.{length};
 ghost use Rattle.octets.specs.Octets.{holds, lastOf};
 ghost use Rattle.octets.specs.Puts.{Puts};
 ghost use Rattle.refusal.specs.Answer.{Hands};
-ghost use Rattle.frame.specs.Line.{flag, escape, frameLimit, broken, plain};
+ghost use Rattle.limits.specs.Limits.{frameLimit, limitMost, lineMost};
+ghost use Rattle.frame.specs.Line.{flag, escape, broken, plain};
 ghost use Rattle.frame.specs.Decode.{framed, decoded};
+use limits::LINE_MOST;
+use limits::LONGEST_LINE;
 use refusal::Handed;
 use refusal::Refusal;
 
@@ -21,16 +24,6 @@ pub const FLAG: u8 = 0x7E;
 pub const ESCAPE: u8 = 0x7D;
 
 pub const TOGGLE: u8 = 0x20;
-
-// The frame limit: the most octets of address, control, payload and check.
-pub const LIMIT: usize = 78;
-
-// What follows from it: the most octets without the check, of a payload to be written, and of a line with its flags.
-pub const FRAME_MOST: usize = LIMIT - 2;
-
-pub const PAYLOAD_MOST: usize = LIMIT - 4;
-
-pub const LINE_MOST: usize = 2 * LIMIT + 2;
 
 // Whether the last octet is an escape.
 fn ends_escaped(s: &[u8]) -> bool
@@ -89,14 +82,16 @@ fn unescape(s: &[u8], store: &mut [u8]) -> usize
 }
 
 // Judges the decoded octets `d`, and hands address, control and payload out.
-fn deliver(d: &[u8], out: &mut [u8]) -> Handed
-    requires { ⌜ length (now d) ≤ frameLimit ⌝ }
-    ensures { λ r. ⌜ Hands (framed frameLimit (now (d .entry)) (length (now (out .entry))))
+fn deliver(limit: usize, d: &[u8], out: &mut [u8]) -> Handed
+    ensures { λ r. ⌜ Hands (framed limit (now (d .entry)) (length (now (out .entry))))
         (now (out .entry)) r (now (out .exit)) ⌝ }
 {
     let n = d.len();
     if n < 4 {
         return Handed::Refused(Refusal::TooShort);
+    }
+    if limit < n {
+        return Handed::Refused(Refusal::TooLong);
     }
     let len = n - 2;
     let check = fcs::check(&d[..len]);
@@ -107,22 +102,54 @@ fn deliver(d: &[u8], out: &mut [u8]) -> Handed
     refusal::hand_out(&d[..len], out)
 }
 
-// Decodes what lies between two flags: address, control and payload to the start of `out`. More octets than a line has
-// stand for more than the limit, so that the store has room for what is left, and no octet asks for it.
-pub fn decode(src: &[u8], out: &mut [u8]) -> Handed
-    ensures { λ r. ⌜ Hands (decoded frameLimit (now (src .entry)) (length (now (out .entry))))
+// Takes the escapes out of a line that is whole, into a store that has room for it, and judges what is left.
+fn by_store(limit: usize, src: &[u8], store: &mut [u8], out: &mut [u8]) -> Handed
+    requires { ⌜ (length (now src) ≤ length (now store)) × (eqb (lastOf 0 (now src)) escape ≡ false) ⌝ }
+    ensures { λ r. ⌜ Hands (framed limit (plain (now (src .entry))) (length (now (out .entry))))
         (now (out .entry)) r (now (out .exit)) ⌝ }
 {
+    let n = unescape(src, store);
+    deliver(limit, &store[..n], out)
+}
+
+// A line as long as one of the least limit can be: a small store, which is soon set to zero.
+fn decode_short(limit: usize, src: &[u8], out: &mut [u8]) -> Handed
+    requires { ⌜ (length (now src) ≤ lineMost frameLimit) × (eqb (lastOf 0 (now src)) escape ≡ false) ⌝ }
+    ensures { λ r. ⌜ Hands (framed limit (plain (now (src .entry))) (length (now (out .entry))))
+        (now (out .entry)) r (now (out .exit)) ⌝ }
+{
+    let mut store = [0u8; LINE_MOST];
+    by_store(limit, src, &mut store, out)
+}
+
+// A longer one.
+fn decode_long(limit: usize, src: &[u8], out: &mut [u8]) -> Handed
+    requires { ⌜ (length (now src) ≤ lineMost limitMost) × (eqb (lastOf 0 (now src)) escape ≡ false) ⌝ }
+    ensures { λ r. ⌜ Hands (framed limit (plain (now (src .entry))) (length (now (out .entry))))
+        (now (out .entry)) r (now (out .exit)) ⌝ }
+{
+    let mut store = [0u8; LONGEST_LINE];
+    by_store(limit, src, &mut store, out)
+}
+
+// Decodes what lies between two flags, with the frame limit `limit`: address, control and payload to the start of `out`.
+// More octets than a line has stand for more than the limit, so that a store has room for what is left, and no octet asks
+// for it.
+pub fn decode(limit: usize, src: &[u8], out: &mut [u8]) -> Handed
+    ensures { λ r. ⌜ Hands (decoded limit (now (src .entry)) (length (now (out .entry))))
+        (now (out .entry)) r (now (out .exit)) ⌝ }
+{
+    if !limits::is_limit(limit) {
+        return Handed::Refused(Refusal::NotAllowed);
+    }
     if is_broken(src) {
         return Handed::Refused(Refusal::Broken);
     }
-    if LINE_MOST < src.len() {
+    if 2 * limit + 2 < src.len() {
         return Handed::Refused(Refusal::TooLong);
     }
-    let mut store = [0u8; LINE_MOST];
-    let n = unescape(src, &mut store);
-    if LIMIT < n {
-        return Handed::Refused(Refusal::TooLong);
+    if src.len() <= LINE_MOST {
+        return decode_short(limit, src, out);
     }
-    deliver(&store[..n], out)
+    decode_long(limit, src, out)
 }

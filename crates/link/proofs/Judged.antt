@@ -8,7 +8,7 @@ use Prim.Native.Nat.{ℕ, _-_, _<_, _≤_}
 use borrow.Author.Tests.{lt-ltb, le-ltb, ltb-true, ltb-false}
 use lib.Dec.{ltb}
 use lib.ListN.{length, getD, take, drop}
-use Rattle.frame.specs.Line.{frameLimit, frameMost}
+use Rattle.limits.specs.Limits.{frameLimit, frameMost}
 use Rattle.octets.proofs.Takes.{take-rest}
 use Rattle.octets.proofs.Words.{true-not-false}
 use Rattle.record.specs.declared.Device.{Device}

@@ -15,7 +15,7 @@ use mathlib.Core.Option.{Option, none, some}
 use Prim.Native.Nat.{ℕ, _≤_}
 use lib.Dec.{eqb}
 use lib.ListN.{length, getD, drop}
-use Rattle.frame.specs.Line.{frameLimit, frameMost}
+use Rattle.limits.specs.Limits.{frameLimit, frameMost}
 use Rattle.refusal.specs.Answer.{Given}
 use Rattle.control.specs.Control.{polled, xidControl, askedBy}
 use Rattle.control.specs.declared.Order.{Order}

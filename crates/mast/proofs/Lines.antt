@@ -13,7 +13,8 @@ use Rattle.refusal.specs.declared.Handed.{Handed}
 use Rattle.refusal.specs.declared.Handed.the-variants.{Octets, Refused}
 use Rattle.refusal.specs.Answer.{Answer, gives, refuses, answerOf, counted, outAfter, Hands}
 use Rattle.refusal.proofs.Answers.{gives-not-refuses, gives-same, octets-told, in-room}
-use Rattle.frame.specs.Line.{frameLimit, frameMost, lineMost, inside}
+use Rattle.limits.specs.Limits.{frameLimit, frameMost, lineMost}
+use Rattle.frame.specs.Line.{inside}
 use Rattle.frame.specs.Write.{written}
 use Rattle.record.specs.declared.Device.{Device}
 use Rattle.device.specs.declared.Said.{Said}

@@ -9,7 +9,7 @@ use lib.ListN.{length, set, take, replicate, length-take, length-replicate}
 use lib.Seq.{sets}
 use Rattle.octets.specs.Octets.{_atStartOf_}
 use Rattle.octets.proofs.Stores.{sets-start}
-use Rattle.frame.specs.Line.{frameLimit, frameMost}
+use Rattle.limits.specs.Limits.{frameLimit, frameMost}
 use Rattle.record.specs.declared.Pending.{Pending}
 use Rattle.record.specs.declared.Pending.the-variants.{Indication}
 use Rattle.record.specs.declared.Desk.{Desk}

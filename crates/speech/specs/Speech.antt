@@ -10,7 +10,7 @@ use mathlib.Core.Option.{Option, none, some}
 use Prim.Native.Nat.{ℕ}
 use lib.ListN.{length, take, replicate}
 use Rattle.octets.specs.Octets.{_atStartOf_}
-use Rattle.frame.specs.Line.{frameLimit, frameMost}
+use Rattle.limits.specs.Limits.{frameLimit, frameMost}
 use Rattle.control.specs.Control.{xidControl}
 use Rattle.record.specs.declared.Pending.{Pending}
 use Rattle.record.specs.declared.Pending.the-variants.{Nothing, Answer, Indication}

@@ -6,7 +6,7 @@ ghost use mathlib.Core.List.{[], _∷_};
 ghost use mathlib.Core.Option.{some};
 ghost use Prim.Native.Nat.{_≤_};
 ghost use lib.ListN.{take};
-ghost use Rattle.frame.specs.Line.{frameLimit, frameMost};
+ghost use Rattle.limits.specs.Limits.{frameLimit, frameMost};
 ghost use Rattle.speech.specs.Speech.{octetsHeld, pendingOctets, linkOctets, isSilent, controlBy, payloadBy};
 ghost use Rattle.speech.specs.Speech.{frameBy, spokenOf};
 use frame::FRAME_MOST;

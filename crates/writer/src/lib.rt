@@ -2,18 +2,22 @@
 // Headline: what `write` wrote is the line that frame/specs/Write.antt says, or a refusal changes nothing; what lies
 // between its flags decodes to what was put in (frame/proofs/Trip.antt). Assumes nothing of its caller.
 ghost use mathlib.Core.Path.{_≡_};
+ghost use mathlib.Core.List.{_∷_};
 ghost use Prim.Native.Nat.{_+_, _-_, _*_, _≤_};
 ghost use lib.ListN.{length, drop};
 ghost use Rattle.octets.specs.Puts.{Puts};
-ghost use Rattle.refusal.specs.Answer.{Hands};
-ghost use Rattle.frame.specs.Line.{frameLimit, special, escaped, onLine, between};
-ghost use Rattle.frame.specs.Write.{frameOf, written};
+ghost use Rattle.refusal.specs.Answer.{Hands, handedOut};
+ghost use Rattle.limits.specs.Limits.{frameLimit, limitMost, payloadMost};
+ghost use Rattle.frame.specs.Line.{special, escaped, onLine, between};
+ghost use Rattle.frame.specs.Write.{frameOf, lineOf, written};
 use frame::ESCAPE;
 use frame::FLAG;
-use frame::LIMIT;
-use frame::LINE_MOST;
-use frame::PAYLOAD_MOST;
 use frame::TOGGLE;
+use limits::LIMIT;
+use limits::LIMIT_MOST;
+use limits::LINE_MOST;
+use limits::LONGEST_LINE;
+use limits::PAYLOAD_MOST;
 use refusal::Handed;
 use refusal::Refusal;
 
@@ -90,17 +94,59 @@ fn assemble(address: u8, control: u8, payload: &[u8], d: &mut [u8]) -> usize
     n + 2
 }
 
-// Writes flag, frame, flag to the start of `out`.
-pub fn write(address: u8, control: u8, payload: &[u8], out: &mut [u8]) -> Handed
-    ensures { λ r. ⌜ Hands (written frameLimit address control (now (payload .entry)) (length (now (out .entry))))
+// Puts a frame together in `d`, its line in `line`, and hands that out.
+fn by_stores(
+    address: u8,
+    control: u8,
+    payload: &[u8],
+    d: &mut [u8],
+    line: &mut [u8],
+    out: &mut [u8],
+) -> Handed
+    requires { ⌜ (length (now payload) + 4 ≤ length (now d)) × (2 * length (now payload) + 10 ≤ length (now line)) ⌝ }
+    ensures { λ r. ⌜ Hands (handedOut (lineOf (address ∷ control ∷ now (payload .entry))) (length (now (out .entry))))
         (now (out .entry)) r (now (out .exit)) ⌝ }
 {
-    if PAYLOAD_MOST < payload.len() {
+    let n = assemble(address, control, payload, d);
+    let len = put_between(&d[..n], line);
+    refusal::hand_out(&line[..len], out)
+}
+
+// A payload that the least limit has room for: small stores, which are soon set to zero.
+fn write_short(address: u8, control: u8, payload: &[u8], out: &mut [u8]) -> Handed
+    requires { ⌜ length (now payload) ≤ payloadMost frameLimit ⌝ }
+    ensures { λ r. ⌜ Hands (handedOut (lineOf (address ∷ control ∷ now (payload .entry))) (length (now (out .entry))))
+        (now (out .entry)) r (now (out .exit)) ⌝ }
+{
+    let mut d = [0u8; LIMIT];
+    let mut line = [0u8; LINE_MOST];
+    by_stores(address, control, payload, &mut d, &mut line, out)
+}
+
+// A longer one.
+fn write_long(address: u8, control: u8, payload: &[u8], out: &mut [u8]) -> Handed
+    requires { ⌜ length (now payload) ≤ payloadMost limitMost ⌝ }
+    ensures { λ r. ⌜ Hands (handedOut (lineOf (address ∷ control ∷ now (payload .entry))) (length (now (out .entry))))
+        (now (out .entry)) r (now (out .exit)) ⌝ }
+{
+    let mut d = [0u8; LIMIT_MOST];
+    let mut line = [0u8; LONGEST_LINE];
+    by_stores(address, control, payload, &mut d, &mut line, out)
+}
+
+// Writes flag, frame, flag to the start of `out`, with the frame limit `limit`.
+pub fn write(limit: usize, address: u8, control: u8, payload: &[u8], out: &mut [u8]) -> Handed
+    ensures { λ r. ⌜ Hands (written limit address control (now (payload .entry)) (length (now (out .entry))))
+        (now (out .entry)) r (now (out .exit)) ⌝ }
+{
+    if !limits::is_limit(limit) {
+        return Handed::Refused(Refusal::NotAllowed);
+    }
+    if limit - 4 < payload.len() {
         return Handed::Refused(Refusal::PayloadTooLong);
     }
-    let mut d = [0u8; LIMIT];
-    let n = assemble(address, control, payload, &mut d);
-    let mut line = [0u8; LINE_MOST];
-    let len = put_between(&d[..n], &mut line);
-    refusal::hand_out(&line[..len], out)
+    if payload.len() <= PAYLOAD_MOST {
+        return write_short(address, control, payload, out);
+    }
+    write_long(address, control, payload, out)
 }

@@ -7,7 +7,8 @@ use lib.ListN.{length, length-take}
 use Rattle.octets.proofs.Runs.{put-back}
 use Rattle.refusal.specs.declared.Refusal.the-variants.{Broken, TooLong}
 use Rattle.refusal.proofs.Answers.{refused, hands-is}
-use Rattle.frame.specs.Line.{frameLimit, plain}
+use Rattle.limits.specs.Limits.{frameLimit}
+use Rattle.frame.specs.Line.{plain}
 use Rattle.frame.proofs.Judge.{when-broken, when-long, when-stored}
 use Rattle.frame.proofs.Lines.{unbroken-parts, overlong}
 use Rattle.frame.proofs.decode.Statement.{statement}

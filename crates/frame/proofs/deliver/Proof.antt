@@ -5,7 +5,7 @@ use mathlib.Core.Path.{sym}
 use Rattle.refusal.specs.declared.Refusal.the-variants.{TooShort, WrongCheck}
 use Rattle.refusal.proofs.Answers.{refused, hands-is}
 use Rattle.frame.specs.Decode.{body}
-use Rattle.frame.specs.Line.{frameLimit}
+use Rattle.limits.specs.Limits.{frameLimit}
 use Rattle.frame.proofs.Judge.{short, wrong, right, check-differs, check-agrees}
 use borrow.Author.Needs.{needs}
 use Rattle.frame.proofs.deliver.Statement.{statement}

@@ -4,7 +4,7 @@ use native.Mathlib.Omega.{arith}
 use lib.ListN.{length-take}
 use Rattle.refusal.specs.declared.Refusal.the-variants.{PayloadTooLong}
 use Rattle.refusal.proofs.Answers.{refused, hands-is}
-use Rattle.frame.specs.Line.{frameLimit}
+use Rattle.limits.specs.Limits.{frameLimit}
 use Rattle.frame.proofs.Assembled.{assembled-short}
 use Rattle.octets.proofs.Runs.{put-back}
 use Rattle.frame.proofs.Escapes.{between-short}

@@ -1,0 +1,33 @@
+// The frame limit N, the most octets of address, control, payload and check: 78, and up to 260 by negotiation; and what
+// follows from it. Assumes nothing of its caller: any number may be handed in.
+ghost use mathlib.Core.Path.{_≡_};
+ghost use Rattle.limits.specs.Limits.{isLimit, frameMost};
+
+// The limit where none was negotiated, which is the least one.
+pub const LIMIT: usize = 78;
+
+// The largest.
+pub const LIMIT_MOST: usize = 260;
+
+// What follows from them: the most octets of a payload, of a frame without its check, and of a line with its flags.
+pub const PAYLOAD_MOST: usize = LIMIT - 4;
+
+pub const LINE_MOST: usize = 2 * LIMIT + 2;
+
+pub const LONGEST_FRAME: usize = LIMIT_MOST - 2;
+
+pub const LONGEST_LINE: usize = 2 * LIMIT_MOST + 2;
+
+// Whether a number is a frame limit: 78 to 260.
+pub fn is_limit(n: usize) -> bool
+    ensures { λ r. ⌜ r ≡ isLimit n ⌝ }
+{
+    if n < LIMIT { false } else { n <= LIMIT_MOST }
+}
+
+// The most octets of a frame without its check.
+pub fn frame_most(limit: usize) -> usize
+    ensures { λ r. ⌜ r ≡ frameMost limit ⌝ }
+{
+    if limit < 2 { 0 } else { limit - 2 }
+}
