@@ -1,10 +1,19 @@
--- The payloads of the answers. 01, "XID: scan and assignment". i are the octets of the identity, unpadded.
+-- The payloads of the answers. 01, "XID: scan and assignment", and 02 (iv). i are the octets of the identity, unpadded.
 --   scanParams i a     == the parameters of the answer to a scan, from the address a; scanAnswer i a == its payload
 --   assignmentParams i == those of the answer to an assignment; assignmentAnswer i == its payload
---   opening k          == the three octets before the triples, with the length k
+--   ifAsked b p ps     == the parameter p, where it was asked, in front of ps
+--   lengthValue N      == the I-field length of the frame limit N, in bits, as two octets; windowValue == a window of 1
+--   negotiationParams a N == the parameters of the answer to a negotiation that asked a, with the frame limit N;
+--                         negotiationAnswer a N == its payload
+--   opening o k        == the three octets before the triples, of the group's octet o, with the length k
 -- Assumes nothing.
+use mathlib.Core.Bool.{Bool, cond}
 use mathlib.Core.List.{List, [], _∷_}
-use Prim.Native.Nat.{ℕ}
+use Prim.Native.Nat.{ℕ, _*_}
+use Rattle.octets.specs.Octets.{lowOf, highOf}
+use Rattle.limits.specs.Limits.{payloadMost}
+use Rattle.negotiation.specs.declared.Asked.{Asked}
+use Rattle.negotiation.specs.Negotiation.{sentId, receivedId, sendingId, receivingId, negotiating}
 use Rattle.params.specs.Field.{Param, _is_, format, xidPayload}
 use Rattle.xid.specs.Addressing.{identityId, addressId, kindId, addressing}
 use Rattle.xid.specs.Match.{deviceType}
@@ -24,5 +33,27 @@ scanAnswer i a = xidPayload addressing (scanParams i a)
 unfoldable pub assignmentAnswer : List ℕ → List ℕ
 assignmentAnswer i = xidPayload addressing (assignmentParams i)
 
-abbrev pub opening : ℕ → List ℕ
-opening k = format ∷ addressing .octet ∷ k ∷ []
+unfoldable pub ifAsked : Bool → Param → List Param → List Param
+ifAsked asked p ps = cond asked (p ∷ ps) ps
+
+-- the device's own limit, without address, control and check, in bits: two octets, highest first
+unfoldable pub lengthValue : ℕ → List ℕ
+lengthValue N = highOf (payloadMost N * 8) ∷ lowOf (payloadMost N * 8) ∷ []
+
+-- "windows are answered 1"
+abbrev pub windowValue : List ℕ
+windowValue = 1 ∷ []
+
+-- each identifier that was asked, ascending
+unfoldable pub negotiationParams : Asked → ℕ → List Param
+negotiationParams a N =
+    ifAsked (a .sent) (sentId is lengthValue N)
+    (ifAsked (a .received) (receivedId is lengthValue N)
+    (ifAsked (a .sending) (sendingId is windowValue) (ifAsked (a .receiving) (receivingId is windowValue) [])))
+
+-- "the device answers with its own limit where that is lower"
+unfoldable pub negotiationAnswer : Asked → ℕ → List ℕ
+negotiationAnswer a N = xidPayload negotiating (negotiationParams a N)
+
+abbrev pub opening : ℕ → ℕ → List ℕ
+opening octet k = format ∷ octet ∷ k ∷ []

@@ -1,0 +1,2 @@
+-- What the other crates cite of a negotiation.
+pub mod Negotiation

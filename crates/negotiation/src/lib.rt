@@ -1,0 +1,145 @@
+// Longer frames by negotiation: what the payload of an XID frame to the own address asks of the link, whose frame limit
+// is `limit`. Headline: the limit agreed is the whole octets in the smaller length asked and 4 more, 78 to 260, exactly;
+// none asked keeps it (proofs/Exactly.antt). Assumes nothing of its caller: any octets, any limit.
+ghost use mathlib.Core.Path.{_≡_};
+ghost use Prim.Native.Nat.{_*_, min};
+ghost use Rattle.limits.specs.Limits.{limitMost, payloadMost};
+ghost use Rattle.params.specs.Walk.{partIn, valueAt};
+ghost use Rattle.negotiation.specs.Negotiation.{negotiating, bitsIn, smallerOf, limitFor, limitAsked, offerOf};
+use limits::LIMIT;
+use limits::LIMIT_MOST;
+use params::Group;
+use params::Identifier;
+use params::Part;
+use params::Slot;
+
+// The octet of the group of a negotiation, and its identifiers: I-field lengths and windows, sent and received.
+pub const NEGOTIATING: u8 = 0x80;
+
+pub const SENT_ID: u8 = 5;
+
+pub const RECEIVED_ID: u8 = 6;
+
+pub const SENDING_ID: u8 = 7;
+
+pub const RECEIVING_ID: u8 = 8;
+
+// Which identifiers a negotiation asks: the lengths sent and received, the windows of sending and receiving.
+pub struct Asked {
+    pub sent: bool,
+    pub received: bool,
+    pub sending: bool,
+    pub receiving: bool,
+}
+
+// What a payload comes to: no negotiation; or the frame limit from now on, and what was asked.
+pub enum Offer {
+    Malformed,
+    Agreed { limit: usize, asked: Asked },
+}
+
+// The group of a negotiation: its identifiers, and how many octets each may have.
+fn negotiating() -> Group
+    ensures { λ r. ⌜ r ≡ negotiating ⌝ }
+{
+    let table = [
+        Identifier {
+            id: SENT_ID,
+            least: 1,
+            most: 4,
+        },
+        Identifier {
+            id: RECEIVED_ID,
+            least: 1,
+            most: 4,
+        },
+        Identifier {
+            id: SENDING_ID,
+            least: 1,
+            most: 1,
+        },
+        Identifier {
+            id: RECEIVING_ID,
+            least: 1,
+            most: 1,
+        },
+        Identifier {
+            id: 0,
+            least: 1,
+            most: 0,
+        },
+    ];
+    Group {
+        octet: NEGOTIATING,
+        table,
+    }
+}
+
+// More bits than any frame has: from there on it does not matter how many.
+const BITS_MOST: usize = 8 * (LIMIT_MOST - 4);
+
+// The number that octets stand for, highest first; past the most bits, some number past them.
+fn bits_in(v: &[u8]) -> usize
+    ensures { λ r. ⌜ min r (payloadMost limitMost * 8) ≡ min (bitsIn (now (v .entry))) (payloadMost limitMost * 8) ⌝ }
+{
+    let mut n = 0;
+    let mut i = 0;
+    while i < v.len() {
+        if BITS_MOST < n {
+            return n;
+        }
+        n = n * 256 + octets::wide(v[i]);
+        i += 1;
+    }
+    n
+}
+
+// The frame limit that a length asks for.
+fn limit_for(bits: usize) -> usize
+    ensures { λ r. ⌜ r ≡ limitFor bits ⌝ }
+{
+    let whole = bits / 8;
+    if whole < LIMIT - 4 {
+        return LIMIT;
+    }
+    if LIMIT_MOST - 4 < whole {
+        return LIMIT_MOST;
+    }
+    whole + 4
+}
+
+// The frame limit after `limit` where these lengths are asked.
+fn limit_asked(payload: &[u8], limit: usize, sent: Part, received: Part) -> usize
+    ensures { λ r. ⌜ r ≡ limitAsked limit (smallerOf (valueAt (now (payload .entry)) sent)
+        (valueAt (now (payload .entry)) received)) ⌝ }
+{
+    match sent {
+        Part::Absent => {
+            match received {
+                Part::Absent => limit,
+                Part::At { from, len } => limit_for(bits_in(params::value_at(payload, from, len))),
+            }
+        }
+        Part::At { from, len } => {
+            let bits = bits_in(params::value_at(payload, from, len));
+            match received {
+                Part::Absent => limit_for(bits),
+                Part::At { from: start, len: count } => {
+                    let more = bits_in(params::value_at(payload, start, count));
+                    limit_for(octets::fewer(bits, more))
+                }
+            }
+        }
+    }
+}
+
+// What the payload of an XID frame to the own address asks of a link with the frame limit `limit`.
+pub fn read(limit: usize, payload: &[u8]) -> Offer
+    ensures { λ r. ⌜ r ≡ offerOf limit (now (payload .entry)) ⌝ }
+{
+    let found = params::walk(payload, negotiating());
+    if found.formed {
+        return agreed(limit, payload, found.parts);
+    }
+    Offer::Malformed
+}
