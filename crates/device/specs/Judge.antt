@@ -2,7 +2,7 @@
 --   Reaction          == the device after a frame, and the frame that it says, if any
 --   reacts d x        == the device d, saying x; reactionOf t == what comes of the turn t
 --   judged d f room   == the decoded frame f, judged by the device d, with an answer buffer of so many octets
---   decodedHere line  == the octets between two flags, decoded by the device
+--   decodedHere d line == the octets between two flags, decoded by the device d
 --   heard d line room == the octets between two flags, decoded and then judged
 --   saidOf x          == the number, silence, or how many octets, for each case of the code's answer
 --   Judges x d o r o' == the code's result r, and the buffer o' that was o, are the answer x of the device d
@@ -20,10 +20,10 @@ use Rattle.refusal.specs.declared.Refusal.the-variants.{NoRoom}
 use Rattle.refusal.specs.declared.Handed.{Handed}
 use Rattle.refusal.specs.Numbers.{numberOf}
 use Rattle.refusal.specs.Answer.{Answer, gives, refuses, TestRow, _when_, answered}
-use Rattle.limits.specs.Limits.{frameLimit, frameMost}
+use Rattle.limits.specs.Limits.{limitMost, frameMost}
 use Rattle.frame.specs.Decode.{decoded}
 use Rattle.record.specs.declared.Device.{Device}
-use Rattle.record.specs.Allowed.{allowedDevice}
+use Rattle.record.specs.Allowed.{limitOf, allowedDevice}
 use Rattle.station.specs.declared.Say.{Say}
 use Rattle.station.specs.declared.Turn.{Turn}
 use Rattle.link.specs.Link.{judgedFrame}
@@ -42,9 +42,9 @@ reacts d x = record { device = d; frame = frameBy d x }
 abbrev pub reactionOf : Turn → Reaction
 reactionOf t = reacts (t .device) (t .say)
 
--- "the device 6, then 5 for a frame": "an answer buffer shorter than 76 gives refusal 5 first"
+-- "the device 6, then 5 for a frame": "an answer buffer shorter than 76 gives refusal 5 first", and N - 2 for 76
 unfoldable pub judgeRows : Device → ℕ → List TestRow
-judgeRows d room = 6 when not (allowedDevice d) ∷ 5 when ltb room (frameMost frameLimit) ∷ []
+judgeRows d room = 6 when not (allowedDevice d) ∷ 5 when ltb room (frameMost (limitOf d)) ∷ []
 
 unfoldable pub judged : Device → List ℕ → ℕ → Answer Reaction
 judged d f room = answered (judgeRows d room) (reactionOf (judgedFrame d f))
@@ -54,12 +54,13 @@ unfoldable pub heardBy : Device → ℕ → Answer (List ℕ) → Answer Reactio
 heardBy d room (refuses k) = refuses k
 heardBy d room (gives f) = judged d f room
 
--- decoded into a buffer of its own, with room for every frame
-abbrev pub decodedHere : List ℕ → Answer (List ℕ)
-decodedHere line = decoded frameLimit line (frameMost frameLimit)
+-- with the frame limit of its link, into a buffer of its own, with room for every frame; a limit that is none is the
+-- decoder's 6
+abbrev pub decodedHere : Device → List ℕ → Answer (List ℕ)
+decodedHere d line = decoded (limitOf d) line (frameMost limitMost)
 
 unfoldable pub heard : Device → List ℕ → ℕ → Answer Reaction
-heard d line room = heardBy d room (decodedHere line)
+heard d line room = heardBy d room (decodedHere d line)
 
 -- ---- the code's answers
 

@@ -6,12 +6,13 @@ ghost use Prim.Native.Nat.{_≤_};
 ghost use lib.ListN.{length, take};
 ghost use lib.Seq.{sets};
 ghost use Rattle.refusal.specs.Answer.{gives};
-ghost use Rattle.limits.specs.Limits.{frameLimit, frameMost};
+ghost use Rattle.speech.specs.Speech.{spokenMost};
 ghost use Rattle.device.specs.Judge.{Judges, reacts, judged, heard, refusalIn};
-use frame::FRAME_MOST;
+use limits::LONGEST_FRAME;
 use record::Device;
 use refusal::Handed;
 use refusal::Refusal;
+use speech::SPOKEN_MOST;
 use station::Say;
 
 // Nothing is said; so many octets stand at the start of the answer buffer; or the number for "no".
@@ -26,8 +27,8 @@ pub struct Judged {
     pub device: Device,
 }
 
-fn hand_over(octets: [u8; FRAME_MOST], len: usize, answer: &mut [u8])
-    requires { ⌜ len ≤ frameMost frameLimit ⌝ }
+fn hand_over(octets: [u8; SPOKEN_MOST], len: usize, answer: &mut [u8])
+    requires { ⌜ len ≤ spokenMost ⌝ }
     ensures { λ _. ⌜ now (answer .exit) ≡ sets (now (answer .entry)) 0 (take len octets) ⌝ }
 {
     octets::put_all(answer, 0, &octets[..len]);
@@ -35,7 +36,7 @@ fn hand_over(octets: [u8; FRAME_MOST], len: usize, answer: &mut [u8])
 
 // What is said goes to the start of the answer buffer.
 fn utter(device: Device, say: Say, answer: &mut [u8]) -> Judged
-    requires { ⌜ frameMost frameLimit ≤ length (now answer) ⌝ }
+    requires { ⌜ spokenMost ≤ length (now answer) ⌝ }
     ensures { λ r. ⌜ Judges (gives (reacts device say)) device (now (answer .entry)) r (now (answer .exit)) ⌝ }
 {
     let spoken = speech::speak(device, say);
@@ -58,8 +59,10 @@ pub fn judge(device: Device, frame: &[u8], answer: &mut [u8]) -> Judged
     ensures { λ r. ⌜ Judges (judged device (now (frame .entry)) (length (now (answer .entry)))) device
         (now (answer .entry)) r (now (answer .exit)) ⌝ }
 {
+    let station = device.station;
+    let desk = station.desk;
     if record::allowed(device) {
-        if answer.len() < FRAME_MOST {
+        if answer.len() < limits::frame_most(desk.limit) {
             return Judged {
                 said: Said::Refused(Refusal::NoRoom),
                 device,
@@ -86,13 +89,15 @@ fn refusal_in(handed: Handed) -> Refusal
     }
 }
 
-// What lies between two flags, heard: decoded into a buffer of its own, then judged.
+// What lies between two flags, heard: decoded with the link's frame limit into a buffer of its own, then judged.
 pub fn hear(device: Device, line: &[u8], answer: &mut [u8]) -> Judged
     ensures { λ r. ⌜ Judges (heard device (now (line .entry)) (length (now (answer .entry)))) device
         (now (answer .entry)) r (now (answer .exit)) ⌝ }
 {
-    let mut store = [0u8; FRAME_MOST];
-    let handed = frame::decode(line, &mut store);
+    let station = device.station;
+    let desk = station.desk;
+    let mut store = [0u8; LONGEST_FRAME];
+    let handed = frame::decode(desk.limit, line, &mut store);
     let Handed::Octets(n) = handed else {
         return Judged {
             said: Said::Refused(refusal_in(handed)),

@@ -3,7 +3,7 @@
 // Headline: an allowed record stays allowed at a session's end (record/proofs/Stays.antt).
 ghost use mathlib.Core.Path.{_≡_};
 ghost use Rattle.antenna.specs.Motions.{unowedOf};
-ghost use Rattle.record.specs.Changes.{unsaidAt, endedAs};
+ghost use Rattle.record.specs.Changes.{unsaidAt, emptiedAs};
 use antenna::Antenna;
 use antenna::Motion;
 use record::Device;
@@ -22,22 +22,23 @@ fn unowed(motion: Motion) -> Motion
     }
 }
 
-// The station at an address and in a link state, with nothing pending.
-fn unsaid(station: Station, address: u8, link: Link) -> Station
-    ensures { λ r. ⌜ r ≡ unsaidAt station address link ⌝ }
+// The station at an address, with a frame limit and in a link state, with nothing pending.
+fn unsaid(station: Station, address: u8, limit: usize, link: Link) -> Station
+    ensures { λ r. ⌜ r ≡ unsaidAt station address limit link ⌝ }
 {
     let mut desk = station.desk;
     let said = antenna::CALM;
     let reply = record::NO_REPLY;
     desk.address = address;
+    desk.limit = limit;
     desk.said = said;
     desk.reply = reply;
     Station { link, desk }
 }
 
-// The device after its session's end, at an address and in a link state: what was pending or owed is dropped.
-pub fn ended(device: Device, address: u8, link: Link) -> Device
-    ensures { λ r. ⌜ r ≡ endedAs device address link ⌝ }
+// The device at an address, with a frame limit and in a link state: what was pending or owed is dropped.
+pub fn emptied(device: Device, address: u8, limit: usize, link: Link) -> Device
+    ensures { λ r. ⌜ r ≡ emptiedAs device address limit link ⌝ }
 {
     let plate = device.plate;
     let station = device.station;
@@ -46,7 +47,7 @@ pub fn ended(device: Device, address: u8, link: Link) -> Device
     let drive = antenna.drive;
     Device {
         plate,
-        station: unsaid(station, address, link),
+        station: unsaid(station, address, limit, link),
         antenna: Antenna {
             motion: unowed(motion),
             drive,

@@ -1,37 +1,68 @@
 -- Why a device does not answer an XID frame: the first that holds of ten conditions, by the law of rows that the numbers
 -- for "no" have (refusal/specs/Answer); these are not those numbers. The conditions are 01's, "The link" and "XID: scan and
--- assignment"; their order, and so the number of a row, is that of (viii) in 02.
---   wrongAddress f == 2: the address octet of the frame f is not that of all stations
---   wrongControl f == 3: the control of f is not that of an XID
---   xidRows i f    == the ten rows of f, for a device with the identity i
---   xidAnswer i f  == scan, assignment, or the number of the first row that holds
---   xidMeans i f   == what f means to the device: a number is silence
--- 1, `wrongSize`, stands in specs/Link; 4 to 10, of the payload, in xid/specs/Match. Assumes nothing.
-use mathlib.Core.Bool.{Bool, not}
-use mathlib.Core.List.{List, _∷_}
+-- assignment", and 02 (iv)'s; their order, and so the number of a row, is that of (viii) in 02.
+--   toAll f          == the address octet of the frame f is that of all stations
+--   negotiates d f   == it is the own one of the device d, where a negotiation is answered
+--   wrongAddress d f == 2: it is neither
+--   wrongControl f   == 3: the control of f is not that of an XID
+--   malformedOffer m == 4, at the own address: the payload m is no well-formed negotiation
+--   addressRows d f  == the rows of the payload, by the address octet: 4 to 10 to all stations, 4 at the own address
+--   xidRows d f      == the ten rows of f, for the device d
+--   xidTurn d f      == what comes of f where no row holds: a scan or an assignment to all stations, else a negotiation
+--   xidAnswer d f    == that, or the number of the first row that holds
+--   orMute d x       == a number is silence
+-- 1, `wrongSize`, stands in specs/Link; 4 to 10, to all stations, in xid/specs/Match. Assumes nothing.
+use mathlib.Core.Bool.{Bool, cond, not, _&&_, _||_}
+use mathlib.Core.List.{List, [], _∷_}
 use Prim.Native.Nat.{ℕ}
 use lib.Dec.{eqb}
 use lib.ListN.{getD, drop}
-use Rattle.refusal.specs.Answer.{Answer, TestRow, _when_, answered}
-use Rattle.xid.specs.Match.{valuesIn, payloadRows, meaningOf, orSilence}
-use Rattle.xid.specs.declared.Xid.{Xid}
+use Rattle.refusal.specs.Answer.{Answer, gives, refuses, TestRow, _when_, answered}
+use Rattle.record.specs.declared.Device.{Device}
+use Rattle.record.specs.Allowed.{identityOf, limitOf}
+use Rattle.params.specs.Field.{paramsOf}
+use Rattle.negotiation.specs.Negotiation.{negotiating}
+use Rattle.xid.specs.Match.{noParams, valuesIn, payloadRows, meaningOf}
 use Rattle.control.specs.Control.{xidControl}
-use Rattle.link.specs.Link.{allStations, wrongSize}
+use Rattle.station.specs.declared.Turn.{Turn}
+use Rattle.station.specs.Turns.{mute}
+use Rattle.link.specs.Link.{allStations, hasAddress, isOwn, xidBy, negotiatedBy, wrongSize}
 use Rattle.link.specs.Frames.{controlOf}
 
--- "Address 0xFF": the only one at which an XID is read, for "Own address, XID: silence."
-unfoldable pub wrongAddress : List ℕ → Bool
-wrongAddress f = not (eqb (getD f 0 0) allStations)
+-- "Address 0xFF"
+unfoldable pub toAll : List ℕ → Bool
+toAll f = eqb (getD f 0 0) allStations
+
+-- 02 (iv): "XID to the device's own address"
+unfoldable pub negotiates : Device → List ℕ → Bool
+negotiates d f = isOwn d (getD f 0 0) && hasAddress (d .station .link)
+
+-- "The only right address octet is 0xFF, or the own one where a negotiation is answered."
+unfoldable pub wrongAddress : Device → List ℕ → Bool
+wrongAddress d f = not (toAll f || negotiates d f)
 
 -- "only XID (0xBF) is read"
 unfoldable pub wrongControl : List ℕ → Bool
 wrongControl f = not (eqb (controlOf f) xidControl)
 
-unfoldable pub xidRows : List ℕ → List ℕ → List TestRow
-xidRows i f = 1 when wrongSize f ∷ 2 when wrongAddress f ∷ 3 when wrongControl f ∷ payloadRows i (drop 2 f)
+-- "as is all but a negotiation at the own address"
+unfoldable pub malformedOffer : List ℕ → Bool
+malformedOffer m = noParams (paramsOf negotiating m)
 
-unfoldable pub xidAnswer : List ℕ → List ℕ → Answer Xid
-xidAnswer i f = answered (xidRows i f) (meaningOf (valuesIn (drop 2 f)))
+unfoldable pub addressRows : Device → List ℕ → List TestRow
+addressRows d f =
+    cond (toAll f) (payloadRows (identityOf (d .plate)) (drop 2 f)) (4 when malformedOffer (drop 2 f) ∷ [])
 
-unfoldable pub xidMeans : List ℕ → List ℕ → Xid
-xidMeans i f = orSilence (xidAnswer i f)
+unfoldable pub xidRows : Device → List ℕ → List TestRow
+xidRows d f =
+    1 when wrongSize (limitOf d) f ∷ 2 when wrongAddress d f ∷ 3 when wrongControl f ∷ addressRows d f
+
+unfoldable pub xidTurn : Device → List ℕ → Turn
+xidTurn d f = cond (toAll f) (xidBy d (meaningOf (valuesIn (drop 2 f)))) (negotiatedBy d (drop 2 f))
+
+unfoldable pub xidAnswer : Device → List ℕ → Answer Turn
+xidAnswer d f = answered (xidRows d f) (xidTurn d f)
+
+unfoldable pub orMute : Device → Answer Turn → Turn
+orMute d (gives t) = t
+orMute d (refuses k) = mute d

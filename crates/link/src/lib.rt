@@ -4,12 +4,15 @@
 ghost use mathlib.Core.Path.{_≡_};
 ghost use Rattle.control.specs.Control.{polled, numberedBy, Asks};
 ghost use Rattle.station.specs.Turns.{saying};
-ghost use Rattle.link.specs.Link.{quiet, ownBy, xidBy, everyoneBy, isOwn, addressedBy, controlledBy};
-ghost use Rattle.link.specs.Link.{judgedFrame};
+ghost use Rattle.record.specs.Changes.{limitedTo};
+ghost use Rattle.link.specs.Link.{quiet, orderedBy, hasAddress, agreedBy, negotiatedBy, ownBy, xidBy, everyoneBy};
+ghost use Rattle.link.specs.Link.{isOwn, addressedBy, controlledBy, judgedFrame};
 use control::Order;
-use frame::FRAME_MOST;
+use limits::LIMIT;
+use negotiation::Offer;
 use record::Device;
 use record::Link;
+use record::Station;
 use station::Say;
 use station::Turn;
 use xid::Xid;
@@ -83,8 +86,9 @@ fn is_quiet(order: Order, bare: bool) -> bool
     }
 }
 
-fn own(device: Device, order: Order, control: u8, m: &[u8]) -> Turn
-    ensures { λ r. ⌜ r ≡ ownBy device order control (now (m .entry)) ⌝ }
+// At the own address, an order that is no XID.
+fn ordered(device: Device, order: Order, control: u8, m: &[u8]) -> Turn
+    ensures { λ r. ⌜ r ≡ orderedBy device order control (now (m .entry)) ⌝ }
 {
     let station = device.station;
     let link = station.link;
@@ -92,6 +96,64 @@ fn own(device: Device, order: Order, control: u8, m: &[u8]) -> Turn
         return say(device, Say::Silence);
     }
     states::linked(device, link, order, control, m)
+}
+
+fn has_address(link: Link) -> bool
+    ensures { λ r. ⌜ r ≡ hasAddress link ⌝ }
+{
+    match link {
+        Link::NoAddress => false,
+        Link::AddressAssigned => true,
+        Link::Connected(_) => true,
+    }
+}
+
+// The device with another frame limit.
+fn limited(device: Device, limit: usize) -> Device
+    ensures { λ r. ⌜ r ≡ limitedTo device limit ⌝ }
+{
+    let plate = device.plate;
+    let station = device.station;
+    let antenna = device.antenna;
+    let link = station.link;
+    let mut desk = station.desk;
+    desk.limit = limit;
+    Device {
+        plate,
+        station: Station { link, desk },
+        antenna,
+    }
+}
+
+fn agree(device: Device, offer: Offer) -> Turn
+    ensures { λ r. ⌜ r ≡ agreedBy device offer ⌝ }
+{
+    match offer {
+        Offer::Malformed => say(device, Say::Silence),
+        Offer::Agreed { limit, asked } => say(limited(device, limit), Say::Negotiated { asked }),
+    }
+}
+
+// At the own address, an XID: a negotiation, where an address is assigned.
+fn negotiate(device: Device, m: &[u8]) -> Turn
+    ensures { λ r. ⌜ r ≡ negotiatedBy device (now (m .entry)) ⌝ }
+{
+    let station = device.station;
+    let link = station.link;
+    let desk = station.desk;
+    if has_address(link) {
+        return agree(device, negotiation::read(desk.limit, m));
+    }
+    say(device, Say::Silence)
+}
+
+fn own(device: Device, control: u8, m: &[u8]) -> Turn
+    ensures { λ r. ⌜ r ≡ ownBy device control (now (m .entry)) ⌝ }
+{
+    if control == control::XID {
+        return negotiate(device, m);
+    }
+    ordered(device, asked(control), control, m)
 }
 
 fn by_xid(device: Device, xid: Xid) -> Turn
@@ -102,7 +164,7 @@ fn by_xid(device: Device, xid: Xid) -> Turn
         Xid::Scan => say(device, Say::Scanned),
         Xid::Assignment { address } => {
             say(
-                ending::ended(device, address, Link::AddressAssigned),
+                ending::emptied(device, address, LIMIT, Link::AddressAssigned),
                 Say::Assigned,
             )
         }
@@ -138,7 +200,7 @@ fn addressed(device: Device, address: u8, control: u8, m: &[u8]) -> Turn
         return everyone(device, control, m);
     }
     if is_own(device, address) {
-        return own(device, asked(control), control, m);
+        return own(device, control, m);
     }
     say(device, Say::Silence)
 }
@@ -156,10 +218,12 @@ fn controlled(device: Device, address: u8, control: u8, m: &[u8]) -> Turn
 pub fn judge_frame(device: Device, frame: &[u8]) -> Turn
     ensures { λ r. ⌜ r ≡ judgedFrame device (now (frame .entry)) ⌝ }
 {
+    let station = device.station;
+    let desk = station.desk;
     if frame.len() < 2 {
         return say(device, Say::Silence);
     }
-    if FRAME_MOST < frame.len() {
+    if limits::frame_most(desk.limit) < frame.len() {
         return say(device, Say::Silence);
     }
     controlled(device, frame[0], frame[1], &frame[2..])

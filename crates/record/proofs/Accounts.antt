@@ -123,6 +123,7 @@ fresh-account i p h s w =
     record {
       address = refl;
       link = refl;
+      limit = refl;
       alarms = refl;
       raised = refl;
       told = refl;

@@ -11,6 +11,7 @@ use lib.Dec.{ltb, leb}
 use lib.ListN.{length}
 use Rattle.octets.proofs.Words.{true-not-false, and-parts}
 use Rattle.refusal.specs.Answer.{refuses}
+use Rattle.limits.proofs.Exactly.{limit-exactly}
 use Rattle.identity.specs.Identity.{width, allowedIdentity}
 use Rattle.identity.proofs.Exactly.{identity-exactly}
 use Rattle.antenna.specs.declared.Motion.{Motion}
@@ -22,7 +23,7 @@ use Rattle.antenna.proofs.Can.{stop-exactly, alarm-exactly}
 use Rattle.antenna.proofs.Differences.{differ-exactly}
 use Rattle.record.specs.Allowed.{identityOf, productMost, versionMost, identityAllowed, platesAllowed}
 use Rattle.record.specs.Allowed.{numbersAllowed, pendingFits, sessionAllowed, addressed, linkAllowed}
-use Rattle.record.specs.Allowed.{stationAllowed, owedAllowed, allowedDevice, Owes, AllowedRecord}
+use Rattle.record.specs.Allowed.{owedAllowed, allowedDevice, Owes, AllowedRecord}
 use Rattle.record.specs.Fresh.{textsAllowed, dataAllowed, antennaFrom, AllowedData, freshOf}
 use Rattle.record.specs.Changes.{canBe, CanHappen, happened}
 use Rattle.record.specs.declared.Event.{Event}
@@ -230,12 +231,12 @@ owed-by (Connected s) m f = refl
 
 module _ (d : Device) (n : length (d .station .desk .said .flags) ≡ length (d .station .desk .told .flags)) where
   in-words : allowedDevice d ≡ true → AllowedRecord d
-  unfolding stationAllowed
   in-words e =
       let whole = sound d e in
       let plate = plate-parts (d .plate) (whole .plate) in
       let range = range-exactly (d .antenna) (d .antenna .drive .tilt) .0 (whole .range) in
-      let link = linked (d .station .desk) n (d .station .link) (whole .station) in
+      let link = linked (d .station .desk) n (d .station .link) (whole .link) in
+      let limit = limit-exactly (d .station .desk .limit) .0 (whole .limit) in
       record {
         identity = identity-exactly (identityOf (d .plate)) .0 (plate .1);
         identity-held = plate .0;
@@ -246,6 +247,8 @@ module _ (d : Device) (n : length (d .station .desk .said .flags) ≡ length (d 
         highest = range .1;
         address = link .address;
         unaddressed = link .unaddressed;
+        limit-least = limit .0;
+        limit-most = limit .1;
         numbers = link .numbers;
         answer = λ s q. link .pending s q .answer;
         indication = λ s q. link .pending s q .indication;
@@ -253,7 +256,6 @@ module _ (d : Device) (n : length (d .station .desk .said .flags) ≡ length (d 
       }
 
   by-words : AllowedRecord d → allowedDevice d ≡ true
-  unfolding stationAllowed
   by-words w =
       allowed-by d
       (record {
@@ -261,7 +263,8 @@ module _ (d : Device) (n : length (d .station .desk .said .flags) ≡ length (d 
             plate-by (d .plate) (w .identity-held) (identity-exactly (identityOf (d .plate)) .1 (w .identity))
             (w .product) (w .hardware) (w .software);
         range = range-exactly (d .antenna) (d .antenna .drive .tilt) .1 (w .lowest, w .highest);
-        station =
+        limit = limit-exactly (d .station .desk .limit) .1 (w .limit-least, w .limit-most);
+        link =
             linked-by (d .station .desk) n (d .station .link)
             (record {
               address = w .address;

@@ -12,6 +12,8 @@ use Rattle.octets.proofs.Stores.{take-start}
 use Rattle.octets.proofs.Words.{true-not-false, and-parts}
 use Rattle.refusal.specs.Answer.{gives, Clear}
 use Rattle.refusal.proofs.Exactly.{exactly-given}
+use Rattle.limits.specs.Limits.{frameLimit, isLimit}
+use Rattle.limits.proofs.Exactly.{limit-least}
 use Rattle.identity.specs.Identity.{width}
 use Rattle.identity.proofs.Identities.{allowed-parts}
 use Rattle.antenna.specs.declared.Angle.{Angle}
@@ -25,7 +27,7 @@ use Rattle.record.specs.Allowed.{identityAllowed, platesAllowed, linkAll
 use Rattle.record.specs.Allowed.{stationAllowed, owedAllowed, allowedDevice}
 use Rattle.record.specs.Fresh.{identityFrom, productFrom, versionFrom, plateFrom, freshFrom}
 use Rattle.record.specs.Fresh.{textsAllowed, dataAllowed}
-use Rattle.record.specs.Changes.{unsaidAt, endedAs, canBe, afterEvent, withAntenna, eventRows, happened}
+use Rattle.record.specs.Changes.{unsaidAt, emptiedAs, endedAs, canBe, afterEvent, withAntenna, eventRows, happened}
 use Rattle.record.proofs.Laid.{texts-parts}
 use Rattle.record.specs.declared.Link.{Link}
 use Rattle.record.specs.declared.Link.the-variants.{NoAddress, AddressAssigned, Connected}
@@ -33,24 +35,30 @@ use Rattle.record.specs.declared.Device.{Device}
 use Rattle.record.specs.declared.Event.{Event}
 use Rattle.record.specs.declared.Event.the-variants as event
 
--- the four parts of an allowed record, and back
+-- the five parts of an allowed record, and back
 pub record Sound (d : Device) : Type 0 where
   pub plate : platesAllowed (d .plate) ≡ true
   pub range : inRange (d .antenna) (d .antenna .drive .tilt) ≡ true
-  pub station : stationAllowed (d .station) ≡ true
+  pub limit : isLimit (d .station .desk .limit) ≡ true
+  pub link : linkAllowed (d .station .desk) (d .station .link) ≡ true
   pub owed : owedAllowed (d .station .link) (d .antenna .motion) ≡ true
 
 pub sound : (d : Device) → allowedDevice d ≡ true → Sound d
-unfolding allowedDevice
+unfolding allowedDevice stationAllowed
 sound d e =
     let one = and-parts (platesAllowed (d .plate)) _ e in
     let two = and-parts (inRange (d .antenna) (d .antenna .drive .tilt)) _ (one .1) in
     let three = and-parts (stationAllowed (d .station)) _ (two .1) in
-    record { plate = one .0; range = two .0; station = three .0; owed = three .1 }
+    let four = and-parts (isLimit (d .station .desk .limit)) _ (three .0) in
+    record { plate = one .0; range = two .0; limit = four .0; link = four .1; owed = three .1 }
 
 pub allowed-by : (d : Device) → Sound d → allowedDevice d ≡ true
-unfolding allowedDevice
-allowed-by d s = rw (s .plate, s .range, s .station, s .owed)
+unfolding allowedDevice stationAllowed
+allowed-by d s = rw (s .plate, s .range, s .limit, s .link, s .owed)
+
+-- the frame limit of an allowed record is one
+pub limit-allowed : (d : Device) → allowedDevice d ≡ true → isLimit (d .station .desk .limit) ≡ true
+limit-allowed d e = sound d e .limit
 
 -- a stop makes nothing owed where nothing was
 rested-owes : (m : Motion) (t : Angle) → owesOf m ≡ false → owesOf (restedOf m t) ≡ false
@@ -103,7 +111,8 @@ event-stays d b e a g =
     (record {
       plate = s .plate;
       range = after-range (d .antenna) e can (s .range);
-      station = s .station;
+      limit = s .limit;
+      link = s .link;
       owed = owed-less (d .station .link) (d .antenna .motion) (afterEvent (d .antenna) e .motion) owes (s .owed);
     }))
 
@@ -117,20 +126,27 @@ unowed-allowed NoAddress m = ap not (unowed-owes m)
 unowed-allowed AddressAssigned m = ap not (unowed-owes m)
 unowed-allowed (Connected s) m = refl
 
--- at a session's end, at an address and in a link state that fit each other
-pub end-stays : (d : Device) (a : ℕ) (l : Link) → allowedDevice d ≡ true → linkAllowed (unsaidAt (d .station) a l .desk) l ≡
-    true
-    → allowedDevice (endedAs d a l) ≡ true
-unfolding endedAs stationAllowed unsaidAt moves
-end-stays d a l e k =
+-- with nothing pending and nothing owed, at an address and in a link state that fit each other
+pub emptied-stays : (d : Device) (a n : ℕ) (l : Link) → allowedDevice d ≡ true → isLimit n ≡ true
+    → linkAllowed (unsaidAt (d .station) a n l .desk) l ≡ true
+    → allowedDevice (emptiedAs d a n l) ≡ true
+unfolding emptiedAs unsaidAt moves
+emptied-stays d a n l e h k =
     let s = sound d e in
-    allowed-by (endedAs d a l)
+    allowed-by (emptiedAs d a n l)
     (record {
       plate = s .plate;
       range = moved-range (d .antenna) (unowedOf (d .antenna .motion)) (d .antenna .drive .tilt) ∙ s .range;
-      station = k;
+      limit = h;
+      link = k;
       owed = unowed-allowed l (d .antenna .motion);
     })
+
+-- at a session's end
+pub end-stays : (d : Device) (a : ℕ) (l : Link) → allowedDevice d ≡ true
+    → linkAllowed (unsaidAt (d .station) a frameLimit l .desk) l ≡ true
+    → allowedDevice (endedAs d a l) ≡ true
+end-stays d a l e k = emptied-stays d a frameLimit l e limit-least k
 
 -- a text laid into zeros is read back
 text-back : (n : ℕ) (s : List ℕ) → take (length s) (s atStartOf replicate n 0) ≡ s
@@ -146,8 +162,14 @@ plate-allowed i p h s e =
 -- a fresh device
 pub fresh-allowed : (i p h s : List ℕ) (n : Antenna) → dataAllowed i p h s n ≡ true → owesOf (n .motion) ≡ false
     → allowedDevice (freshFrom (plateFrom i p h s) n) ≡ true
-unfolding dataAllowed freshFrom stationAllowed linkAllowed owedAllowed
+unfolding dataAllowed freshFrom linkAllowed owedAllowed
 fresh-allowed i p h s n e o =
     let parts = and-parts (textsAllowed i p h s) (inRange n (n .drive .tilt)) e in
     allowed-by (freshFrom (plateFrom i p h s) n)
-    (record { plate = plate-allowed i p h s (parts .0); range = parts .1; station = refl; owed = ap not o })
+    (record {
+      plate = plate-allowed i p h s (parts .0);
+      range = parts .1;
+      limit = limit-least;
+      link = refl;
+      owed = ap not o;
+    })

@@ -60,6 +60,8 @@ pub record EventAccount (d : Device) (e : Event) (b : Device) : Type 0 where
 pub record FreshAccount (i p h s : List ℕ) (w : Span) (d : Device) : Type 0 where
   pub address : d .station .desk .address ≡ 0
   pub link : d .station .link ≡ NoAddress
+  -- 02 (iv): the least frame limit
+  pub limit : d .station .desk .limit ≡ 78
   pub alarms : codesOf (d .antenna .drive .raised .flags) ≡ []
   pub raised : d .antenna .drive .raised ≡ calm
   pub told : d .station .desk .told ≡ calm

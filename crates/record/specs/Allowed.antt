@@ -1,10 +1,12 @@
 -- Who the device is: which records may be handed in. 01, "Who the device is".
 --   identityOf p       == the octets of the identity; productOf p, hardwareOf p, softwareOf p == the texts
+--   limitOf d          == the frame limit of the device's link
 --   platesAllowed p    == the fixed data is as 01 says
 --   numbersAllowed s   == "session numbers of 0 to 7"
 --   pendingFits k p    == what is pending at the desk k, p, can be
 --   sessionAllowed k s == numbers and what is pending, of a session
 --   linkAllowed k l    == address, session numbers and what is pending fit the link state l
+--   stationAllowed t   == so, and the frame limit is one
 --   owedAllowed l m    == "a tilt result owed only in Connected"
 --   allowedDevice d    == d may be handed in; anything else is refusal 6
 --   Owes m             == a tilt result is owed, in words
@@ -18,6 +20,7 @@ use Prim.Native.Nat.{ℕ, _≤_}
 use lib.Dec.{ltb, leb, eqb}
 use lib.ListN.{take}
 use lib.Signed.{_≤ℤ_}
+use Rattle.limits.specs.Limits.{isLimit}
 use Rattle.identity.specs.Identity.{width, allowedIdentity, AnIdentity}
 use Rattle.antenna.specs.declared.Angle.{Angle}
 use Rattle.antenna.specs.declared.Motion.{Motion}
@@ -45,6 +48,10 @@ hardwareOf p = take (p .hardware .len) (p .hardware .octets)
 
 abbrev pub softwareOf : Plate → List ℕ
 softwareOf p = take (p .software .len) (p .software .octets)
+
+-- 02 (iv): "The frame limit N, one for both ways, is a number of the link"
+abbrev pub limitOf : Device → ℕ
+limitOf d = d .station .desk .limit
 
 -- "Product, hardware and software texts of at most 20, 14 and 14 octets of any kind"
 abbrev pub productMost : ℕ
@@ -87,8 +94,9 @@ linkAllowed k NoAddress = eqb (k .address) 0
 linkAllowed k AddressAssigned = addressed (k .address)
 linkAllowed k (Connected s) = addressed (k .address) && sessionAllowed k s
 
+-- 02 (iv): "a number of the link, 78 to 260"
 unfoldable pub stationAllowed : Station → Bool
-stationAllowed t = linkAllowed (t .desk) (t .link)
+stationAllowed t = isLimit (t .desk .limit) && linkAllowed (t .desk) (t .link)
 
 -- "a tilt result owed only in Connected"
 unfoldable pub owedAllowed : Link → Motion → Bool
@@ -121,6 +129,9 @@ pub record AllowedRecord (d : Device) : Type 0 where
   -- "an address of 0 to 254, 0 exactly in NoAddress"
   pub address : d .station .desk .address ≤ 254
   pub unaddressed : d .station .desk .address ≡ 0 ↔ d .station .link ≡ NoAddress
+  -- 02 (iv): "The frame limit N .. is a number of the link, 78 to 260"
+  pub limit-least : 78 ≤ d .station .desk .limit
+  pub limit-most : d .station .desk .limit ≤ 260
   -- "session numbers of 0 to 7"
   pub numbers : (s : Session) → d .station .link ≡ Connected s → (s .r ≤ 7) × (s .s ≤ 7)
   -- "a pending answer of at most 74 payload octets"

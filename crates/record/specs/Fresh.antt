@@ -2,7 +2,7 @@
 --   dataAllowed ..     == the device data is as "Who the device is" says; AllowedData .. == the same, phrase by phrase
 --   identityFrom s, productFrom s, versionFrom s == a text with zeros behind it
 --   plateFrom i p h s  == the plate with these texts, zeros behind each
---   freshStation       == address 0, no session, nothing told, nothing subscribed
+--   freshStation       == address 0, the frame limit 78, no session, nothing told, nothing subscribed
 --   freshFrom ..       == the fresh device; freshOf .. == what is answered
 --   blankDevice        == the record beside a refusal
 -- Assumes nothing.
@@ -15,6 +15,7 @@ use lib.ListN.{length, replicate}
 use lib.Signed.{_≤ℤ_}
 use Rattle.octets.specs.Octets.{_atStartOf_}
 use Rattle.refusal.specs.Answer.{Answer, _when_, answered}
+use Rattle.limits.specs.Limits.{frameLimit}
 use Rattle.identity.specs.Identity.{width, allowedIdentity, AnIdentity}
 use Rattle.antenna.specs.declared.Angle.{Angle}
 use Rattle.antenna.specs.declared.Antenna.{Antenna}
@@ -53,7 +54,7 @@ abbrev pub freshStation : Station
 freshStation =
     record {
       link = NoAddress;
-      desk = record { address = 0; subscribed = false; told = calm; said = calm; reply = noReply };
+      desk = record { address = 0; limit = frameLimit; subscribed = false; told = calm; said = calm; reply = noReply };
     }
 
 abbrev pub freshAntenna : Angle → Angle → Angle → Antenna

@@ -6,7 +6,8 @@ ghost use mathlib.Core.Path.{_≡_};
 ghost use lib.Dec.{leb};
 ghost use Rattle.antenna.specs.Motions.{inRange, owesOf};
 ghost use Rattle.record.specs.Allowed.{replyMost, identityAllowed, platesAllowed, numbersAllowed, pendingFits};
-ghost use Rattle.record.specs.Allowed.{addressed, sessionAllowed, stationAllowed, owedAllowed, allowedDevice};
+ghost use Rattle.record.specs.Allowed.{addressed, sessionAllowed, linkAllowed, stationAllowed, owedAllowed};
+ghost use Rattle.record.specs.Allowed.{allowedDevice};
 use antenna::Alarms;
 use antenna::Angle;
 use antenna::Antenna;
@@ -77,9 +78,10 @@ pub const NO_REPLY: Payload = Payload {
     len: 0,
 };
 
-// All of a station but its link: who changes one field copies the rest as one.
+// All of a station but its link: who changes one field copies the rest as one. `limit` is the link's frame limit.
 pub struct Desk {
     pub address: u8,
+    pub limit: usize,
     pub subscribed: bool,
     pub told: Alarms,
     pub said: Alarms,
@@ -197,11 +199,9 @@ fn session_allowed(desk: Desk, session: Session) -> bool
     }
 }
 
-fn station_allowed(station: Station) -> bool
-    ensures { λ r. ⌜ r ≡ stationAllowed station ⌝ }
+fn link_allowed(desk: Desk, link: Link) -> bool
+    ensures { λ r. ⌜ r ≡ linkAllowed desk link ⌝ }
 {
-    let link = station.link;
-    let desk = station.desk;
     match link {
         Link::NoAddress => desk.address == 0,
         Link::AddressAssigned => is_addressed(desk.address),
@@ -211,6 +211,18 @@ fn station_allowed(station: Station) -> bool
             }
             false
         }
+    }
+}
+
+fn station_allowed(station: Station) -> bool
+    ensures { λ r. ⌜ r ≡ stationAllowed station ⌝ }
+{
+    let link = station.link;
+    let desk = station.desk;
+    if limits::is_limit(desk.limit) {
+        link_allowed(desk, link)
+    } else {
+        false
     }
 }
 

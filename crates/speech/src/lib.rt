@@ -6,10 +6,8 @@ ghost use mathlib.Core.List.{[], _∷_};
 ghost use mathlib.Core.Option.{some};
 ghost use Prim.Native.Nat.{_≤_};
 ghost use lib.ListN.{take};
-ghost use Rattle.limits.specs.Limits.{frameLimit, frameMost};
 ghost use Rattle.speech.specs.Speech.{octetsHeld, pendingOctets, linkOctets, isSilent, controlBy, payloadBy};
-ghost use Rattle.speech.specs.Speech.{frameBy, spokenOf};
-use frame::FRAME_MOST;
+ghost use Rattle.speech.specs.Speech.{frameBy, spokenMost, spokenOf};
 use record::Desk;
 use record::Device;
 use record::Link;
@@ -18,9 +16,12 @@ use record::Pending;
 use record::REPLY;
 use station::Say;
 
+// The most octets of a frame that is said: address, control, and the longest payload.
+pub const SPOKEN_MOST: usize = REPLY + 2;
+
 // A frame of `len` octets; none where `len` is 0.
 pub struct Spoken {
-    pub octets: [u8; FRAME_MOST],
+    pub octets: [u8; SPOKEN_MOST],
     pub len: usize,
 }
 
@@ -79,6 +80,7 @@ fn is_silent(say: Say) -> bool
         Say::Pend { control: _ } => false,
         Say::Scanned => false,
         Say::Assigned => false,
+        Say::Negotiated { asked: _ } => false,
     }
 }
 
@@ -96,6 +98,7 @@ fn control_of(say: Say) -> u8
         Say::Pend { control } => control,
         Say::Scanned => control::XID,
         Say::Assigned => control::XID,
+        Say::Negotiated { asked: _ } => control::XID,
     }
 }
 
@@ -117,15 +120,16 @@ fn payload_of(device: Device, say: Say) -> Payload
         Say::Pend { control: _ } => link_payload(desk, link),
         Say::Scanned => xid_answer::scan_answer(plate, desk.address),
         Say::Assigned => xid_answer::assignment_answer(plate),
+        Say::Negotiated { asked } => xid_answer::negotiation_answer(asked, desk.limit),
     }
 }
 
 // Address and control in front of the first `len` octets of a row.
 fn laid(address: u8, control: u8, row: [u8; REPLY], len: usize) -> Spoken
-    ensures { λ r. ⌜ (r ≡ spokenOf (some (address ∷ control ∷ take len row))) × (r .len ≤ frameMost frameLimit) ⌝ }
+    ensures { λ r. ⌜ (r ≡ spokenOf (some (address ∷ control ∷ take len row))) × (r .len ≤ spokenMost) ⌝ }
 {
     let n = octets::fewer(len, REPLY);
-    let mut octets = [0u8; FRAME_MOST];
+    let mut octets = [0u8; SPOKEN_MOST];
     octets[0] = address;
     octets[1] = control;
     octets::put_all(&mut octets, 2, &row[..n]);
@@ -134,13 +138,13 @@ fn laid(address: u8, control: u8, row: [u8; REPLY], len: usize) -> Spoken
 
 // The frame that a device says.
 pub fn speak(device: Device, say: Say) -> Spoken
-    ensures { λ r. ⌜ (r ≡ spokenOf (frameBy device say)) × (r .len ≤ frameMost frameLimit) ⌝ }
+    ensures { λ r. ⌜ (r ≡ spokenOf (frameBy device say)) × (r .len ≤ spokenMost) ⌝ }
 {
     let station = device.station;
     let desk = station.desk;
     if is_silent(say) {
         return Spoken {
-            octets: [0u8; FRAME_MOST],
+            octets: [0u8; SPOKEN_MOST],
             len: 0,
         };
     }

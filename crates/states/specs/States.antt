@@ -1,5 +1,5 @@
 -- The three link states. 01, "The link".
---   begun d          == a first session: "All start at 0 and none"; released d == the session's end
+--   begun d          == a first session: "All start at 0 and none", the frame limit stays; released d == the session's end
 --   renewed d        == a new session after one that ends by it
 --   onSnrm d l       == the device d after SNRM in the link state l
 --   ua, dm           == what is said of SNRM, and of DISC in a session; what else is said in AddressAssigned
@@ -19,7 +19,8 @@ use Rattle.record.specs.declared.Session.{Session}
 use Rattle.record.specs.declared.Link.{Link}
 use Rattle.record.specs.declared.Link.the-variants.{NoAddress, AddressAssigned, Connected}
 use Rattle.record.specs.declared.Device.{Device}
-use Rattle.record.specs.Changes.{endedAs}
+use Rattle.record.specs.Allowed.{limitOf}
+use Rattle.record.specs.Changes.{emptiedAs, endedAs}
 use Rattle.session.specs.Session.{goodNumber, countsOf}
 use Rattle.station.specs.declared.Say.{Say}
 use Rattle.station.specs.declared.Turn.{Turn}
@@ -31,9 +32,10 @@ use Rattle.inform.specs.Inform.{informOf}
 abbrev pub newSession : Session
 newSession = record { r = 0; s = 0; pending = Nothing }
 
--- a first session, in AddressAssigned: none ends by it, and what an end drops is not there in an allowed record
+-- a first session, in AddressAssigned: none ends by it, so the frame limit stays, and what an end drops is not there in
+-- an allowed record
 unfoldable pub begun : Device → Device
-begun d = endedAs d (d .station .desk .address) (Connected newSession)
+begun d = emptiedAs d (d .station .desk .address) (limitOf d) (Connected newSession)
 
 unfoldable pub released : Device → Device
 released d = endedAs d (d .station .desk .address) AddressAssigned
@@ -78,7 +80,7 @@ rnrBy d s r c = cond (goodNumber s r) (pausedBy d s r) (rejected d s c 8)
 -- ---- the three states
 
 -- "Connected: SNRM gets UA and starts a new session; DISC 0x53 gets UA and AddressAssigned." ".. any control but XID, SNRM,
--- DISC, I, RR and RNR, gets FRMR". An XID does not come here: it is silence before the states are asked.
+-- DISC, I, RR and RNR, gets FRMR". An XID does not come here: it is a negotiation.
 unfoldable pub connectedBy : Device → Session → Order → ℕ → List ℕ → Turn
 connectedBy d s Xid c p = mute d
 connectedBy d s Snrm c p = saying (renewed d) ua
@@ -97,7 +99,7 @@ isSnrm (Rr r) = false
 isSnrm (Rnr r) = false
 isSnrm Unknown = false
 
--- "AddressAssigned: SNRM 0x93 gets UA 0x73 and Connected; anything else gets DM 0x1F." An XID is silence before.
+-- "AddressAssigned: SNRM 0x93 gets UA 0x73 and Connected; anything else gets DM 0x1F." An XID does not come here.
 unfoldable pub assignedBy : Device → Order → Turn
 assignedBy d o = cond (isSnrm o) (saying (begun d) ua) (saying d dm)
 

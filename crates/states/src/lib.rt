@@ -6,6 +6,7 @@ ghost use Rattle.station.specs.Turns.{saying};
 ghost use Rattle.states.specs.States.{begun, released, ua, rejected, infoBy, rrBy, rnrBy};
 ghost use Rattle.states.specs.States.{connectedBy, isSnrm, assignedBy, linkedBy};
 use control::Order;
+use limits::LIMIT;
 use record::Device;
 use record::Link;
 use record::Pending;
@@ -25,7 +26,7 @@ fn begin(device: Device) -> Device
         s: 0,
         pending: Pending::Nothing,
     };
-    ending::ended(device, desk.address, Link::Connected(fresh))
+    ending::emptied(device, desk.address, desk.limit, Link::Connected(fresh))
 }
 
 fn release(device: Device) -> Device
@@ -33,7 +34,7 @@ fn release(device: Device) -> Device
 {
     let station = device.station;
     let desk = station.desk;
-    ending::ended(device, desk.address, Link::AddressAssigned)
+    ending::emptied(device, desk.address, LIMIT, Link::AddressAssigned)
 }
 
 // UA: SNRM, and DISC in a session.

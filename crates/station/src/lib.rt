@@ -2,6 +2,7 @@
 ghost use mathlib.Core.Path.{_≡_};
 ghost use Rattle.station.specs.Station.{resent, answersWith};
 ghost use Rattle.station.specs.Turns.{answering};
+use negotiation::Asked;
 use record::Device;
 use record::Link;
 use record::Payload;
@@ -10,7 +11,7 @@ use record::Session;
 use record::Station;
 
 // What a device says: nothing; a control alone; a frame reject; an I-frame with the pending answer; the answer to a
-// scan, and to an assignment.
+// scan, to an assignment, and to a negotiation that asked for this.
 pub enum Say {
     Silence,
     Bare { control: u8 },
@@ -18,6 +19,7 @@ pub enum Say {
     Pend { control: u8 },
     Scanned,
     Assigned,
+    Negotiated { asked: Asked },
 }
 
 // The device after a frame, and what it says.

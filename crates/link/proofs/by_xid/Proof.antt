@@ -21,8 +21,8 @@ say-requires-2 c κs = search needs
 enum-known-xid : tie.Need-enum-known-xid
 enum-known-xid c = search needs
 
-ended-requires : tie.Need-ended-requires
-ended-requires c κs = search needs
+emptied-requires : tie.Need-emptied-requires
+emptied-requires c κs = search needs
 
 say-requires-3 : tie.Need-say-requires-3
 say-requires-3 c κs = search needs
@@ -37,7 +37,7 @@ returns-2 c = search (tests, sym (c .say2 .ensures), c .before .enum-told2 .give
 
 returns-3 : tie.Need-returns-3
 unfolding xidBy
-returns-3 c = search (tests, sym (c .say3 .ensures), sym (c .before .ended .ensures), c .before .before .before .xid .given .1)
+returns-3 c = search (tests, sym (c .say3 .ensures), sym (c .before .emptied .ensures), c .before .before .before .xid .given .1)
 
 pub by-xid-spec : {M : Type 1} → statement M
 by-xid-spec =
@@ -48,7 +48,7 @@ by-xid-spec =
     enum-told-2
     say-requires-2
     enum-known-xid
-    ended-requires
+    emptied-requires
     say-requires-3
     returns
     returns-2

@@ -5,12 +5,12 @@ use borrow.Author.Needs.{needs}
 use Rattle.states.proofs.begin.Statement.{statement}
 use Rattle.states.proofs.begin.Tie as tie
 
-ended-requires : tie.Need-ended-requires
-ended-requires c κs = search needs
+emptied-requires : tie.Need-emptied-requires
+emptied-requires c κs = search needs
 
 returns : tie.Need-returns
 unfolding begun
 returns c = search tests
 
 pub begin-spec : {M : Type 1} → statement M
-begin-spec = tie.close (tie.spec ended-requires returns)
+begin-spec = tie.close (tie.spec emptied-requires returns)

@@ -5,12 +5,12 @@ use borrow.Author.Needs.{needs}
 use Rattle.states.proofs.release.Statement.{statement}
 use Rattle.states.proofs.release.Tie as tie
 
-ended-requires : tie.Need-ended-requires
-ended-requires c κs = search needs
+emptied-requires : tie.Need-emptied-requires
+emptied-requires c κs = search needs
 
 returns : tie.Need-returns
 unfolding released
 returns c = search tests
 
 pub release-spec : {M : Type 1} → statement M
-release-spec = tie.close (tie.spec ended-requires returns)
+release-spec = tie.close (tie.spec emptied-requires returns)
