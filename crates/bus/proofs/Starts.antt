@@ -49,7 +49,7 @@ module _ (d : Device) (w : Ready d) where
   unfolding stationAllowed
   address-bounds =
       addressed-bounds (d .station .desk .address)
-      (link-addressed (d .station .desk) (d .station .link) (sound d (w .allowed) .station) (ap hasAddress (w .link)))
+      (link-addressed (d .station .desk) (d .station .link) (sound d (w .allowed) .link) (ap hasAddress (w .link)))
 
   begins : judgedFrame d (d .station .desk .address ∷ 0x93 ∷ []) ≡ saying (begun d) ua
   unfolding onSnrm

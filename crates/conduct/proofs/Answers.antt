@@ -80,7 +80,7 @@ module _ (d : Device) (allowed : allowedDevice d ≡ true) (assigned : hasAddres
       let a = d .station .desk .address in
       let bounds =
       addressed-bounds a
-      (link-addressed (d .station .desk) (d .station .link) (sound d allowed .station) assigned) in
+      (link-addressed (d .station .desk) (d .station .link) (sound d allowed .link) assigned) in
       let zero : eqb a 0 ≡ false = ne-eqb a 0 (λ e. omega (arith, bounds .0, e)) in
       let self : eqb a a ≡ true = eq-eqb a a refl in
       record {

@@ -66,7 +66,7 @@ module _ (d : Device) (allowed : allowedDevice d ≡ true) where
   module _ (has : hasAddress (d .station .link) ≡ true) where
     own-address : addressed (d .station .desk .address) ≡ true
     unfolding stationAllowed
-    own-address = link-addressed (d .station .desk) (d .station .link) (sound d allowed .station) has
+    own-address = link-addressed (d .station .desk) (d .station .link) (sound d allowed .link) has
 
     begun-stays : allowedDevice (begun d) ≡ true
     unfolding begun linkAllowed unsaidAt sessionAllowed numbersAllowed pendingFits

@@ -65,7 +65,7 @@ module _ (d : Device) (allowed : allowedDevice d ≡ true) where
   payload-short Silence = omega arith
   payload-short (Bare c) = omega arith
   payload-short (Reject c v w) = omega arith
-  payload-short (Pend c) = link-short (d .station .desk) (d .station .link) (sound d allowed .station)
+  payload-short (Pend c) = link-short (d .station .desk) (d .station .link) (sound d allowed .link)
   payload-short Scanned =
       scan-short (identityOf (d .plate)) (plate-identity (d .plate) (sound d allowed .plate)) (d .station .desk .address)
   payload-short Assigned =
@@ -100,7 +100,7 @@ address-most t (Connected s) e =
 
 pub address-fits : (d : Device) → allowedDevice d ≡ true → d .station .desk .address ≤ 254
 unfolding stationAllowed
-address-fits d allowed = address-most (d .station .desk) (d .station .link) (sound d allowed .station)
+address-fits d allowed = address-most (d .station .desk) (d .station .link) (sound d allowed .link)
 
 -- ---- after a frame
 

@@ -1,5 +1,5 @@
 -- An allowed record stays allowed under every message, in Connected and with nothing pending: the station keeps its
--- address and its session, whose numbers are 0 to 7, and the answer, if there is one, becomes the pending one.
+-- address, its frame limit and its session, whose numbers are 0 to 7, and the answer, if there is one, becomes the pending one.
 -- Assumes nothing.
 use mathlib.Core.Path.{_≡_, sym, ap, _∙_}
 use mathlib.Core.Bool.{Bool, true}
@@ -7,6 +7,7 @@ use mathlib.Core.List.{List}
 use mathlib.Core.Logic.{⊎-elim}
 use Prim.Native.Nat.{ℕ}
 use Rattle.octets.proofs.Words.{and-parts}
+use Rattle.limits.specs.Limits.{isLimit}
 use Rattle.antenna.specs.declared.Waits.the-variants.{Result}
 use Rattle.antenna.specs.Motions.{waitingOf}
 use Rattle.antenna.proofs.Movements.{starts-no-result}
@@ -15,7 +16,7 @@ use Rattle.record.specs.declared.Session.{Session}
 use Rattle.record.specs.declared.Link.the-variants.{Connected}
 use Rattle.record.specs.declared.Station.{Station}
 use Rattle.record.specs.declared.Device.{Device}
-use Rattle.record.specs.Allowed.{addressed, numbersAllowed, pendingFits, sessionAllowed, linkAllowed, stationAllowed}
+use Rattle.record.specs.Allowed.{limitOf, addressed, numbersAllowed, pendingFits, sessionAllowed, linkAllowed}
 use Rattle.record.specs.Allowed.{owedAllowed, allowedDevice}
 use Rattle.record.proofs.Stays.{sound, allowed-by}
 use Rattle.message.specs.Carried.{carriedOf, unanswered}
@@ -28,21 +29,22 @@ abbrev pub carriedAt : Device → List ℕ → Carried
 carriedAt d m = carriedOf (d .plate) (d .antenna) (d .station .desk .told) (d .station .desk .subscribed) m
 
 -- the address of a device in a session is 1 to 254
-connected-address : (t : Station) (s : Session) → stationAllowed t ≡ true → t .link ≡ Connected s
+connected-address : (t : Station) (s : Session) → linkAllowed (t .desk) (t .link) ≡ true → t .link ≡ Connected s
     → addressed (t .desk .address) ≡ true
-unfolding stationAllowed linkAllowed
+unfolding linkAllowed
 connected-address t s e l =
     and-parts (addressed (t .desk .address)) (sessionAllowed (t .desk) s) (sym (ap (linkAllowed (t .desk)) l) ∙ e) .0
 
 -- t is the station after the message, in the session s
 module _ (d : Device) (s₀ s : Session) (t : Station) (m : List ℕ) (allowed : allowedDevice d ≡ true)
     (here : d .station .link ≡ Connected s₀) (address : t .desk .address ≡ d .station .desk .address)
+    (limit : t .desk .limit ≡ limitOf d)
     (there : t .link ≡ Connected s) (numbers : numbersAllowed s ≡ true) where
-  kept-station : pendingFits (t .desk) (s .pending) ≡ true → stationAllowed t ≡ true
-  unfolding stationAllowed linkAllowed sessionAllowed
-  kept-station p =
+  kept-link : pendingFits (t .desk) (s .pending) ≡ true → linkAllowed (t .desk) (t .link) ≡ true
+  unfolding linkAllowed sessionAllowed
+  kept-link p =
       let a : addressed (t .desk .address) ≡ true =
-      ap addressed address ∙ connected-address (d .station) s₀ (sound d allowed .station) here in
+      ap addressed address ∙ connected-address (d .station) s₀ (sound d allowed .link) here in
       ap (linkAllowed (t .desk)) there ∙ rw (a, numbers, p)
 
   kept : pendingFits (t .desk) (s .pending) ≡ true
@@ -54,7 +56,8 @@ module _ (d : Device) (s₀ s : Session) (t : Station) (m : List ℕ) (allowed :
       (record {
         plate = w .plate;
         range = stays-in-range (d .plate) (d .antenna) (d .station .desk .told) (d .station .desk .subscribed) m (w .range);
-        station = kept-station p;
+        limit = ap isLimit limit ∙ w .limit;
+        link = kept-link p;
         owed = rw there;
       })
 
