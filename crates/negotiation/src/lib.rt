@@ -2,9 +2,11 @@
 // is `limit`. Headline: the limit agreed is the whole octets in the smaller length asked and 4 more, 78 to 260, exactly;
 // none asked keeps it (proofs/Exactly.antt). Assumes nothing of its caller: any octets, any limit.
 ghost use mathlib.Core.Path.{_≡_};
+ghost use mathlib.Core.Bool.{not};
 ghost use Prim.Native.Nat.{_*_, min};
+ghost use lib.ListN.{take, drop};
 ghost use Rattle.limits.specs.Limits.{limitMost, payloadMost};
-ghost use Rattle.params.specs.Walk.{partIn, valueAt};
+ghost use Rattle.params.specs.Walk.{partIn, isAbsent, valueAt};
 ghost use Rattle.negotiation.specs.Negotiation.{negotiating, bitsIn, smallerOf, limitFor, limitAsked, offerOf};
 use limits::LIMIT;
 use limits::LIMIT_MOST;
@@ -75,13 +77,15 @@ fn negotiating() -> Group
     }
 }
 
-// More bits than any frame has: from there on it does not matter how many.
+// The most bits of a payload: past them it does not matter how many.
 const BITS_MOST: usize = 8 * (LIMIT_MOST - 4);
 
-// The number that octets stand for, highest first; past the most bits, some number past them.
-fn bits_in(v: &[u8]) -> usize
-    ensures { λ r. ⌜ min r (payloadMost limitMost * 8) ≡ min (bitsIn (now (v .entry))) (payloadMost limitMost * 8) ⌝ }
+// The number that the octets of a part stand for, highest first; past the most bits, some number past them.
+fn bits_at(payload: &[u8], from: usize, len: usize) -> usize
+    ensures { λ r. ⌜ min r (payloadMost limitMost * 8)
+        ≡ min (bitsIn (take len (drop from (now (payload .entry))))) (payloadMost limitMost * 8) ⌝ }
 {
+    let v = params::value_at(payload, from, len);
     let mut n = 0;
     let mut i = 0;
     while i < v.len() {
@@ -117,19 +121,41 @@ fn limit_asked(payload: &[u8], limit: usize, sent: Part, received: Part) -> usiz
         Part::Absent => {
             match received {
                 Part::Absent => limit,
-                Part::At { from, len } => limit_for(bits_in(params::value_at(payload, from, len))),
+                Part::At { from, len } => limit_for(bits_at(payload, from, len)),
             }
         }
         Part::At { from, len } => {
-            let bits = bits_in(params::value_at(payload, from, len));
+            let bits = bits_at(payload, from, len);
             match received {
                 Part::Absent => limit_for(bits),
-                Part::At { from: start, len: count } => {
-                    let more = bits_in(params::value_at(payload, start, count));
-                    limit_for(octets::fewer(bits, more))
-                }
+                Part::At {
+                    from: start,
+                    len: count,
+                } => limit_for(octets::fewer(bits, bits_at(payload, start, count))),
             }
         }
+    }
+}
+
+fn is_given(part: Part) -> bool
+    ensures { λ r. ⌜ r ≡ not (isAbsent part) ⌝ }
+{
+    match part {
+        Part::Absent => false,
+        Part::At { from: _, len: _ } => true,
+    }
+}
+
+// Which identifiers have a part, each at its place in the table.
+fn asked_by(parts: [Slot; params::ROWS]) -> Asked
+    ensures { λ r. ⌜ (r .sent ≡ not (isAbsent (partIn parts 0))) × (r .received ≡ not (isAbsent (partIn parts 1)))
+        × (r .sending ≡ not (isAbsent (partIn parts 2))) × (r .receiving ≡ not (isAbsent (partIn parts 3))) ⌝ }
+{
+    Asked {
+        sent: is_given(params::part_at(parts, 0)),
+        received: is_given(params::part_at(parts, 1)),
+        sending: is_given(params::part_at(parts, 2)),
+        receiving: is_given(params::part_at(parts, 3)),
     }
 }
 
@@ -138,8 +164,16 @@ pub fn read(limit: usize, payload: &[u8]) -> Offer
     ensures { λ r. ⌜ r ≡ offerOf limit (now (payload .entry)) ⌝ }
 {
     let found = params::walk(payload, negotiating());
+    let parts = found.parts;
     if found.formed {
-        return agreed(limit, payload, found.parts);
+        let asked = asked_by(parts);
+        let most = limit_asked(
+            payload,
+            limit,
+            params::part_at(parts, 0),
+            params::part_at(parts, 1),
+        );
+        return Offer::Agreed { limit: most, asked };
     }
     Offer::Malformed
 }
