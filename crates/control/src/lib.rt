@@ -1,4 +1,5 @@
-// Control octets: the orders that they stand for, and those of answers. Numbers run 0 to 7 and round.
+// Control octets: the orders that they stand for, and those of answers; what an XID to the own address asks. Numbers run 0
+// to 7 and round.
 // Headline: the controls that 01 names are read as what they are, and no other is (proofs/Named.antt); they are read in
 // crate link.
 // Assumes nothing of its caller.
@@ -14,6 +15,15 @@ pub enum Order {
     Rr { nr: u8 },
     Rnr { nr: u8 },
     Unknown,
+}
+
+// Which parameters a negotiation asks, and its answer has: the lengths sent and received, the windows of sending and
+// receiving.
+pub struct Asked {
+    pub sent: bool,
+    pub received: bool,
+    pub sending: bool,
+    pub receiving: bool,
 }
 
 // The control of an XID, either way.

@@ -15,7 +15,7 @@ use Rattle.params.specs.declared.Part.the-variants.{Absent, At}
 use Rattle.params.specs.Field.{Param, paramsOf, given}
 use Rattle.params.specs.Walk.{placeIn, partIn, isAbsent, foundIn, valueAt}
 use Rattle.params.proofs.Values.{walk-formed, walk-malformed}
-use Rattle.negotiation.specs.declared.Asked.{Asked}
+use Rattle.control.specs.declared.Asked.{Asked}
 use Rattle.negotiation.specs.declared.Offer.the-variants.{Malformed, Agreed}
 use Rattle.negotiation.specs.Negotiation.{negotiating, bitsIn, smallerOf, limitFor, limitAsked, agreedLimit}
 use Rattle.negotiation.specs.Negotiation.{askedIn, offered, offerOf}

@@ -18,7 +18,7 @@ use Rattle.limits.specs.Limits.{frameLimit, limitMost, payloadMost}
 use Rattle.params.specs.declared.Group.{Group}
 use Rattle.params.specs.declared.Identifier.{Identifier}
 use Rattle.params.specs.Field.{Param, _has_to_, paramsOf, valueFor, given}
-use Rattle.negotiation.specs.declared.Asked.{Asked}
+use Rattle.control.specs.declared.Asked.{Asked}
 use Rattle.negotiation.specs.declared.Offer.{Offer}
 use Rattle.negotiation.specs.declared.Offer.the-variants.{Malformed, Agreed}
 

@@ -8,6 +8,7 @@ ghost use lib.ListN.{take, drop};
 ghost use Rattle.limits.specs.Limits.{limitMost, payloadMost};
 ghost use Rattle.params.specs.Walk.{partIn, isAbsent, valueAt};
 ghost use Rattle.negotiation.specs.Negotiation.{negotiating, bitsIn, smallerOf, limitFor, limitAsked, offerOf};
+use control::Asked;
 use limits::LIMIT;
 use limits::LIMIT_MOST;
 use params::Group;
@@ -25,14 +26,6 @@ pub const RECEIVED_ID: u8 = 6;
 pub const SENDING_ID: u8 = 7;
 
 pub const RECEIVING_ID: u8 = 8;
-
-// Which identifiers a negotiation asks: the lengths sent and received, the windows of sending and receiving.
-pub struct Asked {
-    pub sent: bool,
-    pub received: bool,
-    pub sending: bool,
-    pub receiving: bool,
-}
 
 // What a payload comes to: no negotiation; or the frame limit from now on, and what was asked.
 pub enum Offer {

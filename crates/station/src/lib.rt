@@ -2,7 +2,7 @@
 ghost use mathlib.Core.Path.{_≡_};
 ghost use Rattle.station.specs.Station.{resent, answersWith};
 ghost use Rattle.station.specs.Turns.{answering};
-use negotiation::Asked;
+use control::Asked;
 use record::Device;
 use record::Link;
 use record::Payload;

@@ -12,7 +12,7 @@ use mathlib.Core.List.{List, [], _∷_}
 use Prim.Native.Nat.{ℕ, _*_}
 use Rattle.octets.specs.Octets.{lowOf, highOf}
 use Rattle.limits.specs.Limits.{payloadMost}
-use Rattle.negotiation.specs.declared.Asked.{Asked}
+use Rattle.control.specs.declared.Asked.{Asked}
 use Rattle.negotiation.specs.Negotiation.{sentId, receivedId, sendingId, receivingId, negotiating}
 use Rattle.params.specs.Field.{Param, _is_, format, xidPayload}
 use Rattle.xid.specs.Addressing.{identityId, addressId, kindId, addressing}
