@@ -1,6 +1,6 @@
--- All that can come of a frame: every frame does one of twelve things, each with its reason (`judged-cases`). Assumes
+-- All that can come of a frame: every frame does one of thirteen things, each with its reason (`judged-cases`). Assumes
 -- nothing.
-use mathlib.Core.Path.{_≡_, refl, ap, _∙_}
+use mathlib.Core.Path.{_≡_, refl, sym, ap, _∙_}
 use mathlib.Core.Bool.{Bool, true, false, cond}
 use mathlib.Core.List.{List}
 use mathlib.Core.Option.{none, some}
@@ -9,7 +9,7 @@ use borrow.Author.Tests.{eqb-true, eqb-false, ne-eqb}
 use lib.Dec.{eqb}
 use lib.ListN.{length, getD, drop}
 use Rattle.octets.proofs.Words.{true-not-false}
-use Rattle.limits.specs.Limits.{frameLimit, frameMost}
+use Rattle.limits.specs.Limits.{frameMost}
 use Rattle.control.specs.Control.{polled, xidControl, askedBy}
 use Rattle.control.specs.declared.Order.{Order}
 use Rattle.control.specs.declared.Order.the-variants.{Xid, Snrm, Disc, Info, Rr, Rnr, Unknown}
@@ -17,8 +17,13 @@ use Rattle.record.specs.declared.Session.{Session}
 use Rattle.record.specs.declared.Link.{Link}
 use Rattle.record.specs.declared.Link.the-variants.{NoAddress, AddressAssigned, Connected}
 use Rattle.record.specs.declared.Device.{Device}
-use Rattle.record.specs.Allowed.{identityOf}
-use Rattle.record.specs.Changes.{endedAs}
+use Rattle.record.specs.Allowed.{identityOf, limitOf}
+use Rattle.record.specs.Changes.{endedAs, limitedTo}
+use Rattle.control.specs.declared.Asked.{Asked}
+use Rattle.negotiation.specs.declared.Offer.{Offer}
+use Rattle.negotiation.specs.declared.Offer.the-variants.{Malformed, Agreed}
+use Rattle.negotiation.specs.Negotiation.{offerOf}
+use Rattle.negotiation.proofs.Exactly.{offer-malformed}
 use Rattle.session.specs.Session.{goodNumber}
 use Rattle.xid.specs.Match.{readOf}
 use Rattle.xid.specs.declared.Xid as xids
@@ -28,19 +33,38 @@ use Rattle.station.specs.declared.Turn.{Turn}
 use Rattle.station.specs.Turns.{saying, mute}
 use Rattle.states.specs.States.{begun, renewed, released, ua, dm, rejected, informedBy, polledBy, pausedBy}
 use Rattle.states.specs.States.{infoBy, rrBy, rnrBy, connectedBy, isSnrm, assignedBy, linkedBy}
-use Rattle.link.specs.Link.{allStations, quiet, ownBy, xidBy, everyoneBy, isOwn, addressedBy}
-use Rattle.link.specs.Link.{controlledBy, wrongSize, judgedFrame}
-use Rattle.link.specs.Frames.{controlOf, Own, numberIn, Numbered, Everyone, Unread}
-use Rattle.link.specs.Frames.{missized, unpolled, unfit, unmeant, elsewhere, unheeded, unassigned}
+use Rattle.link.specs.Link.{allStations, quiet, orderedBy, hasAddress, agreedBy, negotiatedBy, ownBy, xidBy}
+use Rattle.link.specs.Link.{everyoneBy, isOwn, addressedBy, controlledBy, wrongSize, judgedFrame}
+use Rattle.link.specs.Frames.{controlOf, Own, numberIn, Numbered, Everyone, Negotiates, Unread}
+use Rattle.link.specs.Frames.{missized, unpolled, unfit, unmeant, elsewhere, unheeded, unagreed, unassigned}
 use Rattle.link.proofs.Judged.{size-right, judged-is}
+
+-- an order that is read is no XID
+pub own-no-xid : (d : Device) (f : List ℕ) (o : Order) → Own d f o → eqb (controlOf f) xidControl ≡ false
+unfolding askedBy
+own-no-xid d f o w = go (eqb (controlOf f) xidControl) refl
+  where
+    go : (b : Bool) → eqb (controlOf f) xidControl ≡ b → b ≡ false
+    go true e =
+        let asks : askedBy (controlOf f) ≡ Xid = rw e in
+        absurd (true-not-false (sym (ap (λ (x : Order). quiet x (eqb (length (drop 2 f)) 0)) (sym (w .order) ∙ asks)) ∙ w .read))
+    go false e = refl
 
 pub own-is : (d : Device) (f : List ℕ) (o : Order) → Own d f o
     → judgedFrame d f ≡ linkedBy d (d .station .link) o (controlOf f) (drop 2 f)
-unfolding controlledBy addressedBy ownBy
+unfolding controlledBy addressedBy ownBy orderedBy
 own-is d f o w =
-    judged-is d f (w .least) (w .most) ∙ rw (w .poll, w .all, w .own, w .order) (rw (w .read))
+    judged-is d f (w .least) (w .most)
+    ∙ rw (w .poll, w .all, w .own, own-no-xid d f o w, w .order) (rw (w .read))
 
-pub everyone-is : (d : Device) (f : List ℕ) → Everyone f
+-- a negotiation, at the own address
+pub negotiates-is : (d : Device) (f : List ℕ) → Negotiates d f
+    → judgedFrame d f ≡ agreedBy d (offerOf (limitOf d) (drop 2 f))
+unfolding controlledBy addressedBy ownBy negotiatedBy polled
+negotiates-is d f w =
+    judged-is d f (w .least) (w .most) ∙ rw (w .all, w .own, w .control) (rw (w .link))
+
+pub everyone-is : (d : Device) (f : List ℕ) → Everyone d f
     → judgedFrame d f ≡ xidBy d (readOf (identityOf (d .plate)) (drop 2 f))
 unfolding controlledBy addressedBy everyoneBy polled
 everyone-is d f w = judged-is d f (w .least) (w .most) ∙ rw (w .address, w .control)
@@ -54,25 +78,35 @@ either false e h = h
 module _ (d : Device) (f : List ℕ) where
   controlled-silent : controlledBy d (getD f 0 0) (controlOf f) (drop 2 f) ≡ mute d → judgedFrame d f ≡ mute d
   unfolding judgedFrame
-  controlled-silent e = either (wrongSize f) refl e
+  controlled-silent e = either (wrongSize (limitOf d) f) refl e
 
   addressed-silent : addressedBy d (getD f 0 0) (controlOf f) (drop 2 f) ≡ mute d → judgedFrame d f ≡ mute d
   unfolding controlledBy
   addressed-silent e = controlled-silent (either (polled (controlOf f)) e refl)
 
+  -- at the own address, in whichever of the two ways
+  own-silent : (getD f 0 0 ≡ allStations → ⊥) → ownBy d (controlOf f) (drop 2 f) ≡ mute d → judgedFrame d f ≡ mute d
+  unfolding addressedBy
+  own-silent a e =
+      addressed-silent (rw (ne-eqb (getD f 0 0) allStations a) (either (isOwn d (getD f 0 0)) e refl))
+
   -- every reason is one
   pub unread-silent : Unread d f → judgedFrame d f ≡ mute d
-  unfolding judgedFrame controlledBy addressedBy everyoneBy ownBy xidBy linkedBy
+  unfolding judgedFrame controlledBy addressedBy everyoneBy ownBy orderedBy negotiatedBy agreedBy xidBy linkedBy
   unread-silent (missized e) = rw e
   unread-silent (unpolled e) = controlled-silent (rw e)
   unread-silent (unfit a c) = addressed-silent (rw (a, ne-eqb (controlOf f) xidControl c))
   unread-silent (unmeant k w g) =
       everyone-is d f w ∙ ap (xidBy d) (silence-numbered (identityOf (d .plate)) (drop 2 f) .1 (k, g))
   unread-silent (elsewhere a o) = addressed-silent (rw (ne-eqb (getD f 0 0) allStations a, o))
-  unread-silent (unheeded a q) =
-      addressed-silent (rw (ne-eqb (getD f 0 0) allStations a) (either (isOwn d (getD f 0 0)) (rw q) refl))
-  unread-silent (unassigned o w l) =
-      own-is d f o w ∙ ap (λ (k : Link). linkedBy d k o (controlOf f) (drop 2 f)) l
+  unread-silent (unheeded a c q) = own-silent a (rw (ne-eqb (controlOf f) xidControl c) (rw q))
+  unread-silent (unagreed a c n) =
+      own-silent a
+      (rw c (either (hasAddress (d .station .link)) (ap (agreedBy d) (offer-malformed (limitOf d) (drop 2 f) .1 n)) refl))
+  unread-silent (unassigned a l) =
+      own-silent a
+      (either (eqb (controlOf f) xidControl) (rw l)
+      (either (quiet (askedBy (controlOf f)) (eqb (length (drop 2 f)) 0)) refl (rw l)))
 
 -- ---- every frame
 
@@ -95,9 +129,11 @@ order-cases P r info rr rnr o e = go o e
 
 module _ (d : Device) (f : List ℕ) (P : Turn → Type 0)
     (silent : Unread d f → P (mute d))
-    (scanned : Everyone f → readOf (identityOf (d .plate)) (drop 2 f) ≡ xids.Xid.Scan → P (saying d Say.Scanned))
-    (assigned : (a : ℕ) → Everyone f → readOf (identityOf (d .plate)) (drop 2 f) ≡ xids.Xid.Assignment a
+    (scanned : Everyone d f → readOf (identityOf (d .plate)) (drop 2 f) ≡ xids.Xid.Scan → P (saying d Say.Scanned))
+    (assigned : (a : ℕ) → Everyone d f → readOf (identityOf (d .plate)) (drop 2 f) ≡ xids.Xid.Assignment a
     → P (saying (endedAs d a AddressAssigned) Say.Assigned))
+    (negotiated : (n : ℕ) (a : Asked) → Negotiates d f → offerOf (limitOf d) (drop 2 f) ≡ Agreed n a
+    → P (saying (limitedTo d n) (Say.Negotiated a)))
     (begins : Own d f Snrm → d .station .link ≡ AddressAssigned → P (saying (begun d) ua))
     (refuses : (o : Order) → Own d f o → isSnrm o ≡ false → d .station .link ≡ AddressAssigned → P (saying d dm))
     (renews : (s : Session) → Own d f Snrm → d .station .link ≡ Connected s → P (saying (renewed d) ua))
@@ -141,11 +177,18 @@ module _ (d : Device) (f : List ℕ) (P : Turn → Type 0)
   linked-cases : (o : Order) → Own d f o → (l : Link) → d .station .link ≡ l
       → P (linkedBy d l o (controlOf f) (drop 2 f))
   unfolding linkedBy
-  linked-cases o w NoAddress e = silent (unassigned o w e)
+  linked-cases o w NoAddress e = silent (unassigned (eqb-false (getD f 0 0) allStations (w .all)) e)
   linked-cases o w AddressAssigned e = assigned-cases o w e
   linked-cases o w (Connected s) e = connected-cases s o w e
 
-  xid-cases : Everyone f → (x : xids.Xid) → readOf (identityOf (d .plate)) (drop 2 f) ≡ x → P (xidBy d x)
+  offer-cases : Negotiates d f → (x : Offer) → offerOf (limitOf d) (drop 2 f) ≡ x → P (agreedBy d x)
+  unfolding agreedBy
+  offer-cases w Malformed e =
+      silent
+      (unagreed (eqb-false (getD f 0 0) allStations (w .all)) (w .control) (offer-malformed (limitOf d) (drop 2 f) .0 e))
+  offer-cases w (Agreed n a) e = negotiated n a w e
+
+  xid-cases : Everyone d f → (x : xids.Xid) → readOf (identityOf (d .plate)) (drop 2 f) ≡ x → P (xidBy d x)
   unfolding xidBy
   xid-cases w xids.Xid.Silence e =
       let (k, g) = silence-numbered (identityOf (d .plate)) (drop 2 f) .0 e in
@@ -153,28 +196,45 @@ module _ (d : Device) (f : List ℕ) (P : Turn → Type 0)
   xid-cases w xids.Xid.Scan e = scanned w e
   xid-cases w (xids.Xid.Assignment a) e = assigned a w e
 
-  module _ (least : 2 ≤ length f) (most : length f ≤ frameMost frameLimit) where
+  module _ (least : 2 ≤ length f) (most : length f ≤ frameMost (limitOf d)) where
     everyone-cases : getD f 0 0 ≡ allStations → (b : Bool) → eqb (controlOf f) xidControl ≡ b
         → P (cond b (xidBy d (readOf (identityOf (d .plate)) (drop 2 f))) (mute d))
     everyone-cases a true e =
         xid-cases (record { least = least; most = most; address = a; control = eqb-true _ _ e }) _ refl
     everyone-cases a false e = silent (unfit a (eqb-false (controlOf f) xidControl e))
 
-    own-cases : polled (controlOf f) ≡ true → eqb (getD f 0 0) allStations ≡ false → isOwn d (getD f 0 0) ≡ true
-        → (b : Bool) → quiet (askedBy (controlOf f)) (eqb (length (drop 2 f)) 0) ≡ b → P
-        (cond b (mute d) (linkedBy d (d .station .link) (askedBy (controlOf f)) (controlOf f) (drop 2 f)))
-    own-cases p a o true e = silent (unheeded (eqb-false (getD f 0 0) allStations a) e)
-    own-cases p a o false e =
-        linked-cases (askedBy (controlOf f))
-        (record { least = least; most = most; poll = p; all = a; own = o; order = refl; read = e }) _ refl
+    module _ (a : eqb (getD f 0 0) allStations ≡ false) (o : isOwn d (getD f 0 0) ≡ true) where
+      ordered-cases : polled (controlOf f) ≡ true → (controlOf f ≡ xidControl → ⊥)
+          → (b : Bool) → quiet (askedBy (controlOf f)) (eqb (length (drop 2 f)) 0) ≡ b → P
+          (cond b (mute d) (linkedBy d (d .station .link) (askedBy (controlOf f)) (controlOf f) (drop 2 f)))
+      ordered-cases p n true e = silent (unheeded (eqb-false (getD f 0 0) allStations a) n e)
+      ordered-cases p n false e =
+          linked-cases (askedBy (controlOf f))
+          (record { least = least; most = most; poll = p; all = a; own = o; order = refl; read = e }) _ refl
+
+      negotiated-cases : controlOf f ≡ xidControl → (l : Link) → d .station .link ≡ l
+          → P (cond (hasAddress l) (agreedBy d (offerOf (limitOf d) (drop 2 f))) (mute d))
+      negotiated-cases c NoAddress l = silent (unassigned (eqb-false (getD f 0 0) allStations a) l)
+      negotiated-cases c AddressAssigned l =
+          offer-cases
+          (record { least = least; most = most; all = a; own = o; control = c; link = ap hasAddress l }) _ refl
+      negotiated-cases c (Connected s) l =
+          offer-cases
+          (record { least = least; most = most; all = a; own = o; control = c; link = ap hasAddress l }) _ refl
+
+      own-cases : polled (controlOf f) ≡ true → (b : Bool) → eqb (controlOf f) xidControl ≡ b
+          → P (cond b (negotiatedBy d (drop 2 f)) (orderedBy d (askedBy (controlOf f)) (controlOf f) (drop 2 f)))
+      unfolding negotiatedBy orderedBy
+      own-cases p true c = negotiated-cases (eqb-true _ _ c) (d .station .link) refl
+      own-cases p false c = ordered-cases p (eqb-false (controlOf f) xidControl c) _ refl
 
     addressed-cases : polled (controlOf f) ≡ true → (a : Bool) → eqb (getD f 0 0) allStations ≡ a → (o : Bool)
         → isOwn d (getD f 0 0) ≡ o → P
         (cond a (everyoneBy d (controlOf f) (drop 2 f))
-        (cond o (ownBy d (askedBy (controlOf f)) (controlOf f) (drop 2 f)) (mute d)))
+        (cond o (ownBy d (controlOf f) (drop 2 f)) (mute d)))
     unfolding everyoneBy ownBy
     addressed-cases p true a o e = everyone-cases (eqb-true _ _ a) (eqb (controlOf f) xidControl) refl
-    addressed-cases p false a true e = own-cases p a e _ refl
+    addressed-cases p false a true e = own-cases a e p (eqb (controlOf f) xidControl) refl
     addressed-cases p false a false e = silent (elsewhere (eqb-false (getD f 0 0) allStations a) e)
 
     controlled-cases : (p : Bool) → polled (controlOf f) ≡ p
@@ -186,9 +246,9 @@ module _ (d : Device) (f : List ℕ) (P : Turn → Type 0)
   -- each frame does one of these things
   pub judged-cases : P (judgedFrame d f)
   unfolding judgedFrame controlledBy
-  judged-cases = go (wrongSize f) refl
+  judged-cases = go (wrongSize (limitOf d) f) refl
     where
-      go : (b : Bool) → wrongSize f ≡ b
+      go : (b : Bool) → wrongSize (limitOf d) f ≡ b
           → P (cond b (mute d) (controlledBy d (getD f 0 0) (getD f 1 0) (drop 2 f)))
       go true e = silent (missized e)
-      go false e = let (least, most) = size-right f e in controlled-cases least most (polled (controlOf f)) refl
+      go false e = let (least, most) = size-right (limitOf d) f e in controlled-cases least most (polled (controlOf f)) refl

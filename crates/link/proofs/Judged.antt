@@ -8,44 +8,45 @@ use Prim.Native.Nat.{ℕ, _-_, _<_, _≤_}
 use borrow.Author.Tests.{lt-ltb, le-ltb, ltb-true, ltb-false}
 use lib.Dec.{ltb}
 use lib.ListN.{length, getD, take, drop}
-use Rattle.limits.specs.Limits.{frameLimit, frameMost}
+use Rattle.limits.specs.Limits.{frameMost}
 use Rattle.octets.proofs.Takes.{take-rest}
 use Rattle.octets.proofs.Words.{true-not-false}
 use Rattle.record.specs.declared.Device.{Device}
+use Rattle.record.specs.Allowed.{limitOf}
 use Rattle.station.specs.declared.Turn.{Turn}
 use Rattle.link.specs.Link.{controlledBy, wrongSize, judgedFrame}
 
-module _ (f : List ℕ) where
-  -- "fewer than 2 or more than 76 octets"
-  pub wrong-size-exactly : wrongSize f ≡ true ↔ (length f < 2) ⊎ (76 < length f)
+module _ (N : ℕ) (f : List ℕ) where
+  -- "fewer than 2 or more than 76 octets", and N - 2 for 76
+  pub wrong-size-exactly : wrongSize N f ≡ true ↔ (length f < 2) ⊎ (N - 2 < length f)
   unfolding wrongSize
   wrong-size-exactly = (
     go (ltb (length f) 2) refl,
-    ⊎-elim (λ h. rw (lt-ltb (length f) 2 h)) (λ h. rw (lt-ltb (frameMost frameLimit) (length f) h) (or-true (ltb (length f) 2))),
+    ⊎-elim (λ h. rw (lt-ltb (length f) 2 h)) (λ h. rw (lt-ltb (frameMost N) (length f) h) (or-true (ltb (length f) 2))),
   )
     where
-      go : (b : Bool) → ltb (length f) 2 ≡ b → b || ltb (frameMost frameLimit) (length f) ≡ true
-          → (length f < 2) ⊎ (frameMost frameLimit < length f)
+      go : (b : Bool) → ltb (length f) 2 ≡ b → b || ltb (frameMost N) (length f) ≡ true
+          → (length f < 2) ⊎ (frameMost N < length f)
       go true e h = inl (ltb-true (length f) 2 e)
-      go false e h = inr (ltb-true (frameMost frameLimit) (length f) h)
+      go false e h = inr (ltb-true (frameMost N) (length f) h)
 
-  pub size-right : wrongSize f ≡ false → (2 ≤ length f) × (length f ≤ frameMost frameLimit)
+  pub size-right : wrongSize N f ≡ false → (2 ≤ length f) × (length f ≤ frameMost N)
   unfolding wrongSize
   size-right = go (ltb (length f) 2) refl
     where
-      go : (b : Bool) → ltb (length f) 2 ≡ b → b || ltb (frameMost frameLimit) (length f) ≡ false
-          → (2 ≤ length f) × (length f ≤ frameMost frameLimit)
+      go : (b : Bool) → ltb (length f) 2 ≡ b → b || ltb (frameMost N) (length f) ≡ false
+          → (2 ≤ length f) × (length f ≤ frameMost N)
       go true e h = absurd (true-not-false h)
-      go false e h = (ltb-false (length f) 2 e, ltb-false (frameMost frameLimit) (length f) h)
+      go false e h = (ltb-false (length f) 2 e, ltb-false (frameMost N) (length f) h)
 
-  pub size-fits : 2 ≤ length f → length f ≤ frameMost frameLimit → wrongSize f ≡ false
+  pub size-fits : 2 ≤ length f → length f ≤ frameMost N → wrongSize N f ≡ false
   unfolding wrongSize
-  size-fits two most = rw (le-ltb (length f) 2 two, le-ltb (frameMost frameLimit) (length f) most)
+  size-fits two most = rw (le-ltb (length f) 2 two, le-ltb (frameMost N) (length f) most)
 
-module _ (d : Device) (f : List ℕ) (two : 2 ≤ length f) (most : length f ≤ frameMost frameLimit) where
+module _ (d : Device) (f : List ℕ) (two : 2 ≤ length f) (most : length f ≤ frameMost (limitOf d)) where
   pub judged-is : judgedFrame d f ≡ controlledBy d (getD f 0 0) (getD f 1 0) (drop 2 f)
   unfolding judgedFrame
-  judged-is = rw (size-fits f two most)
+  judged-is = rw (size-fits (limitOf d) f two most)
 
   pub judged-by : (t : Turn) → t ≡ controlledBy d (getD f 0 0) (getD f 1 0) (take (length f - 2) (drop 2 f))
       → t ≡ judgedFrame d f
