@@ -71,38 +71,40 @@ module _ (N : ℕ) (m : List ℕ) where
   unfolding offerOf offered
   offer-agreed ps w = rw (params-exactly negotiating m ps .1 w)
 
-  -- well formed, in one way; or not
-  formed-or-not : (x : Option (List Param)) → paramsOf negotiating m ≡ x
-      → ((ps : List Param) × WellFormed negotiating m ps)
-      ⊎ ((offerOf N m ≡ Malformed) × ((ps : List Param) → WellFormed negotiating m ps → ⊥))
+  formed-or-not : ((ps : List Param) × WellFormed negotiating m ps) ⊎ (offerOf N m ≡ Malformed)
   unfolding offerOf offered
-  formed-or-not none e =
-      inr (rw e, λ ps w. let f = params-exactly negotiating m ps .1 w in let z : _≡_ {A = ℕ} 0 1 = cc in omega arith)
-  formed-or-not (some ps) e = inl (ps, params-exactly negotiating m ps .0 e)
+  formed-or-not = go (paramsOf negotiating m) refl
+    where
+      go : (x : Option (List Param)) → paramsOf negotiating m ≡ x
+          → ((ps : List Param) × WellFormed negotiating m ps) ⊎ (offerOf N m ≡ Malformed)
+      go none e = inr (rw e)
+      go (some ps) e = inl (ps, params-exactly negotiating m ps .0 e)
 
   pub offer-malformed : offerOf N m ≡ Malformed ↔ ((ps : List Param) → WellFormed negotiating m ps → ⊥)
   offer-malformed = (
     λ e ps w. not-agreed (sym e ∙ offer-agreed ps w),
-    λ h. ⊎-elim (λ (ps, w). absurd (h ps w)) (λ (e, n). e) (formed-or-not (paramsOf negotiating m) refl),
+    λ h. ⊎-elim (λ (ps, w). absurd (h ps w)) (λ e. e) formed-or-not,
   )
 
   -- an agreement comes of a well-formed payload alone, by its parameters, which are read in one way
   pub offer-exactly : (L : ℕ) (a : Asked) → offerOf N m ≡ Agreed L a
       ↔ ((ps : List Param) × WellFormed negotiating m ps × (L ≡ agreedLimit N ps) × (a ≡ askedIn ps)
       × ((qs : List Param) → WellFormed negotiating m qs → ps ≡ qs))
-  offer-exactly L a = (
-    λ e.
-        ⊎-elim (λ (ps, w).
-        let f = sym e ∙ offer-agreed ps w in
-        (ps, w, cc, cc, λ qs v. one-reading negotiating m ps qs w v))
-        (λ (n, h). absurd (not-agreed (sym n ∙ e))) (formed-or-not (paramsOf negotiating m) refl),
-    λ (ps, w, l, b, one). offer-agreed ps w ∙ rw (l, b),
-  )
+  offer-exactly L a = (there, λ (ps, w, l, b, one). offer-agreed ps w ∙ rw (l, b))
+    where
+      there : offerOf N m ≡ Agreed L a
+          → (ps : List Param) × WellFormed negotiating m ps × (L ≡ agreedLimit N ps) × (a ≡ askedIn ps)
+          × ((qs : List Param) → WellFormed negotiating m qs → ps ≡ qs)
+      there e =
+          ⊎-elim (λ (ps, w).
+          let f = sym e ∙ offer-agreed ps w in
+          (ps, w, cc, cc, λ qs v. one-reading negotiating m ps qs w v))
+          (λ n. absurd (not-agreed (sym n ∙ e))) formed-or-not
 
 -- ---- the limit
 
--- "none asked keeps N"
 module _ (N : ℕ) (ps : List Param) where
+  -- "none asked keeps N"
   pub limit-kept : valueFor 5 ps ≡ none → valueFor 6 ps ≡ none → agreedLimit N ps ≡ N
   unfolding agreedLimit limitAsked smallerOf
   limit-kept p q = rw (p, q)
