@@ -1,18 +1,16 @@
 -- What the walk finds of a negotiation: the limit by the parts of the two lengths, and which identifiers are asked, each
 -- by the part at its place in the table. Assumes nothing.
-use mathlib.Core.Path.{_≡_, refl, sym, ap, _∙_}
+use mathlib.Core.Path.{_≡_, refl, ap, _∙_}
 use mathlib.Core.Bool.{true, false, not}
 use mathlib.Core.List.{List}
-use mathlib.Core.Option.{none, some}
 use Prim.Native.Nat.{ℕ, _*_, min}
-use native.Mathlib.Omega.{arith}
 use lib.Dec.{lit<}
 use lib.ListN.{take, drop}
 use Rattle.limits.specs.Limits.{limitMost, payloadMost}
 use Rattle.params.specs.declared.Found.{Found}
 use Rattle.params.specs.declared.Part.{Part}
 use Rattle.params.specs.declared.Part.the-variants.{Absent, At}
-use Rattle.params.specs.Field.{Param, paramsOf, given}
+use Rattle.params.specs.Field.{given}
 use Rattle.params.specs.Walk.{placeIn, partIn, isAbsent, foundIn, valueAt}
 use Rattle.params.proofs.Values.{walk-formed, walk-malformed}
 use Rattle.control.specs.declared.Asked.{Asked}
