@@ -14,6 +14,7 @@ use Rattle.octets.proofs.Words.{true-not-false}
 use Rattle.record.specs.declared.Device.{Device}
 use Rattle.record.specs.Allowed.{limitOf}
 use Rattle.station.specs.declared.Turn.{Turn}
+use Rattle.station.specs.Turns.{mute}
 use Rattle.link.specs.Link.{controlledBy, wrongSize, judgedFrame}
 
 module _ (N : ℕ) (f : List ℕ) where
@@ -42,6 +43,17 @@ module _ (N : ℕ) (f : List ℕ) where
   pub size-fits : 2 ≤ length f → length f ≤ frameMost N → wrongSize N f ≡ false
   unfolding wrongSize
   size-fits two most = rw (le-ltb (length f) 2 two, le-ltb (frameMost N) (length f) most)
+
+module _ (d : Device) (f : List ℕ) where
+  missized : wrongSize (limitOf d) f ≡ true → mute d ≡ judgedFrame d f
+  unfolding judgedFrame
+  missized e = rw e
+
+  pub too-short : length f < 2 → mute d ≡ judgedFrame d f
+  too-short h = missized (wrong-size-exactly (limitOf d) f .1 (inl h))
+
+  pub too-long : frameMost (limitOf d) < length f → mute d ≡ judgedFrame d f
+  too-long h = missized (wrong-size-exactly (limitOf d) f .1 (inr h))
 
 module _ (d : Device) (f : List ℕ) (two : 2 ≤ length f) (most : length f ≤ frameMost (limitOf d)) where
   pub judged-is : judgedFrame d f ≡ controlledBy d (getD f 0 0) (getD f 1 0) (drop 2 f)

@@ -38,7 +38,7 @@ supervised-quiet o bare (disc e) = rw e
 supervised-quiet o bare (rr r e) = rw e
 supervised-quiet o bare (rnr r e) = rw e
 
--- "Own address, XID: silence. SNRM, DISC, RR or RNR with payload: silence."
+-- "SNRM, DISC, RR or RNR with payload: silence."; an XID is no order of the link's states
 pub quiet-exactly : (o : Order) (bare : Bool) → quiet o bare ≡ true ↔ ((o ≡ Xid) ⊎ ((bare ≡ false) × Supervised o))
 quiet-exactly o bare = (
   why-quiet o bare,

@@ -5,8 +5,8 @@
 --   negotiates d f   == it is the own one of the device d, where a negotiation is answered
 --   wrongAddress d f == 2: it is neither
 --   wrongControl f   == 3: the control of f is not that of an XID
---   malformedOffer m == 4, at the own address: the payload m is no well-formed negotiation
---   addressRows d f  == the rows of the payload, by the address octet: 4 to 10 to all stations, 4 at the own address
+--   malformedAt f    == 4: the payload is not well formed, of the group 0xF0 to all stations, of 0x80 at the own address
+--   valueRowsAt d f  == the rows of what is given, 5 to 10: to all stations alone
 --   xidRows d f      == the ten rows of f, for the device d
 --   xidTurn d f      == what comes of f where no row holds: a scan or an assignment to all stations, else a negotiation
 --   xidAnswer d f    == that, or the number of the first row that holds
@@ -22,7 +22,7 @@ use Rattle.record.specs.declared.Device.{Device}
 use Rattle.record.specs.Allowed.{identityOf, limitOf}
 use Rattle.params.specs.Field.{paramsOf}
 use Rattle.negotiation.specs.Negotiation.{negotiating}
-use Rattle.xid.specs.Match.{noParams, valuesIn, payloadRows, meaningOf}
+use Rattle.xid.specs.Match.{noParams, malformed, valuesIn, valueRows, meaningOf}
 use Rattle.control.specs.Control.{xidControl}
 use Rattle.station.specs.declared.Turn.{Turn}
 use Rattle.station.specs.Turns.{mute}
@@ -45,17 +45,17 @@ wrongAddress d f = not (toAll f || negotiates d f)
 unfoldable pub wrongControl : List ℕ → Bool
 wrongControl f = not (eqb (controlOf f) xidControl)
 
--- "as is all but a negotiation at the own address"
-unfoldable pub malformedOffer : List ℕ → Bool
-malformedOffer m = noParams (paramsOf negotiating m)
+-- "malformed, as is all but a negotiation at the own address"
+unfoldable pub malformedAt : List ℕ → Bool
+malformedAt f = cond (toAll f) (malformed (drop 2 f)) (noParams (paramsOf negotiating (drop 2 f)))
 
-unfoldable pub addressRows : Device → List ℕ → List TestRow
-addressRows d f =
-    cond (toAll f) (payloadRows (identityOf (d .plate)) (drop 2 f)) (4 when malformedOffer (drop 2 f) ∷ [])
+unfoldable pub valueRowsAt : Device → List ℕ → List TestRow
+valueRowsAt d f = cond (toAll f) (valueRows (identityOf (d .plate)) (valuesIn (drop 2 f))) []
 
 unfoldable pub xidRows : Device → List ℕ → List TestRow
 xidRows d f =
-    1 when wrongSize (limitOf d) f ∷ 2 when wrongAddress d f ∷ 3 when wrongControl f ∷ addressRows d f
+    1 when wrongSize (limitOf d) f
+    ∷ 2 when wrongAddress d f ∷ 3 when wrongControl f ∷ 4 when malformedAt f ∷ valueRowsAt d f
 
 unfoldable pub xidTurn : Device → List ℕ → Turn
 xidTurn d f = cond (toAll f) (xidBy d (meaningOf (valuesIn (drop 2 f)))) (negotiatedBy d (drop 2 f))

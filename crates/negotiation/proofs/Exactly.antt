@@ -16,7 +16,7 @@ use Rattle.params.specs.declared.Identifier.{Identifier}
 use Rattle.params.specs.Field.{Param, rightLength, WellFormed, paramsOf, valueFor}
 use Rattle.params.proofs.Exact.{params-exactly, one-reading}
 use Rattle.params.proofs.Kept.{both-of}
-use Rattle.negotiation.specs.declared.Asked.{Asked}
+use Rattle.control.specs.declared.Asked.{Asked}
 use Rattle.negotiation.specs.declared.Offer.the-variants.{Malformed, Agreed}
 use Rattle.negotiation.specs.Negotiation.{negotiating, bitsIn, smallerOf, limitFor, limitAsked, agreedLimit}
 use Rattle.negotiation.specs.Negotiation.{askedIn, offered, offerOf}

@@ -7,7 +7,7 @@ use Prim.Native.Nat.{ℕ}
 use Rattle.octets.specs.Octets.{holds}
 use Rattle.params.specs.Field.{opened, triplesAfter, before, checked, allRight, rightLength, identifiers}
 use Rattle.params.specs.Field.{noneTwice, paramsOf, valueFor, given}
-use Rattle.negotiation.specs.declared.Asked.{Asked}
+use Rattle.control.specs.declared.Asked.{Asked}
 use Rattle.negotiation.specs.declared.Offer.{Offer}
 use Rattle.negotiation.specs.declared.Offer.the-variants.{Malformed, Agreed}
 use Rattle.negotiation.specs.Negotiation.{bitsFrom, smallerOf, limitFor, limitAsked, agreedLimit, askedIn}

@@ -16,15 +16,12 @@ returns c = search (tests, sym (c .everyone .ensures))
 is-own-requires : tie.Need-is-own-requires
 is-own-requires c κs = search needs
 
-asked-requires : tie.Need-asked-requires
-asked-requires c κs = search needs
-
 own-requires : tie.Need-own-requires
 own-requires c κs = search needs
 
 returns-2 : tie.Need-returns-2
 unfolding addressedBy
-returns-2 c = search (tests, sym (c .own .ensures), sym (c .before .asked .ensures .order), sym (c .before .before .before .is-own .ensures) ∙ c .before .before .if2 .taken)
+returns-2 c = search (tests, sym (c .own .ensures), sym (c .before .before .is-own .ensures) ∙ c .before .if2 .taken)
 
 say-requires : tie.Need-say-requires
 say-requires c κs = search needs
@@ -40,7 +37,6 @@ addressed-spec =
     everyone-requires
     returns
     is-own-requires
-    asked-requires
     own-requires
     returns-2
     say-requires
