@@ -1,5 +1,5 @@
 -- The answers' lengths: n+8 and n+5 in the length field for an identity of n octets, and at most 74 octets for an
--- allowed one. They are well formed themselves. Assumes nothing.
+-- allowed one and for a negotiation. Those to a scan and to an assignment are well formed themselves. Assumes nothing.
 use mathlib.Core.Path.{_≡_, refl}
 use mathlib.Core.Bool.{true, _&&_}
 use mathlib.Core.List.{List, [], _∷_}
@@ -15,9 +15,10 @@ use Rattle.record.specs.Allowed.{replyMost}
 use Rattle.params.specs.Field.{xidPayload, rightLength, identifiers, WellFormed, noneTwice}
 use Rattle.params.proofs.Exact.{once-different}
 use Rattle.params.proofs.Kept.{of-both}
+use Rattle.negotiation.specs.declared.Asked.{Asked}
 use Rattle.xid.specs.Addressing.{identityId, addressId, kindId, addressing}
-use Rattle.xid_answer.specs.Answer.{scanParams, assignmentParams, scanAnswer, assignmentAnswer}
-use Rattle.xid_answer.proofs.Stored.{scan-length, assignment-length, length-scan, length-assignment}
+use Rattle.xid_answer.specs.Answer.{scanParams, assignmentParams, scanAnswer, assignmentAnswer, negotiationAnswer}
+use Rattle.xid_answer.proofs.Stored.{scan-length, assignment-length, length-scan, length-assignment, length-negotiation}
 
 -- "length field n+8"
 pub scan-field : (i : List ℕ) (a : ℕ) → getD (scanAnswer i a) 2 0 ≡ length i + 8
@@ -28,6 +29,10 @@ scan-field i a = scan-length i a
 pub assignment-field : (i : List ℕ) → getD (assignmentAnswer i) 2 0 ≡ length i + 5
 unfolding assignmentAnswer xidPayload
 assignment-field i = assignment-length i
+
+-- at most 17 octets, so it fits a reply
+pub negotiation-short : (a : Asked) (N : ℕ) → length (negotiationAnswer a N) ≤ replyMost
+negotiation-short a N = omega (arith, length-negotiation a N)
 
 module _ (i : List ℕ) (ok : allowedIdentity i ≡ true) where
   pub scan-short : (a : ℕ) → length (scanAnswer i a) ≤ replyMost

@@ -22,7 +22,7 @@ returns c =
     let second = c .before .before .before .before .before .before in
     let first = second .before .before .before .before in
     let a = first .before .before .before .args in
-    opening-stored (a .len) (a .out .now) (first .put .ensures) (second .put2 .ensures)
+    opening-stored (a .group) (a .len) (a .out .now) (first .put .ensures) (second .put2 .ensures)
     (c .before .before .put3 .ensures)
 
 pub put-opening-spec : {M : Type 1} → statement M
