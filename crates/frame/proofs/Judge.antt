@@ -1,18 +1,21 @@
 -- Each way out of the decoder's and the writer's tests, over the frame limit N. Assumes nothing.
 use mathlib.Core.Path.{_≡_, sym, ap, _∙_}
-use mathlib.Core.Bool.{Bool, true, false}
+use mathlib.Core.Bool.{Bool, true, false, not}
 use mathlib.Core.List.{List, _∷_}
 use Prim.Native.Nat.{ℕ, _-_, _<_, _≤_}
+use native.Mathlib.Omega.{arith}
 use borrow.Author.Tests.{lt-ltb, le-ltb, eq-eqb, ne-eqb}
 use lib.ListN.{length, getD, take}
 use Rattle.octets.specs.Octets.{pairOf}
 use Rattle.refusal.specs.Answer.{refuses, answered, handedOut}
 use Rattle.refusal.proofs.Answers.{answered-here, answered-later}
 use Rattle.fcs.specs.Check.{checkOf, withCheck}
-use Rattle.limits.specs.Limits.{payloadMost}
+use Rattle.limits.specs.Limits.{isLimit, payloadMost, lineMost}
+use Rattle.limits.proofs.Exactly.{limit-exactly}
 use Rattle.frame.specs.Line.{broken, plain, between}
 use Rattle.frame.specs.Decode.{body, rightCheck, framed, decodeRows, decoded}
 use Rattle.frame.specs.Write.{lineOf, writeRows, written}
+use Rattle.frame.proofs.Lines.{overlong}
 
 module _ (N : ℕ) (d : List ℕ) (room : ℕ) where
   pub short : length d < 4 → framed N d room ≡ refuses 1
@@ -32,6 +35,10 @@ module _ (N : ℕ) (d : List ℕ) (room : ℕ) where
     unfolding answered decodeRows handedOut
     right e = rw (le-ltb (length d) 4 k, le-ltb N (length d) h, e)
 
+-- octets that were stored are answered as what they are
+pub when-stored : (N room : ℕ) {d e : List ℕ} → d ≡ e → framed N d room ≡ framed N e room
+when-stored N room q = ap (λ (x : List ℕ). framed N x room) q
+
 -- the check compared as the code has it
 module _ (d : List ℕ) {check given : ℕ}
     (c : check ≡ checkOf (take (length d - 2) d))
@@ -44,33 +51,50 @@ module _ (d : List ℕ) {check given : ℕ}
   unfolding rightCheck body
   check-agrees e = rw (← c, ← g) (eq-eqb check given e)
 
-module _ (N : ℕ) (s : List ℕ) (room : ℕ) where
+-- no frame limit: 6, before all else
+pub unlimited-decode : (N : ℕ) → isLimit N ≡ false → (s : List ℕ) (room : ℕ) → decoded N s room ≡ refuses 6
+unfolding decoded
+unlimited-decode N l s room = answered-here _ _ _ (ap not l)
+
+pub unlimited-write : (N : ℕ) → isLimit N ≡ false → (a c : ℕ) (p : List ℕ) (room : ℕ) → written N a c p room ≡ refuses 6
+unfolding written
+unlimited-write N l a c p room = answered-here _ _ _ (ap not l)
+
+module _ (N : ℕ) (l : isLimit N ≡ true) (s : List ℕ) (room : ℕ) where
+  -- 6 is not given, and the rows behind it say the rest
+  limited : decoded N s room ≡ answered (decodeRows N (broken s) (plain s) room) (body (plain s))
+  unfolding decoded
+  limited = answered-later _ _ _ (ap not l)
+
   pub when-broken : broken s ≡ true → decoded N s room ≡ refuses 4
-  unfolding decoded decodeRows
-  when-broken e = answered-here _ _ _ e
+  unfolding decodeRows
+  when-broken e = limited ∙ answered-here _ _ _ e
 
   pub when-whole : broken s ≡ false → decoded N s room ≡ framed N (plain s) room
-  unfolding decoded
-  when-whole e = ap (λ (b : Bool). answered (decodeRows N b (plain s) room) (body (plain s))) e
+  when-whole e = limited ∙ ap (λ (b : Bool). answered (decodeRows N b (plain s) room) (body (plain s))) e
 
-  pub when-long : broken s ≡ false → 4 ≤ length (plain s) → N < length (plain s) → decoded N s room ≡ refuses 2
-  when-long e k h = when-whole e ∙ long N (plain s) room k h
+  -- more octets than a line has stand for more than the limit, which is 78 at least
+  pub when-overlong : broken s ≡ false → lineMost N < length s → decoded N s room ≡ refuses 2
+  when-overlong e h =
+      let least = limit-exactly N .0 l in
+      let more = overlong N s h in
+      when-whole e ∙ long N (plain s) room (omega arith) more
 
-  -- a line that is not broken is answered by its decoded octets d
-  pub when-stored : {d : List ℕ} → broken s ≡ false → d ≡ plain s → framed N d room ≡ decoded N s room
-  when-stored e q = ap (λ (x : List ℕ). framed N x room) q ∙ sym (when-whole e)
+module _ (N : ℕ) (l : isLimit N ≡ true) (a c : ℕ) (p : List ℕ) (room : ℕ) where
+  limited-write : written N a c p room ≡ answered (writeRows N p (lineOf (a ∷ c ∷ p)) room) (lineOf (a ∷ c ∷ p))
+  unfolding written
+  limited-write = answered-later _ _ _ (ap not l)
 
-module _ (N a c : ℕ) (p : List ℕ) (room : ℕ) where
   pub payload-long : payloadMost N < length p → written N a c p room ≡ refuses 9
-  unfolding written writeRows
-  payload-long h = answered-here _ _ _ (lt-ltb (payloadMost N) (length p) h)
+  unfolding writeRows
+  payload-long h = limited-write ∙ answered-here _ _ _ (lt-ltb (payloadMost N) (length p) h)
 
   pub payload-fits : length p ≤ payloadMost N → written N a c p room ≡ handedOut (lineOf (a ∷ c ∷ p)) room
-  unfolding written writeRows handedOut
-  payload-fits h = answered-later _ _ _ (le-ltb (payloadMost N) (length p) h)
+  unfolding writeRows handedOut
+  payload-fits h = limited-write ∙ answered-later _ _ _ (le-ltb (payloadMost N) (length p) h)
 
-  -- the line of what was assembled is handed out
-  pub when-lined : {d l : List ℕ} → length p ≤ payloadMost N → d ≡ withCheck (a ∷ c ∷ p) → l ≡ between d
-      → handedOut l room ≡ written N a c p room
-  unfolding lineOf
-  when-lined h e q = ap (λ (x : List ℕ). handedOut x room) (q ∙ ap between e) ∙ sym (payload-fits h)
+-- the line of what was assembled is handed out
+pub when-lined : (a c : ℕ) (p : List ℕ) (room : ℕ) {d l : List ℕ} → d ≡ withCheck (a ∷ c ∷ p) → l ≡ between d
+    → handedOut l room ≡ handedOut (lineOf (a ∷ c ∷ p)) room
+unfolding lineOf
+when-lined a c p room e q = ap (λ (x : List ℕ). handedOut x room) (q ∙ ap between e)

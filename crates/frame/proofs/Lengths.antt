@@ -1,4 +1,5 @@
 -- How long a written line is, where its flags stand, and which room it needs, over the frame limit N. Assumes nothing.
+use mathlib.Core.Bool.{true}
 use mathlib.Core.Path.{_≡_, sym, _∙_}
 use mathlib.Core.List.{List, [], _∷_}
 use Prim.Native.Nat.{ℕ, zero, suc, _+_, _*_, _<_, _≤_}
@@ -9,7 +10,7 @@ use Rattle.octets.proofs.Words.{holds-nowhere}
 use Rattle.refusal.specs.Answer.{gives, refuses}
 use Rattle.refusal.proofs.Answers.{no-room, in-room}
 use Rattle.fcs.specs.Check.{withCheck}
-use Rattle.limits.specs.Limits.{payloadMost, lineMost}
+use Rattle.limits.specs.Limits.{isLimit, payloadMost, lineMost}
 use Rattle.frame.specs.Line.{flag, onLine, between}
 use Rattle.frame.specs.Write.{lineOf, written}
 use Rattle.frame.proofs.Assembled.{length-withCheck}
@@ -37,9 +38,9 @@ flag-at-ends b (suc i) h k e =
     holds-nowhere flag (onLine d) (no-flag d) i short (sym (List·getD-append (onLine d) (flag ∷ []) 0 i short) ∙ e)
 
 -- the writer needs exactly the octets that it writes
-module _ (N a c : ℕ) (p : List ℕ) (room : ℕ) (h : length p ≤ payloadMost N) where
+module _ (N : ℕ) (l : isLimit N ≡ true) (a c : ℕ) (p : List ℕ) (room : ℕ) (h : length p ≤ payloadMost N) where
   pub write-fits : length (lineOf (a ∷ c ∷ p)) ≤ room → written N a c p room ≡ gives (lineOf (a ∷ c ∷ p))
-  write-fits k = payload-fits N a c p room h ∙ in-room (lineOf (a ∷ c ∷ p)) room k
+  write-fits k = payload-fits N l a c p room h ∙ in-room (lineOf (a ∷ c ∷ p)) room k
 
   pub write-one-less : room < length (lineOf (a ∷ c ∷ p)) → written N a c p room ≡ refuses 5
-  write-one-less k = payload-fits N a c p room h ∙ no-room (lineOf (a ∷ c ∷ p)) room k
+  write-one-less k = payload-fits N l a c p room h ∙ no-room (lineOf (a ∷ c ∷ p)) room k

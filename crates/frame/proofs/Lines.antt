@@ -62,6 +62,22 @@ plain-long-after false (x ∷ xs) = go (eqb x escape) (plain-long-after true xs)
 pub plain-long : (s : List ℕ) → length s ≤ 2 * length (plain s) + 1
 plain-long s = plain-long-after false s
 
+-- and each octet on the line stands for one at most
+plain-short-after : (removed : Bool) (s : List ℕ) → length (plainAfter removed s) ≤ length s
+unfolding plainAfter
+plain-short-after true [] = omega arith
+plain-short-after true (x ∷ xs) = omega (arith, plain-short-after false xs)
+plain-short-after false [] = omega arith
+plain-short-after false (x ∷ xs) = go (eqb x escape) (plain-short-after true xs) (plain-short-after false xs)
+  where
+    go : (t : Bool) → length (plainAfter true xs) ≤ length xs → length (plainAfter false xs) ≤ length xs
+        → length (cond t (plainAfter true xs) (x ∷ plainAfter false xs)) ≤ suc (length xs)
+    go true h k = omega arith
+    go false h k = omega arith
+
+pub plain-short : (s : List ℕ) → length (plain s) ≤ length s
+plain-short s = plain-short-after false s
+
 -- so more than 2N + 2 octets stand for more than N
 pub overlong : (N : ℕ) (s : List ℕ) → lineMost N < length s → N < length (plain s)
 overlong N s h = omega (arith, plain-long s)

@@ -4,7 +4,7 @@ use denote.Ref.{now}
 use Rattle.octets.proofs.Only.{AsksNothing, SettlesAll}
 use Rattle.frame.proofs.decode.Reads as decode-reads
 
-pub decode-only : SettlesAll decode-reads.Learnt (λ κs s. now (s .1 .0))
+pub decode-only : SettlesAll decode-reads.Learnt (λ κs s. now (s .1 .1 .0))
 decode-only κs a r q s t = hands-only
 
 pub decode-asks : AsksNothing decode-reads.Asked

@@ -16,7 +16,8 @@ use Rattle.refusal.specs.declared.Handed.the-variants.{Octets as Handed·Octets
 use Rattle.refusal.proofs.Answers.{in-room, octets-told, hands-is}
 use Rattle.refusal.proofs.Exactly.{handed-out-told}
 use Rattle.fcs.specs.Check.{withCheck}
-use Rattle.limits.specs.Limits.{payloadMost}
+use Rattle.limits.specs.Limits.{isLimit, payloadMost}
+use Rattle.limits.proofs.Exactly.{limit-exactly}
 use Rattle.frame.specs.Line.{flag, escape, broken, plainAfter, plain, special, escaped, onLine}
 use Rattle.frame.specs.Line.{between, inside}
 use Rattle.frame.specs.Decode.{decoded}
@@ -69,32 +70,34 @@ pub inside-between : (d : List ℕ) → inside (between d) ≡ onLine d
 unfolding inside between
 inside-between d = take-at (onLine d) (flag ∷ []) (length (between d) - 2) (omega (arith, length-between d))
 
-module _ (b : List ℕ) (os : Octets b) (N room : ℕ) (two : 2 ≤ length b) (fits : length b + 2 ≤ N) where
+module _ (b : List ℕ) (os : Octets b) (N : ℕ) (l : isLimit N ≡ true) (room : ℕ) (two : 2 ≤ length b)
+    (fits : length b + 2 ≤ N) where
   -- what lies between the flags of the line of b is answered as b is handed out
   pub trip : decoded N (inside (lineOf b)) room ≡ handedOut b room
   unfolding lineOf
   trip =
       ap (λ (s : List ℕ). decoded N s room) (inside-between (withCheck b))
-      ∙ when-whole N (onLine (withCheck b)) room (whole-line (withCheck b))
+      ∙ when-whole N l (onLine (withCheck b)) room (whole-line (withCheck b))
       ∙ rw (plain-onLine (withCheck b))
       (right N (withCheck b) room (omega (arith, length-withCheck b)) (omega (arith, length-withCheck b))
       (right-withCheck b os))
       ∙ ap (λ (d : List ℕ). handedOut d room) (body-withCheck b)
 
--- The same of the promises, of which the code's are those at 01's limit: any answer and output that `write` may give, and
--- then any that `decode` may give to what lies between the flags of what was written.
-pub round-trip : (N a c : ℕ) (p : List ℕ) (o o' u u' : List ℕ) {n : ℕ} {r : Handed}
-    → Octets (a ∷ c ∷ p) → 4 ≤ N → length p ≤ payloadMost N → length p + 2 ≤ length u
+-- The same of the promises, for every frame limit N, 78 to 260: any answer and output that `write` may give, and then any
+-- that `decode` may give to what lies between the flags of what was written.
+pub round-trip : (N : ℕ) → isLimit N ≡ true → (a c : ℕ) (p : List ℕ) (o o' u u' : List ℕ) {n : ℕ} {r : Handed}
+    → Octets (a ∷ c ∷ p) → length p ≤ payloadMost N → length p + 2 ≤ length u
     → Hands (written N a c p (length o)) o (Handed·Octets n) o'
     → Hands (decoded N (inside (take n o')) (length u)) u r u'
     → Hands (gives (a ∷ c ∷ p)) u r u'
-round-trip N a c p o o' u u' {n} os m h k w d =
+round-trip N l a c p o o' u u' {n} os h k w d =
     let b : List ℕ = a ∷ c ∷ p in
     let out : handedOut (lineOf b) (length o) ≡ gives (take n o') =
-    sym (payload-fits N a c p (length o) h) ∙ octets-told (written N a c p (length o)) w .0 in
+    sym (payload-fits N l a c p (length o) h) ∙ octets-told (written N a c p (length o)) w .0 in
     let line : inside (take n o') ≡ inside (lineOf b) = ap inside (sym (handed-out-told (lineOf b) (length o) out)) in
+    let few = limit-exactly N .0 l in
     hands-is
     (ap (λ (s : List ℕ). decoded N s (length u)) line
-    ∙ trip b os N (length u) (omega arith) (omega arith)
+    ∙ trip b os N l (length u) (omega arith) (omega arith)
     ∙ in-room b (length u) (omega arith))
     d

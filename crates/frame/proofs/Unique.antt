@@ -77,8 +77,8 @@ pub unique : (N room : ℕ) (s b : List ℕ) → Octets s → Needed s → decod
 unfolding lineOf
 unique N room s b os n e =
     let g = decode-frame N s room b .0 e in
-    let parts = unbroken-parts s (g .0 .0) in
+    let parts = unbroken-parts s (g .1 .0) in
     let d : withCheck b ≡ plain s =
-    ap withCheck (sym (g .3))
-    ∙ sym (check-exactly (plain s) (octets-plain s false os) (omega (arith, g .0 .1)) .0 (g .1)) in
+    ap withCheck (sym (g .4))
+    ∙ sym (check-exactly (plain s) (octets-plain s false os) (omega (arith, g .1 .1)) .0 (g .2)) in
     sym (onLine-plain s 0 (parts .0) (parts .1) n) ∙ ap onLine (sym d) ∙ sym (inside-between (withCheck b))

@@ -13,6 +13,7 @@ ghost use Rattle.refusal.specs.Answer.{Hands};
 ghost use Rattle.limits.specs.Limits.{frameLimit, limitMost, lineMost};
 ghost use Rattle.frame.specs.Line.{flag, escape, broken, plain};
 ghost use Rattle.frame.specs.Decode.{framed, decoded};
+use limits::LIMIT;
 use limits::LINE_MOST;
 use limits::LONGEST_LINE;
 use refusal::Handed;
@@ -133,8 +134,8 @@ fn decode_long(limit: usize, src: &[u8], out: &mut [u8]) -> Handed
 }
 
 // Decodes what lies between two flags, with the frame limit `limit`: address, control and payload to the start of `out`.
-// More octets than a line has stand for more than the limit, so that a store has room for what is left, and no octet asks
-// for it.
+// More octets than a line has stand for more than its limit, so that a store has room for what is left, and no octet asks
+// for it. Where the caller's limit is the least one, the compiler sees that no other line is decoded.
 pub fn decode(limit: usize, src: &[u8], out: &mut [u8]) -> Handed
     ensures { λ r. ⌜ Hands (decoded limit (now (src .entry)) (length (now (out .entry))))
         (now (out .entry)) r (now (out .exit)) ⌝ }
@@ -145,11 +146,14 @@ pub fn decode(limit: usize, src: &[u8], out: &mut [u8]) -> Handed
     if is_broken(src) {
         return Handed::Refused(Refusal::Broken);
     }
-    if 2 * limit + 2 < src.len() {
-        return Handed::Refused(Refusal::TooLong);
-    }
     if src.len() <= LINE_MOST {
         return decode_short(limit, src, out);
+    }
+    if limit <= LIMIT {
+        return Handed::Refused(Refusal::TooLong);
+    }
+    if LONGEST_LINE < src.len() {
+        return Handed::Refused(Refusal::TooLong);
     }
     decode_long(limit, src, out)
 }

@@ -94,24 +94,6 @@ fn assemble(address: u8, control: u8, payload: &[u8], d: &mut [u8]) -> usize
     n + 2
 }
 
-// Puts a frame together in `d`, its line in `line`, and hands that out.
-fn by_stores(
-    address: u8,
-    control: u8,
-    payload: &[u8],
-    d: &mut [u8],
-    line: &mut [u8],
-    out: &mut [u8],
-) -> Handed
-    requires { ⌜ (length (now payload) + 4 ≤ length (now d)) × (2 * length (now payload) + 10 ≤ length (now line)) ⌝ }
-    ensures { λ r. ⌜ Hands (handedOut (lineOf (address ∷ control ∷ now (payload .entry))) (length (now (out .entry))))
-        (now (out .entry)) r (now (out .exit)) ⌝ }
-{
-    let n = assemble(address, control, payload, d);
-    let len = put_between(&d[..n], line);
-    refusal::hand_out(&line[..len], out)
-}
-
 // A payload that the least limit has room for: small stores, which are soon set to zero.
 fn write_short(address: u8, control: u8, payload: &[u8], out: &mut [u8]) -> Handed
     requires { ⌜ length (now payload) ≤ payloadMost frameLimit ⌝ }
@@ -119,22 +101,27 @@ fn write_short(address: u8, control: u8, payload: &[u8], out: &mut [u8]) -> Hand
         (now (out .entry)) r (now (out .exit)) ⌝ }
 {
     let mut d = [0u8; LIMIT];
+    let n = assemble(address, control, payload, &mut d);
     let mut line = [0u8; LINE_MOST];
-    by_stores(address, control, payload, &mut d, &mut line, out)
+    let len = put_between(&d[..n], &mut line);
+    refusal::hand_out(&line[..len], out)
 }
 
-// A longer one.
+// A longer one. Apart from the other, so that the compiler knows how long each store is.
 fn write_long(address: u8, control: u8, payload: &[u8], out: &mut [u8]) -> Handed
     requires { ⌜ length (now payload) ≤ payloadMost limitMost ⌝ }
     ensures { λ r. ⌜ Hands (handedOut (lineOf (address ∷ control ∷ now (payload .entry))) (length (now (out .entry))))
         (now (out .entry)) r (now (out .exit)) ⌝ }
 {
     let mut d = [0u8; LIMIT_MOST];
+    let n = assemble(address, control, payload, &mut d);
     let mut line = [0u8; LONGEST_LINE];
-    by_stores(address, control, payload, &mut d, &mut line, out)
+    let len = put_between(&d[..n], &mut line);
+    refusal::hand_out(&line[..len], out)
 }
 
-// Writes flag, frame, flag to the start of `out`, with the frame limit `limit`.
+// Writes flag, frame, flag to the start of `out`, with the frame limit `limit`. Where the caller's limit is the least one,
+// the compiler sees that no longer payload is written.
 pub fn write(limit: usize, address: u8, control: u8, payload: &[u8], out: &mut [u8]) -> Handed
     ensures { λ r. ⌜ Hands (written limit address control (now (payload .entry)) (length (now (out .entry))))
         (now (out .entry)) r (now (out .exit)) ⌝ }
@@ -142,11 +129,14 @@ pub fn write(limit: usize, address: u8, control: u8, payload: &[u8], out: &mut [
     if !limits::is_limit(limit) {
         return Handed::Refused(Refusal::NotAllowed);
     }
-    if limit - 4 < payload.len() {
-        return Handed::Refused(Refusal::PayloadTooLong);
-    }
     if payload.len() <= PAYLOAD_MOST {
         return write_short(address, control, payload, out);
+    }
+    if limit <= LIMIT {
+        return Handed::Refused(Refusal::PayloadTooLong);
+    }
+    if limit - 4 < payload.len() {
+        return Handed::Refused(Refusal::PayloadTooLong);
     }
     write_long(address, control, payload, out)
 }

@@ -2,17 +2,19 @@
 use native.Mathlib.Omega.{arith}
 use lib.ListN.{length-take}
 use mathlib.Core.Path.{sym}
-use Rattle.refusal.specs.declared.Refusal.the-variants.{TooShort, WrongCheck}
+use Rattle.refusal.specs.declared.Refusal.the-variants.{TooShort, TooLong, WrongCheck}
 use Rattle.refusal.proofs.Answers.{refused, hands-is}
 use Rattle.frame.specs.Decode.{body}
-use Rattle.limits.specs.Limits.{frameLimit}
-use Rattle.frame.proofs.Judge.{short, wrong, right, check-differs, check-agrees}
+use Rattle.frame.proofs.Judge.{short, long, wrong, right, check-differs, check-agrees}
 use borrow.Author.Needs.{needs}
 use Rattle.frame.proofs.deliver.Statement.{statement}
 use Rattle.frame.proofs.deliver.Tie as tie
 
 returns : tie.Need-returns
-returns c = refused TooShort (short frameLimit _ _ (c .if1 .taken))
+returns c = refused TooShort (short _ _ _ (c .if1 .taken))
+
+returns-2 : tie.Need-returns-2
+returns-2 c = refused TooLong (long _ _ _ (c .before .if1 .left) (c .if2 .taken))
 
 sub-len : tie.Need-sub-len
 sub-len c = search needs
@@ -35,13 +37,12 @@ shared-slice-read-pair-2 c = search needs
 pair-requires : tie.Need-pair-requires
 pair-requires c κs = search needs
 
-returns-2 : tie.Need-returns-2
-returns-2 c =
-    let start = c .before .before .before .before .before .before .before .before .before in
+returns-3 : tie.Need-returns-3
+returns-3 c =
+    let sized = c .before .before .before .before .before .before in
     let differs = check-differs _ (c .before .before .before .before .check .ensures) (c .before .pair .ensures)
-    (c .if2 .taken) in
-    refused WrongCheck
-    (wrong frameLimit _ _ (c .before .before .before .before .before .before .if1 .left) (start .pre) differs)
+    (c .if3 .taken) in
+    refused WrongCheck (wrong _ _ _ (sized .before .if1 .left) (sized .if2 .left) differs)
 
 slice-aggregate-hand-out : tie.Need-slice-aggregate-hand-out
 slice-aggregate-hand-out c = simp length-take (omega arith)
@@ -52,14 +53,14 @@ hand-out-requires c κs = search needs
 same-length : tie.Need-same-length
 same-length c = search needs
 
-returns-3 : tie.Need-returns-3
+returns-4 : tie.Need-returns-4
 unfolding body
-returns-3 c =
+returns-4 c =
     let late = c .before .before .before .before .before in
-    let early = late .before .before .before .before .before .before in
+    let sized = late .before .before .before .before .before .before in
     let agrees = check-agrees _ (late .before .before .before .before .check .ensures) (late .before .pair .ensures)
-    (late .if2 .left) in
-    hands-is (sym (right frameLimit _ _ (early .if1 .left) (early .before .before .before .pre) agrees))
+    (late .if3 .left) in
+    hands-is (sym (right _ _ _ (sized .before .if1 .left) (sized .if2 .left) agrees))
     (c .before .before .hand-out .ensures)
 
 pub deliver-spec : {M : Type 1} → statement M
@@ -67,6 +68,7 @@ deliver-spec =
     tie.close
     (tie.spec
     returns
+    returns-2
     sub-len
     slice-aggregate-check
     check-requires
@@ -74,8 +76,8 @@ deliver-spec =
     sub-pair
     shared-slice-read-pair-2
     pair-requires
-    returns-2
+    returns-3
     slice-aggregate-hand-out
     hand-out-requires
     same-length
-    returns-3)
+    returns-4)
