@@ -18,7 +18,7 @@ use Rattle.params.specs.declared.Identifier.{Identifier}
 use Rattle.params.specs.Field.{Param, _is_, tripleOf, fieldOf, xidPayload, rightLength, identifiers, AllRight, WellFormed}
 use Rattle.params.specs.Field.{noneTwice, valueFor, given}
 use Rattle.params.proofs.Exact.{once-different}
-use Rattle.negotiation.specs.declared.Asked.{Asked}
+use Rattle.control.specs.declared.Asked.{Asked}
 use Rattle.negotiation.specs.declared.Offer.the-variants.{Agreed}
 use Rattle.negotiation.specs.Negotiation.{receivedId, sendingId, receivingId, negotiating, bitsIn, smallerOf, agreedLimit, askedIn, offerOf}
 use Rattle.negotiation.proofs.Bits.{bits-two}

@@ -15,7 +15,7 @@ use Rattle.record.specs.Allowed.{replyMost}
 use Rattle.params.specs.Field.{xidPayload, rightLength, identifiers, WellFormed, noneTwice}
 use Rattle.params.proofs.Exact.{once-different}
 use Rattle.params.proofs.Kept.{of-both}
-use Rattle.negotiation.specs.declared.Asked.{Asked}
+use Rattle.control.specs.declared.Asked.{Asked}
 use Rattle.xid.specs.Addressing.{identityId, addressId, kindId, addressing}
 use Rattle.xid_answer.specs.Answer.{scanParams, assignmentParams, scanAnswer, assignmentAnswer, negotiationAnswer}
 use Rattle.xid_answer.proofs.Stored.{scan-length, assignment-length, length-scan, length-assignment, length-negotiation}

@@ -12,7 +12,7 @@ use Rattle.octets.proofs.Stores.{sets-start}
 use Rattle.identity.specs.Identity.{width}
 use Rattle.record.specs.Allowed.{replyMost}
 use Rattle.params.specs.Field.{Param, _is_, format, tripleOf, fieldOf, xidPayload}
-use Rattle.negotiation.specs.declared.Asked.{Asked}
+use Rattle.control.specs.declared.Asked.{Asked}
 use Rattle.negotiation.specs.Negotiation.{sentId, receivedId, sendingId, receivingId, negotiatingOctet}
 use Rattle.xid.specs.Addressing.{identityId, addressId, kindId, groupOctet}
 use Rattle.xid.specs.Match.{deviceType}

@@ -14,7 +14,7 @@ ghost use Rattle.xid_answer.specs.Answer.{opening, scanAnswer, assignmen
 ghost use Rattle.octets.specs.Puts.{Puts};
 ghost use Rattle.payload.specs.Payloads.{payloadOf as held};
 use identity::OCTETS;
-use negotiation::Asked;
+use control::Asked;
 use negotiation::NEGOTIATING;
 use negotiation::RECEIVED_ID;
 use negotiation::RECEIVING_ID;
