@@ -19,7 +19,7 @@ use Rattle.identity.proofs.Identities.{allowed-parts, printable-octets}
 use Rattle.record.specs.declared.Device.{Device}
 use Rattle.record.specs.declared.Link.the-variants.{AddressAssigned}
 use Rattle.record.specs.Allowed.{allowedDevice}
-use Rattle.record.specs.Changes.{unsaidAt, endedAs}
+use Rattle.record.specs.Changes.{unsaidAt, emptiedAs, endedAs}
 use Rattle.params.specs.Field.{_is_, tripleOf, fieldOf, xidPayload, rightLength, identifiers, noneTwice, valueFor}
 use Rattle.params.proofs.Exact.{once-different}
 use Rattle.params.proofs.Kept.{of-both}
@@ -57,7 +57,7 @@ module _ (m : List ℕ) (octets : Octets m) (fits : length m ≤ 74) (d : Device
         device = endedAs d a AddressAssigned;
         frame = some (a ∷ 0xBF ∷ assignmentAnswer (identityIn d));
       })
-  unfolding saying reacts frameBy controlBy payloadBy endedAs unsaidAt
+  unfolding saying reacts frameBy controlBy payloadBy emptiedAs unsaidAt
   taken-heard a e =
       judged-heard _ (assignment-taken d m (omega arith) a (assignment-exactly (identityIn d) m a .0 e))
 

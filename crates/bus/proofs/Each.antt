@@ -14,7 +14,7 @@ use Rattle.record.specs.declared.Device.{Device}
 use Rattle.record.specs.declared.Link.the-variants.{AddressAssigned}
 use Rattle.record.specs.declared.Plate.{Plate}
 use Rattle.record.specs.Allowed.{identityOf, addressed, linkAllowed, allowedDevice}
-use Rattle.record.specs.Changes.{unsaidAt, endedAs}
+use Rattle.record.specs.Changes.{unsaidAt, emptiedAs, endedAs}
 use Rattle.record.proofs.Stays.{end-stays}
 use Rattle.xid.specs.Meaning.{EndOf}
 use Rattle.identity.proofs.Identities.{unpadded-padded}
@@ -68,7 +68,7 @@ module _ (a : ℕ) (x : List ℕ) (xs : List (List ℕ)) (l : Listed a (x ∷ xs
       go false e = refl
 
   ended-kept : Kept d (endedAs d a AddressAssigned)
-  unfolding endedAs linkAllowed unsaidAt addressed
+  unfolding emptiedAs linkAllowed unsaidAt addressed
   ended-kept =
       record {
         allowed = end-stays d a AddressAssigned allowed
@@ -111,7 +111,7 @@ whole-end i =
 pub each-holds : (xs : List (List ℕ)) (a : ℕ) (d : Device) → Listed a xs → allowedDevice d ≡ true → NoRightEnd xs
     → (k : ℕ) → k < length xs → paddedIn d ≡ getD xs k []
     → (each a xs d .station .desk .address ≡ a + k) × (each a xs d .station .link ≡ AddressAssigned)
-unfolding afterLines assignments endedAs unsaidAt
+unfolding afterLines assignments emptiedAs unsaidAt
 each-holds [] a d l e ends k h p = absurd (not-suc-le-zero h)
 each-holds (x ∷ xs) a d l e ends zero h p =
     let own : identityIn d ≡ unpadded x =

@@ -14,7 +14,7 @@ use Rattle.antenna.specs.Angles.{atMost}
 use Rattle.antenna.specs.Motions.{inRange}
 use Rattle.record.specs.declared.Device.{Device}
 use Rattle.record.specs.Allowed.{allowedDevice}
-use Rattle.record.specs.Changes.{unsaidAt, endedAs}
+use Rattle.record.specs.Changes.{unsaidAt, emptiedAs, endedAs}
 use Rattle.record.specs.Fresh.{identityFrom, plateFrom, freshFrom, freshAntenna, level, textsAllowed, dataAllowed}
 use Rattle.record.proofs.Stays.{fresh-allowed}
 use Rattle.xid.proofs.Wild.{wild-formed}
@@ -69,7 +69,7 @@ wildSeven = 0x81 ∷ 0xF0 ∷ 10 ∷ 2 ∷ 1 ∷ 7 ∷ 4 ∷ 1 ∷ 0xFF ∷ 6 �
 -- both take the address 7
 pub two-share : map (λ (d : Device). d .station .desk .address) (allAfter ending (lineFor (0xFF ∷ 0xBF ∷ wildSeven)))
     ≡ 7 ∷ 7 ∷ []
-unfolding endedAs unsaidAt
+unfolding emptiedAs unsaidAt
 two-share =
     ap (map (λ (d : Device). d .station .desk .address))
     (wild-shared wildSeven 7 (omega arith) (omega arith) (omega arith) (omega arith) (wild-formed 7) ending

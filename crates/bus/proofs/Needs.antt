@@ -15,7 +15,7 @@ use Rattle.record.specs.declared.Device.{Device}
 use Rattle.record.specs.declared.Link.the-variants.{AddressAssigned}
 use Rattle.record.specs.declared.Plate.{Plate}
 use Rattle.record.specs.Allowed.{identityOf, allowedDevice}
-use Rattle.record.specs.Changes.{unsaidAt, endedAs}
+use Rattle.record.specs.Changes.{unsaidAt, emptiedAs, endedAs}
 use Rattle.xid.specs.Meaning.{EndOf}
 use Rattle.identity.specs.Identity.{unpadded}
 use Rattle.identity.proofs.Identities.{unpadded-padded}
@@ -30,7 +30,7 @@ use Rattle.bus.proofs.Installs.{row-listed, last-padded, row-installed}
 -- addresses only rise
 each-rises : (xs : List (List ℕ)) (a b : ℕ) (d : Device) → Listed a xs → allowedDevice d ≡ true
     → b ≤ a → b ≤ d .station .desk .address → b ≤ each a xs d .station .desk .address
-unfolding afterLines assignments endedAs unsaidAt
+unfolding afterLines assignments emptiedAs unsaidAt
 each-rises [] a b d l e h k = k
 each-rises (x ∷ xs) a b d l e h k =
     each-rises xs (suc a) b (afterLine d (assigning a x)) (listed-more l) (line-kept a x xs l d e .allowed)
@@ -43,7 +43,7 @@ each-rises (x ∷ xs) a b d l e h k =
 -- an assignment to a right end is taken
 each-late : (xs : List (List ℕ)) (a : ℕ) (d : Device) → Listed a xs → allowedDevice d ≡ true
     → (k : ℕ) → k < length xs → EndOf (identityIn d) (unpadded (getD xs k [])) → a + k ≤ each a xs d .station .desk .address
-unfolding afterLines assignments endedAs unsaidAt
+unfolding afterLines assignments emptiedAs unsaidAt
 each-late [] a d l e k h w = absurd (not-suc-le-zero h)
 each-late (x ∷ xs) a d l e zero h w =
     let now : afterLine d (assigning a x) .station .desk .address ≡ a =

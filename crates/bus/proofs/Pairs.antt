@@ -11,7 +11,7 @@ use lib.ListN.{getD}
 use Rattle.identity.specs.Order.{lower, Ascending}
 use Rattle.record.specs.declared.Device.{Device}
 use Rattle.record.specs.Allowed.{identityOf, allowedDevice}
-use Rattle.record.specs.Changes.{unsaidAt, endedAs}
+use Rattle.record.specs.Changes.{unsaidAt, emptiedAs, endedAs}
 use Rattle.scan.specs.declared.State.the-variants.{Complete}
 use Rattle.scan.specs.Record.{listOf}
 use Rattle.xid.specs.Meaning.{EndOf}
@@ -73,7 +73,7 @@ module _ (d e : Device) (good : allowedDevice d ≡ true) (fine : allowedDevice 
       → map (λ (b : Device). b .station .desk .address)
       (assignedAll (listOf (scanned limit pair .scan)) (scanned limit pair .devices))
       ≡ 2 ∷ 2 ∷ []
-  unfolding afterLines assignments endedAs unsaidAt
+  unfolding afterLines assignments emptiedAs unsaidAt
   pair-moved w =
       rw (pair-list, scan-unchanged pair cabled limit, row-lines (assignments 1 both) pair)
       (ap₂ (λ (m n : ℕ). m ∷ n ∷ []) (late d good w) (late e fine (whole-end (identityIn e))))

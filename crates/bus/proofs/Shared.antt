@@ -14,7 +14,7 @@ use Rattle.refusal.specs.Answer.{gives}
 use Rattle.record.specs.declared.Device.{Device}
 use Rattle.record.specs.declared.Link.the-variants.{AddressAssigned}
 use Rattle.record.specs.Allowed.{addressed, linkAllowed, allowedDevice}
-use Rattle.record.specs.Changes.{unsaidAt, endedAs}
+use Rattle.record.specs.Changes.{unsaidAt, emptiedAs, endedAs}
 use Rattle.record.proofs.Stays.{end-stays}
 use Rattle.xid.specs.Meaning.{AssignmentOf}
 use Rattle.xid.proofs.Wild.{wild-taken}
@@ -59,7 +59,7 @@ module _ (m : List ℕ) (a : ℕ) (octets : Octets m) (fits : length m ≤ 74) (
   pub wild-begins : (d : Device) → allowedDevice d ≡ true
       → hears (afterLine d line) (lineFor (a ∷ 0x93 ∷ []))
       ≡ gives (record { device = begun (afterLine d line); frame = some (a ∷ 0x73 ∷ []) })
-  unfolding endedAs unsaidAt linkAllowed addressed
+  unfolding emptiedAs unsaidAt linkAllowed addressed
   wild-begins d allowed =
       rw (wild-after d allowed)
       (snrm-heard (endedAs d a AddressAssigned)

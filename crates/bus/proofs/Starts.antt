@@ -18,7 +18,7 @@ use Rattle.record.specs.declared.Device.{Device}
 use Rattle.record.specs.declared.Link.{Link}
 use Rattle.record.specs.declared.Link.the-variants.{AddressAssigned}
 use Rattle.record.specs.Allowed.{stationAllowed, allowedDevice}
-use Rattle.record.specs.Changes.{unsaidAt, endedAs}
+use Rattle.record.specs.Changes.{unsaidAt, emptiedAs, endedAs}
 use Rattle.record.proofs.Stays.{sound}
 use Rattle.station.specs.declared.Turn.{Turn}
 use Rattle.station.specs.Turns.{saying, mute}
@@ -57,7 +57,7 @@ module _ (d : Device) (w : Ready d) where
 
   pub snrm-heard : hears d (snrmFor d)
       ≡ gives (record { device = begun d; frame = some (d .station .desk .address ∷ 0x73 ∷ []) })
-  unfolding saying reacts frameBy controlBy payloadBy begun endedAs unsaidAt
+  unfolding saying reacts frameBy controlBy payloadBy begun emptiedAs unsaidAt
   snrm-heard =
       let (least, most) = address-bounds in
       hears-written d (d .station .desk .address) 0x93 [] (w .allowed) (omega arith) (omega arith)
@@ -98,7 +98,7 @@ none-begins (e ∷ es) ready o fine other =
 
 own-begins : (es : List Device) → ((e : Device) → List·Memᴰ e es → Ready e) → Different (map address es)
     → (o : Device) → List·Memᴰ o es → afterLines (map snrmFor es) o ≡ begun o
-unfolding afterLines deviceAfter begun endedAs unsaidAt
+unfolding afterLines deviceAfter begun emptiedAs unsaidAt
 own-begins [] ready apart o m = absurd (List·Memᴰ·not-nil m)
 own-begins (e ∷ es) ready apart o m =
     go (own-begins es (λ b n. ready b (List·Memᴰ·tail n)) (apart .1) o) (List·Memᴰ·cases-cons m)

@@ -12,7 +12,7 @@ use Rattle.record.specs.declared.Plate.{Plate}
 use Rattle.record.specs.declared.Session.{Session}
 use Rattle.record.specs.declared.Link.the-variants.{AddressAssigned, Connected}
 use Rattle.record.specs.declared.Device.{Device}
-use Rattle.record.specs.Changes.{unsaidAt, deviceOf, endedAs}
+use Rattle.record.specs.Changes.{unsaidAt, deviceOf, emptiedAs, endedAs}
 use Rattle.message.specs.Carried.{quieted}
 use Rattle.station.specs.Station.{answersWith}
 use Rattle.acknowledge.specs.Acknowledge.{sessionAfter, acknowledged}
@@ -41,7 +41,7 @@ parts e = (e .plate, e .antenna .drive .lowest, e .antenna .drive .highest, e .a
 
 module _ (d : Device) (f : List ℕ) where
   parts-kept : parts (after d f) ≡ parts d
-  unfolding deviceOf endedAs acknowledged moves quieted
+  unfolding deviceOf emptiedAs acknowledged moves quieted
   parts-kept =
       after-cases d f (λ (e : Device). parts e ≡ parts d) refl (λ a w. refl) (λ w l. refl) (λ o r s e w. refl)
       (λ s n r w. refl) (λ w. refl) (λ w. refl) (λ w. refl) (λ w b. refl) (λ b w. refl) (λ w. refl)
@@ -49,7 +49,7 @@ module _ (d : Device) (f : List ℕ) where
   -- ---- the address and the subscription
 
   address-cases : ((a : ℕ) × Assigns d f a) ⊎ (after d f .station .desk .address ≡ d .station .desk .address)
-  unfolding deviceOf endedAs unsaidAt acknowledged heeded answersWith poll.indicates
+  unfolding deviceOf emptiedAs unsaidAt acknowledged heeded answersWith poll.indicates
   address-cases =
       let kept = address-kept d in
       after-cases d f (λ (e : Device). ((a : ℕ) × Assigns d f a) ⊎ (e .station .desk .address ≡ d .station .desk .address))
@@ -60,7 +60,7 @@ module _ (d : Device) (f : List ℕ) where
       (λ w. inr (kept (w .collects .session) (w .collects .nr)))
 
   subscribed-cases : Subscribes d f ⊎ (after d f .station .desk .subscribed ≡ d .station .desk .subscribed)
-  unfolding deviceOf endedAs unsaidAt acknowledged heeded answersWith poll.indicates
+  unfolding deviceOf emptiedAs unsaidAt acknowledged heeded answersWith poll.indicates
   subscribed-cases =
       let kept = subscribed-kept d in
       after-cases d f (λ (e : Device). Subscribes d f ⊎ (e .station .desk .subscribed ≡ d .station .desk .subscribed))
@@ -71,7 +71,7 @@ module _ (d : Device) (f : List ℕ) where
 
   assigned : (a : ℕ) → Assigns d f a
       → (after d f .station .desk .address ≡ a) × (after d f .station .link ≡ AddressAssigned)
-  unfolding left endedAs unsaidAt
+  unfolding left emptiedAs unsaidAt
   assigned a w =
       let is = comes-leaves d f (Comes.assigns a w) in
       (ap (λ (e : Device). e .station .desk .address) is, ap (λ (e : Device). e .station .link) is)
@@ -85,15 +85,15 @@ module _ (d : Device) (f : List ℕ) where
   -- ---- the link state
 
   begun-link : (c : Comes d f) → left d f c ≡ begun d → after d f .station .link ≡ Connected newSession
-  unfolding begun endedAs unsaidAt
+  unfolding begun emptiedAs unsaidAt
   begun-link c e = ap (λ (x : Device). x .station .link) (comes-leaves d f c ∙ e)
 
   renewed-link : (c : Comes d f) → left d f c ≡ renewed d → after d f .station .link ≡ Connected newSession
-  unfolding renewed begun endedAs unsaidAt
+  unfolding renewed begun emptiedAs unsaidAt
   renewed-link c e = ap (λ (x : Device). x .station .link) (comes-leaves d f c ∙ e)
 
   released-link : (c : Comes d f) → left d f c ≡ released d → after d f .station .link ≡ AddressAssigned
-  unfolding released endedAs unsaidAt
+  unfolding released emptiedAs unsaidAt
   released-link c e = ap (λ (x : Device). x .station .link) (comes-leaves d f c ∙ e)
 
   ended-link : Ends d f → (Own d f Snrm → ⊥) → after d f .station .link ≡ AddressAssigned

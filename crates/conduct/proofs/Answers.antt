@@ -20,7 +20,7 @@ use Rattle.record.specs.declared.Link.{Link}
 use Rattle.record.specs.declared.Link.the-variants.{NoAddress, AddressAssigned, Connected}
 use Rattle.record.specs.declared.Device.{Device}
 use Rattle.record.specs.Allowed.{identityOf, stationAllowed, allowedDevice}
-use Rattle.record.specs.Changes.{unsaidAt, endedAs}
+use Rattle.record.specs.Changes.{unsaidAt, emptiedAs, endedAs}
 use Rattle.record.proofs.Stays.{sound}
 use Rattle.xid.specs.Match.{readOf}
 use Rattle.xid.specs.Meaning.{ScanOf, AssignmentOf, Meant, Answers, Takes}
@@ -51,14 +51,14 @@ snrm-linked d (Connected s) c p h = refl
 
 -- a new session, in either state
 snrm-session : (d : Device) (l : Link) → hasAddress l ≡ true → onSnrm d l .station .link ≡ Connected newSession
-unfolding onSnrm renewed begun endedAs unsaidAt
+unfolding onSnrm renewed begun emptiedAs unsaidAt
 snrm-session d NoAddress h = absurd (true-not-false (sym h))
 snrm-session d AddressAssigned h = refl
 snrm-session d (Connected s) h = refl
 
 -- at the address that it was
 pub snrm-address : (d : Device) (l : Link) → onSnrm d l .station .desk .address ≡ d .station .desk .address
-unfolding onSnrm renewed begun released endedAs unsaidAt
+unfolding onSnrm renewed begun released emptiedAs unsaidAt
 snrm-address d NoAddress = refl
 snrm-address d AddressAssigned = refl
 snrm-address d (Connected s) = refl
@@ -153,7 +153,7 @@ module _ (d : Device) (m : List ℕ) (fits : length m + 2 ≤ frameMost frameLim
     pub assignment-addresses : Takes (identityOf (d .plate)) m a
         → (after d (0xFF ∷ 0xBF ∷ m) .station .desk .address ≡ a)
         × (after d (0xFF ∷ 0xBF ∷ m) .station .link ≡ AddressAssigned)
-    unfolding saying endedAs unsaidAt
+    unfolding saying emptiedAs unsaidAt
     assignment-addresses w = (
       ap (λ (t : Turn). t .device .station .desk .address) (assignment-taken w),
       ap (λ (t : Turn). t .device .station .link) (assignment-taken w),

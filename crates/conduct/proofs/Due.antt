@@ -13,7 +13,7 @@ use Rattle.antenna.specs.Motions.{runs, started, moves, unowedOf}
 use Rattle.antenna.proofs.Movements.{unowed-runs, idle}
 use Rattle.record.specs.declared.Link.the-variants.{Connected}
 use Rattle.record.specs.declared.Device.{Device}
-use Rattle.record.specs.Changes.{deviceOf, endedAs}
+use Rattle.record.specs.Changes.{deviceOf, emptiedAs, endedAs}
 use Rattle.session.specs.Session.{taken}
 use Rattle.session.proofs.Numbers.{accepts-exactly}
 use Rattle.message.specs.Carried.{quieted}
@@ -53,7 +53,7 @@ module _ (d : Device) (f : List ℕ) where
   ended = not-begun (d .antenna .motion) (unowedOf (d .antenna .motion)) (unowed-runs (d .antenna .motion))
 
   due-by : (c : Comes d f) → Begins (d .antenna .motion) (left d f c .antenna .motion) → TiltDue d f
-  unfolding left begun released endedAs moves deviceOf acknowledged quieted
+  unfolding left begun released emptiedAs moves deviceOf acknowledged quieted
   due-by (unread w) = kept
   due-by (scans w a) = kept
   due-by (assigns a w) = ended

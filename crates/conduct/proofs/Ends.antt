@@ -11,7 +11,7 @@ use Rattle.record.specs.declared.Pending.the-variants.{Nothing}
 use Rattle.record.specs.declared.Link.{Link}
 use Rattle.record.specs.declared.Link.the-variants.{AddressAssigned, Connected}
 use Rattle.record.specs.declared.Device.{Device}
-use Rattle.record.specs.Changes.{unsaidAt, endedAs}
+use Rattle.record.specs.Changes.{unsaidAt, emptiedAs, endedAs}
 use Rattle.poll.specs.Poll.{toTell}
 use Rattle.states.specs.States.{newSession, begun, released}
 use Rattle.states.proofs.Renews.{renewed-ends}
@@ -24,11 +24,11 @@ use Rattle.conduct.proofs.Comes.{comes-leaves, ends-leaves}
 
 module _ (d : Device) where
   pub ended-drops : (a : ℕ) (l : Link) → pendingIn l ≡ Nothing → Dropped (endedAs d a l)
-  unfolding endedAs unsaidAt moves
+  unfolding emptiedAs unsaidAt moves
   ended-drops a l e = record { pending = e; reply = refl; said = refl; owed = unowed-owes (d .antenna .motion) }
 
   pub ended-survives : (a : ℕ) (l : Link) → Survives d (endedAs d a l)
-  unfolding endedAs unsaidAt moves
+  unfolding emptiedAs unsaidAt moves
   ended-survives a l =
       record {
         raised = refl;

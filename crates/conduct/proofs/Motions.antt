@@ -14,7 +14,7 @@ use Rattle.antenna.specs.declared.Motion.the-variants.{Still, Moving, Owing, St
 use Rattle.antenna.specs.Motions.{unowedOf, moves}
 use Rattle.antenna.proofs.Movements.{idle}
 use Rattle.record.specs.declared.Device.{Device}
-use Rattle.record.specs.Changes.{deviceOf, endedAs}
+use Rattle.record.specs.Changes.{deviceOf, emptiedAs, endedAs}
 use Rattle.acknowledge.specs.Acknowledge.{acknowledged}
 use Rattle.message.specs.Messages.{askedOf}
 use Rattle.message.specs.Carried.{quieted}
@@ -69,7 +69,7 @@ module _ (d : Device) (f : List ℕ) where
       (comes-leaves d f (Comes.delivers (c .session) (c .nr) reached (c .numbered) (c .free) (w .waits)))
 
   pub motion-dropped : Drops d f → after d f .antenna .motion ≡ unowedOf (d .antenna .motion)
-  unfolding endedAs moves
+  unfolding emptiedAs moves
   motion-dropped w = let (a, l, none, is) = drops-as d f w in ap (λ (e : Device). e .antenna .motion) is
 
   module _ (t : Angle) where

@@ -22,7 +22,7 @@ use Rattle.record.specs.declared.Desk.{Desk}
 use Rattle.record.specs.declared.Station.{Station}
 use Rattle.record.specs.declared.Device.{Device}
 use Rattle.record.specs.Allowed.{identityOf}
-use Rattle.record.specs.Changes.{unsaidAt, deviceOf, endedAs}
+use Rattle.record.specs.Changes.{unsaidAt, deviceOf, emptiedAs, endedAs}
 use Rattle.session.specs.Session.{pends, acknowledges, goodNumber, taken, vsOf, countsOf}
 use Rattle.session.proofs.Numbers.{acknowledges-exactly}
 use Rattle.payload.specs.Payloads.{payloadOf, messageOf, resultOf}
@@ -313,7 +313,7 @@ module _ (d : Device) (f : List ℕ) where
 
   -- what a device says of a frame, of each case, octet by octet
   pub says-octets : (c : Comes d f) → frameBy (left d f c) (says d f c) ≡ octetsSaid d f c
-  unfolding left says octetsSaid frameBy controlBy payloadBy begun renewed released endedAs unsaidAt frmr acknowledged
+  unfolding left says octetsSaid frameBy controlBy payloadBy begun renewed released emptiedAs unsaidAt frmr acknowledged
   says-octets (unread w) = refl
   says-octets (scans w a) = ap some (scan-is (d .station .desk .address) (identityOf (d .plate)))
   says-octets (assigns a w) = ap some (assignment-is a (identityOf (d .plate)))

@@ -17,7 +17,7 @@ use Rattle.record.specs.declared.Link.the-variants.{AddressAssigned, Connected}
 use Rattle.record.specs.declared.Device.{Device}
 use Rattle.record.specs.Allowed.{identityOf, numbersAllowed, pendingFits, sessionAllowed, addressed, linkAllowed}
 use Rattle.record.specs.Allowed.{stationAllowed, allowedDevice, replyMost}
-use Rattle.record.specs.Changes.{unsaidAt, endedAs}
+use Rattle.record.specs.Changes.{unsaidAt, emptiedAs, endedAs}
 use Rattle.record.proofs.Stays.{sound, end-stays}
 use Rattle.session.specs.Session.{taken}
 use Rattle.session.proofs.Numbers.{accepts-exactly}
@@ -79,7 +79,7 @@ module _ (d : Device) (allowed : allowedDevice d ≡ true) where
 -- the end of one session, and the beginning of the next
 renewed-stays : (d : Device) → allowedDevice d ≡ true → hasAddress (d .station .link) ≡ true
     → allowedDevice (renewed d) ≡ true
-unfolding renewed released endedAs unsaidAt
+unfolding renewed released emptiedAs unsaidAt
 renewed-stays d allowed has = begun-stays (released d) (released-stays d allowed has) refl
 
 -- ---- in a session, the acknowledged answer being removed

@@ -16,7 +16,7 @@ use Rattle.record.specs.declared.Session.{Session}
 use Rattle.record.specs.declared.Station.{Station}
 use Rattle.record.specs.declared.Device.{Device}
 use Rattle.record.specs.Desk.{calm}
-use Rattle.record.specs.Changes.{unsaidAt, endedAs}
+use Rattle.record.specs.Changes.{unsaidAt, emptiedAs, endedAs}
 use Rattle.session.specs.Session.{acknowledges, accepts}
 use Rattle.acknowledge.specs.Acknowledge.{sessionAfter, stationAfter, relieved, toldAfter}
 use Rattle.acknowledge.proofs.Settled.{station-kept, told-said}
@@ -151,7 +151,7 @@ module _ (d : Device) (f : List ℕ) where
       ⊎ ((after d f .antenna .drive .raised ≡ d .antenna .drive .raised)
       × ((after d f .station .desk .told ≡ d .station .desk .told)
       ⊎ (Indicated d f × (after d f .station .desk .told ≡ d .station .desk .said))))
-  unfolding saying endedAs unsaidAt moves begun released rejected
+  unfolding saying emptiedAs unsaidAt moves begun released rejected
   alarms-cases =
       judged-cases d f (λ t. judgedFrame d f ≡ t → Changed) (λ u. stay _ refl refl) (λ w x. stay _ refl refl)
       (λ a w x. stay _ refl refl) (λ w l. stay _ refl refl) (λ o w n l. stay _ refl refl)

@@ -22,7 +22,10 @@ use Rattle.record.specs.declared.Pending.the-variants.{Answer, Indication}
 use Rattle.record.specs.declared.Session.{Session}
 use Rattle.record.specs.declared.Link.the-variants.{AddressAssigned, Connected}
 use Rattle.record.specs.declared.Device.{Device}
+use Rattle.record.specs.Allowed.{limitOf}
 use Rattle.record.specs.Desk.{calm, noReply}
+use Rattle.params.specs.Field.{Param, WellFormed}
+use Rattle.negotiation.specs.Negotiation.{negotiating, agreedLimit}
 use Rattle.payload.specs.Payloads.{payloadOf, resultOf}
 use Rattle.message.specs.Messages.{askedOf}
 use Rattle.message.specs.declared.Reply.{Reply}
@@ -30,7 +33,7 @@ use Rattle.acknowledge.specs.Acknowledge.{stationAfter, acknowledged}
 use Rattle.poll.specs.Poll.{toTell}
 use Rattle.inform.specs.Inform.{carriedHere}
 use Rattle.states.specs.States.{newSession}
-use Rattle.link.specs.Frames.{Own}
+use Rattle.link.specs.Frames.{Own, Negotiates}
 use Rattle.conduct.specs.Conduct.{after, Accepted, AnyAccepted, Acknowledging, TiltDue}
 use Rattle.conduct.specs.Endings.{pendingIn, Assigns, Begins, Ends, Drops, Dropped, Collects}
 use Rattle.conduct.specs.Alarms.{Clears, Subscribes, Indicated}
@@ -75,6 +78,14 @@ pub record Account (d : Device) (f : List ℕ) : Type 0 where
   -- "the address is taken": at a matching assignment, and else never
   pub address-taken : (a : ℕ) → Assigns d f a → after d f .station .desk .address ≡ a
   pub address-kept : ((a : ℕ) → Assigns d f a → ⊥) → after d f .station .desk .address ≡ d .station .desk .address
+  -- 02 (iv): the frame limit is 78 "again after an assignment or a session's end", the one agreed on after a negotiation,
+  -- and else as it was
+  pub limit-assigned : (a : ℕ) → Assigns d f a → limitOf (after d f) ≡ 78
+  pub limit-ended : Ends d f → limitOf (after d f) ≡ 78
+  pub limit-agreed : (ps : List Param) → Negotiates d f → WellFormed negotiating (drop 2 f) ps
+      → limitOf (after d f) ≡ agreedLimit (limitOf d) ps
+  pub limit-kept : ((a : ℕ) → Assigns d f a → ⊥) → (Ends d f → ⊥)
+      → (Negotiates d f → (ps : List Param) → WellFormed negotiating (drop 2 f) ps → ⊥) → limitOf (after d f) ≡ limitOf d
   -- the link state
   pub link-assigned : (a : ℕ) → Assigns d f a → after d f .station .link ≡ AddressAssigned
   pub link-begun : Begins d f → after d f .station .link ≡ Connected newSession

@@ -21,13 +21,15 @@ use Rattle.control.specs.declared.Order.the-variants.{Snrm, Disc, Info, Rr, Rnr
 use Rattle.record.specs.declared.Session.{Session}
 use Rattle.record.specs.declared.Link.the-variants.{AddressAssigned, Connected}
 use Rattle.record.specs.declared.Device.{Device}
-use Rattle.record.specs.Allowed.{identityOf}
-use Rattle.record.specs.Changes.{deviceOf, endedAs}
+use Rattle.record.specs.Allowed.{identityOf, limitOf}
+use Rattle.record.specs.Changes.{deviceOf, endedAs, limitedTo}
 use Rattle.record.specs.Desk.{calm}
 use Rattle.session.specs.Session.{pends, goodNumber, accepts, taken, countsOf}
 use Rattle.payload.specs.Payloads.{payloadOf, successOf, resultOf}
 use Rattle.message.specs.Messages.{askedOf, Due}
 use Rattle.message.specs.Carried.{replies, quieted}
+use Rattle.params.specs.Field.{Param, WellFormed}
+use Rattle.negotiation.specs.Negotiation.{negotiating, agreedLimit, askedIn}
 use Rattle.xid.specs.Meaning.{Answers}
 use Rattle.station.specs.declared.Say.{Say}
 use Rattle.station.specs.Station.{answersWith, resent}
@@ -37,16 +39,18 @@ use Rattle.poll.specs.Poll.{toTell}
 use Rattle.poll.specs.Poll as poll
 use Rattle.inform.specs.Inform.{heeded, carriedHere}
 use Rattle.states.specs.States.{begun, renewed, released, ua, dm, isSnrm}
-use Rattle.link.specs.Frames.{controlOf, Own, numberIn, Numbered, Everyone, Unread}
+use Rattle.link.specs.Frames.{controlOf, Own, numberIn, Numbered, Everyone, Negotiates, Unread}
 use Rattle.conduct.specs.Conduct.{Accepted}
 use Rattle.conduct.specs.Endings.{Assigns}
 
 pub data Comes (d : Device) (f : List ℕ) : Type 0 where
   unread : Unread d f → Comes d f
   -- "Scan: .. Answer, in any state"
-  scans : Everyone f → Answers (identityOf (d .plate)) (drop 2 f) → Comes d f
+  scans : Everyone d f → Answers (identityOf (d .plate)) (drop 2 f) → Comes d f
   -- "Then any session ends, the address is taken, the state is AddressAssigned"
   assigns : (a : ℕ) → Assigns d f a → Comes d f
+  -- 02 (iv): "A master sends XID to the device's own address with the HDLC parameters of ISO/IEC 13239 and the device answers"
+  negotiates : (ps : List Param) → Negotiates d f → WellFormed negotiating (drop 2 f) ps → Comes d f
   -- "AddressAssigned: SNRM 0x93 gets UA 0x73 and Connected; anything else gets DM 0x1F."
   begins : Own d f Snrm → d .station .link ≡ AddressAssigned → Comes d f
   declines : (o : Order) → Own d f o → isSnrm o ≡ false → d .station .link ≡ AddressAssigned → Comes d f
@@ -101,6 +105,7 @@ unfoldable pub left : (d : Device) (f : List ℕ) → Comes d f → Device
 left d f (unread w) = d
 left d f (scans w a) = d
 left d f (assigns a w) = endedAs d a AddressAssigned
+left d f (negotiates ps w m) = limitedTo d (agreedLimit (limitOf d) ps)
 left d f (begins w l) = begun d
 left d f (declines o w n l) = d
 left d f (renews s w l) = renewed d
@@ -133,6 +138,7 @@ unfoldable pub says : (d : Device) (f : List ℕ) → Comes d f → Say
 says d f (unread w) = Say.Silence
 says d f (scans w a) = Say.Scanned
 says d f (assigns a w) = Say.Assigned
+says d f (negotiates ps w m) = Say.Negotiated (askedIn ps)
 says d f (begins w l) = ua
 says d f (declines o w n l) = dm
 says d f (renews s w l) = ua

@@ -42,7 +42,7 @@ pendingIn (Connected s) = s .pending
 
 -- "Assignment: 2 present, 3 absent, value 1 to 254. .. Then any session ends, the address is taken"
 pub record Assigns (d : Device) (f : List ℕ) (a : ℕ) : Type 0 where
-  pub everyone : Everyone f
+  pub everyone : Everyone d f
   pub takes : Takes (identityOf (d .plate)) (drop 2 f) a
 
 -- "AddressAssigned: SNRM 0x93 gets UA 0x73 and Connected"

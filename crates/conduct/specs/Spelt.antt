@@ -11,13 +11,15 @@
 --   sentNumber s p      == V(S), where S is s and p is pending
 --   frmr a c s why      == FRMR from the address a for the control c, in the session s
 --   resultSaid reached, scanSaid a i, assignmentSaid a i == a tilt's result; the answers to a scan and an assignment
+--   ifGiven n ps t, agreedSaid ps N, negotiationSaid a ps N == the triple t, if ps give the identifier n; the triples of the
+--                          answer to a negotiation with ps that comes to the frame limit N; that answer
 --   octetsSaid d f c    == address, control and payload that d says of the frame f, whose case is c; none for silence
 -- Numbers are taken round, "0 to 7", so that every record has its row. After a good N(R), S is that N(R) (`good-s` of
 -- proofs/Says). Assumes nothing.
 use mathlib.Core.Bool.{Bool, true, false, cond}
 use mathlib.Core.List.{List, [], _∷_, _++_}
 use mathlib.Core.Option.{Option, none, some}
-use Prim.Native.Nat.{ℕ, _+_, _*_, _/_, _%_}
+use Prim.Native.Nat.{ℕ, _+_, _-_, _*_, _/_, _%_}
 use lib.Dec.{eqb}
 use lib.ListN.{length, take}
 use Rattle.antenna.specs.Alarms.{changesOf}
@@ -26,11 +28,13 @@ use Rattle.record.specs.declared.Pending.the-variants.{Nothing, Answer, Indicat
 use Rattle.record.specs.declared.Session.{Session}
 use Rattle.record.specs.declared.Desk.{Desk}
 use Rattle.record.specs.declared.Device.{Device}
-use Rattle.record.specs.Allowed.{identityOf}
+use Rattle.record.specs.Allowed.{identityOf, limitOf}
+use Rattle.params.specs.Field.{Param, valueFor, given}
+use Rattle.negotiation.specs.Negotiation.{agreedLimit}
 use Rattle.acknowledge.specs.Acknowledge.{stationAfter}
 use Rattle.link.specs.Frames.{controlOf}
-use Rattle.conduct.specs.Comes.{Comes, unread, scans, assigns, begins, declines, renews, leaves, miscounts}
-use Rattle.conduct.specs.Comes.{unknown, starts, clears, subscribes, answers, murmurs, repeats, resends}
+use Rattle.conduct.specs.Comes.{Comes, unread, scans, assigns, negotiates, begins, declines, renews, leaves}
+use Rattle.conduct.specs.Comes.{miscounts, unknown, starts, clears, subscribes, answers, murmurs, repeats, resends}
 use Rattle.conduct.specs.Comes.{delivers, indicates, rests, pauses}
 
 -- "RR 0x11 + 32·N(R)"
@@ -86,11 +90,27 @@ scanSaid a i =
 unfoldable pub assignmentSaid : ℕ → List ℕ → List ℕ
 assignmentSaid a i = a ∷ 0xBF ∷ 0x81 ∷ 0xF0 ∷ (length i + 5) ∷ 1 ∷ length i ∷ (i ++ (4 ∷ 1 ∷ 0x01 ∷ []))
 
+unfoldable pub ifGiven : ℕ → List Param → List ℕ → List ℕ
+ifGiven n ps triple = cond (given (valueFor n ps)) triple []
+
+-- each identifier that was asked, ascending: 5 and 6 with (N - 4) · 8 as two octets, highest first; 7 and 8 with 1
+unfoldable pub agreedSaid : List Param → ℕ → List ℕ
+agreedSaid ps N =
+    ifGiven 5 ps (5 ∷ 2 ∷ (N - 4) * 8 / 256 % 256 ∷ (N - 4) * 8 % 256 ∷ [])
+    ++ (ifGiven 6 ps (6 ∷ 2 ∷ (N - 4) * 8 / 256 % 256 ∷ (N - 4) * 8 % 256 ∷ [])
+    ++ (ifGiven 7 ps (7 ∷ 1 ∷ 1 ∷ []) ++ ifGiven 8 ps (8 ∷ 1 ∷ 1 ∷ [])))
+
+-- 02 (iv): "the device answers with its own limit where that is lower"; "windows are answered 1"
+unfoldable pub negotiationSaid : ℕ → List Param → ℕ → List ℕ
+negotiationSaid a ps N = a ∷ 0xBF ∷ 0x81 ∷ 0x80 ∷ length (agreedSaid ps N) ∷ agreedSaid ps N
+
 -- "Answers carry the device's address (0 in NoAddress)"; "UA 0x73", "DM 0x1F"; after an accepted I-frame "R moves on"
 unfoldable pub octetsSaid : (d : Device) (f : List ℕ) → Comes d f → Option (List ℕ)
 octetsSaid d f (unread w) = none
 octetsSaid d f (scans w m) = some (scanSaid (d .station .desk .address) (identityOf (d .plate)))
 octetsSaid d f (assigns a w) = some (assignmentSaid a (identityOf (d .plate)))
+octetsSaid d f (negotiates ps w m) =
+    some (negotiationSaid (d .station .desk .address) ps (agreedLimit (limitOf d) ps))
 octetsSaid d f (begins w l) = some (d .station .desk .address ∷ 0x73 ∷ [])
 octetsSaid d f (declines o w n l) = some (d .station .desk .address ∷ 0x1F ∷ [])
 octetsSaid d f (renews s w l) = some (d .station .desk .address ∷ 0x73 ∷ [])

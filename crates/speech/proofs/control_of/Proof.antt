@@ -23,6 +23,9 @@ enum-told-3 c = search needs
 enum-told-4 : tie.Need-enum-told-4
 enum-told-4 c = search needs
 
+enum-told-5 : tie.Need-enum-told-5
+enum-told-5 c = search needs
+
 returns : tie.Need-returns
 unfolding controlBy
 returns c = search (tests, c .enum-told .given .1)
@@ -47,6 +50,10 @@ returns-6 : tie.Need-returns-6
 unfolding controlBy
 returns-6 c = search (tests, c .enum-told4 .given .1)
 
+returns-7 : tie.Need-returns-7
+unfolding controlBy
+returns-7 c = search (tests, c .enum-told5 .given .1)
+
 pub control-of-spec : {M : Type 1} → statement M
 control-of-spec =
     tie.close
@@ -57,9 +64,11 @@ control-of-spec =
     enum-known-say-2
     enum-told-3
     enum-told-4
+    enum-told-5
     returns
     returns-2
     returns-3
     returns-4
     returns-5
-    returns-6)
+    returns-6
+    returns-7)

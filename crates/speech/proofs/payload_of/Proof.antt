@@ -1,6 +1,5 @@
 -- `speech::payload_of` meets its promise: each way out, by the tests that lead to it. Assumes nothing.
-use Rattle.speech.proofs.Said.{assignment-said}
-use Rattle.speech.proofs.Said.{scan-said}
+use Rattle.speech.proofs.Said.{scan-said, assignment-said, negotiation-said}
 use Rattle.speech.specs.Speech.{payloadBy}
 use Rattle.octets.proofs.Rules.{tests}
 use mathlib.Core.Path.{sym}
@@ -44,6 +43,12 @@ enum-told-5 c = search needs
 assignment-answer-requires : tie.Need-assignment-answer-requires
 assignment-answer-requires c κs = search needs
 
+enum-known-say-2 : tie.Need-enum-known-say-2
+enum-known-say-2 c = search needs
+
+negotiation-answer-requires : tie.Need-negotiation-answer-requires
+negotiation-answer-requires c κs = search needs
+
 returns : tie.Need-returns
 unfolding payloadBy
 returns c = search (tests, sym (c .nothing .ensures), c .before .enum-told .given .1)
@@ -70,6 +75,11 @@ returns-6 c =
     let a = c .before .before .before .before .before .before .args in
     assignment-said (a .device) (a .say) _ (c .before .enum-told5 .given .1) (c .assignment-answer .ensures)
 
+returns-7 : tie.Need-returns-7
+returns-7 c =
+    let a = c .before .before .before .before .before .before .before .args in
+    negotiation-said (a .device) (a .say) _ _ (c .before .before .say2 .given .1) (c .negotiation-answer .ensures)
+
 pub payload-of-spec : {M : Type 1} → statement M
 payload-of-spec =
     tie.close
@@ -86,9 +96,12 @@ payload-of-spec =
     scan-answer-requires
     enum-told-5
     assignment-answer-requires
+    enum-known-say-2
+    negotiation-answer-requires
     returns
     returns-2
     returns-3
     returns-4
     returns-5
-    returns-6)
+    returns-6
+    returns-7)
