@@ -23,8 +23,7 @@ use Rattle.record.proofs.Stays.{sound}
 use Rattle.station.specs.declared.Turn.{Turn}
 use Rattle.station.specs.Turns.{saying, mute}
 use Rattle.states.specs.States.{begun, onSnrm, ua}
-use Rattle.link.specs.Link.{isOwn, addressedBy, controlledBy, judgedFrame}
-use Rattle.link.specs.Frames.{hasAddress}
+use Rattle.link.specs.Link.{hasAddress, isOwn, addressedBy, controlledBy, judgedFrame}
 use Rattle.link.proofs.Judged.{judged-is}
 use Rattle.speech.specs.Speech.{controlBy, payloadBy, frameBy}
 use Rattle.device.specs.Judge.{reacts, reactionOf, deviceAfter}

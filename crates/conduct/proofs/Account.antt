@@ -5,6 +5,7 @@ use mathlib.Core.Bool.{true}
 use mathlib.Core.List.{List}
 use mathlib.Core.Logic.{_⊎_, inl, inr, ⊎-elim}
 use Prim.Native.Nat.{ℕ}
+use lib.ListN.{drop}
 use Rattle.antenna.specs.declared.Angle.{Angle}
 use Rattle.antenna.specs.Motions.{moves}
 use Rattle.control.specs.declared.Order.the-variants.{Snrm}
@@ -12,23 +13,26 @@ use Rattle.record.specs.declared.Plate.{Plate}
 use Rattle.record.specs.declared.Session.{Session}
 use Rattle.record.specs.declared.Link.the-variants.{AddressAssigned, Connected}
 use Rattle.record.specs.declared.Device.{Device}
-use Rattle.record.specs.Changes.{unsaidAt, deviceOf, emptiedAs, endedAs}
+use Rattle.record.specs.Allowed.{limitOf}
+use Rattle.record.specs.Changes.{unsaidAt, deviceOf, emptiedAs, limitedTo}
+use Rattle.params.specs.Field.{Param, WellFormed}
+use Rattle.negotiation.specs.Negotiation.{negotiating, agreedLimit}
 use Rattle.message.specs.Carried.{quieted}
 use Rattle.station.specs.Station.{answersWith}
 use Rattle.acknowledge.specs.Acknowledge.{sessionAfter, acknowledged}
 use Rattle.poll.specs.Poll as poll
 use Rattle.inform.specs.Inform.{heeded}
 use Rattle.states.specs.States.{newSession, begun, renewed, released}
-use Rattle.link.specs.Frames.{Own}
+use Rattle.link.specs.Frames.{Own, Negotiates}
 use Rattle.conduct.specs.Conduct.{after}
-use Rattle.conduct.specs.Endings.{Assigns, Ends, Drops}
+use Rattle.conduct.specs.Endings.{Assigns, Ends, Drops, endedBy}
 use Rattle.conduct.specs.Alarms.{Subscribes}
 use Rattle.conduct.specs.Comes.{Comes, left}
 use Rattle.conduct.specs.Account.{Continues, Account}
-use Rattle.conduct.proofs.Settles.{address-kept, subscribed-kept, relieved-link, assigned-apart}
+use Rattle.conduct.proofs.Settles.{address-kept, limit-kept, subscribed-kept, relieved-link, assigned-apart}
 use Rattle.conduct.proofs.Numbers.{r-moves-exactly, r-stays-exactly, s-moves-exactly, s-stays-exactly}
 use Rattle.conduct.proofs.Told.{raised-cases, told-cases, clears-both, indicated-tells}
-use Rattle.conduct.proofs.Comes.{comes-leaves}
+use Rattle.conduct.proofs.Comes.{comes, comes-leaves, ends-leaves}
 use Rattle.conduct.proofs.Ends.{drops-drop}
 use Rattle.conduct.proofs.Leaves.{after-cases}
 use Rattle.conduct.proofs.Motions.{motion-cases, motion-started, motion-delivered, motion-dropped}
@@ -41,30 +45,32 @@ parts e = (e .plate, e .antenna .drive .lowest, e .antenna .drive .highest, e .a
 
 module _ (d : Device) (f : List ℕ) where
   parts-kept : parts (after d f) ≡ parts d
-  unfolding deviceOf emptiedAs acknowledged moves quieted
+  unfolding deviceOf emptiedAs limitedTo acknowledged moves quieted
   parts-kept =
-      after-cases d f (λ (e : Device). parts e ≡ parts d) refl (λ a w. refl) (λ w l. refl) (λ o r s e w. refl)
+      after-cases d f (λ (e : Device). parts e ≡ parts d) refl (λ a w. refl) (λ ps w m. refl) (λ w n l. refl)
+      (λ o r s e w. refl)
       (λ s n r w. refl) (λ w. refl) (λ w. refl) (λ w. refl) (λ w b. refl) (λ b w. refl) (λ w. refl)
 
   -- ---- the address and the subscription
 
   address-cases : ((a : ℕ) × Assigns d f a) ⊎ (after d f .station .desk .address ≡ d .station .desk .address)
-  unfolding deviceOf emptiedAs unsaidAt acknowledged heeded answersWith poll.indicates
+  unfolding deviceOf emptiedAs unsaidAt limitedTo acknowledged heeded answersWith poll.indicates
   address-cases =
       let kept = address-kept d in
       after-cases d f (λ (e : Device). ((a : ℕ) × Assigns d f a) ⊎ (e .station .desk .address ≡ d .station .desk .address))
-      (inr refl) (λ a w. inl (a, w)) (λ w l. inr refl) (λ o r s e w. inr (kept s r)) (λ s n r w. inr (kept s r))
+      (inr refl) (λ a w. inl (a, w)) (λ ps w m. inr refl) (λ w n l. inr refl) (λ o r s e w. inr (kept s r))
+      (λ s n r w. inr (kept s r))
       (λ w. inr (kept (w .session) (w .nr))) (λ w. inr (kept (w .session) (w .nr)))
       (λ w. inr (kept (w .session) (w .nr))) (λ w b. inr (kept (w .session) (w .nr)))
       (λ b w. inr (kept (w .collects .session) (w .collects .nr)))
       (λ w. inr (kept (w .collects .session) (w .collects .nr)))
 
   subscribed-cases : Subscribes d f ⊎ (after d f .station .desk .subscribed ≡ d .station .desk .subscribed)
-  unfolding deviceOf emptiedAs unsaidAt acknowledged heeded answersWith poll.indicates
+  unfolding deviceOf emptiedAs unsaidAt limitedTo acknowledged heeded answersWith poll.indicates
   subscribed-cases =
       let kept = subscribed-kept d in
       after-cases d f (λ (e : Device). Subscribes d f ⊎ (e .station .desk .subscribed ≡ d .station .desk .subscribed))
-      (inr refl) (λ a w. inr refl) (λ w l. inr refl) (λ o r s e w. inr (kept s r))
+      (inr refl) (λ a w. inr refl) (λ ps w m. inr refl) (λ w n l. inr refl) (λ o r s e w. inr (kept s r))
       (λ s n r w. inr refl) (λ w. inr refl) (λ w. inr refl) inl (λ w b. inr refl)
       (λ b w. inr (kept (w .collects .session) (w .collects .nr)))
       (λ w. inr (kept (w .collects .session) (w .collects .nr)))
@@ -81,6 +87,58 @@ module _ (d : Device) (f : List ℕ) where
   subscribes w =
       ap (λ (e : Device). e .station .desk .subscribed)
       (comes-leaves d f (Comes.subscribes (w .session) (w .ns) (w .nr) (w .frame) (w .message)))
+
+  -- ---- the frame limit
+
+  -- an end, an assignment or a negotiation changes it, or else nothing does
+  abbrev Limits : Type 0
+  Limits = ((a : ℕ) × Assigns d f a)
+      ⊎ (Ends d f ⊎ ((ps : List Param) × Negotiates d f × WellFormed negotiating (drop 2 f) ps))
+
+  limit-by : (c : Comes d f) → Limits ⊎ (limitOf (left d f c) ≡ limitOf d)
+  unfolding left begun emptiedAs unsaidAt deviceOf acknowledged heeded answersWith poll.indicates
+  limit-by (Comes.unread w) = inr refl
+  limit-by (Comes.scans w a) = inr refl
+  limit-by (Comes.assigns a w) = inl (inl (a, w))
+  limit-by (Comes.negotiates ps w m) = inl (inr (inr (ps, w, m)))
+  limit-by (Comes.begins w l) = inr refl
+  limit-by (Comes.declines o w n l) = inr refl
+  limit-by (Comes.renews s w l) = inl (inr (inl (Ends.renews s w l)))
+  limit-by (Comes.leaves s w l) = inl (inr (inl (Ends.leaves s w l)))
+  limit-by (Comes.miscounts s o r w l n b) = inl (inr (inl (Ends.miscounts s o r w l n b)))
+  limit-by (Comes.unknown s w l) = inl (inr (inl (Ends.unknown s w l)))
+  limit-by (Comes.starts s n r w due) = inr (limit-kept d s r)
+  limit-by (Comes.clears s n r w m) = inr (limit-kept d s r)
+  limit-by (Comes.subscribes s n r w m) = inr (limit-kept d s r)
+  limit-by (Comes.answers s n r b w e) = inr (limit-kept d s r)
+  limit-by (Comes.murmurs s n r w few) = inr (limit-kept d s r)
+  limit-by (Comes.repeats s n r w a) = inr (limit-kept d s r)
+  limit-by (Comes.resends s r w p) = inr (limit-kept d s r)
+  limit-by (Comes.delivers s r b w p q) = inr (limit-kept d s r)
+  limit-by (Comes.indicates s r w p q t) = inr (limit-kept d s r)
+  limit-by (Comes.rests s r w p q t) = inr (limit-kept d s r)
+  limit-by (Comes.pauses s r w) = inr (limit-kept d s r)
+
+  limit-cases : Limits ⊎ (limitOf (after d f) ≡ limitOf d)
+  limit-cases =
+      ⊎-elim inl (λ e. inr (ap limitOf (comes-leaves d f (comes d f)) ∙ e)) (limit-by (comes d f))
+
+  limit-assigned : (a : ℕ) → Assigns d f a → limitOf (after d f) ≡ 78
+  unfolding left emptiedAs unsaidAt
+  limit-assigned a w = ap limitOf (comes-leaves d f (Comes.assigns a w))
+
+  limit-ended : Ends d f → limitOf (after d f) ≡ 78
+  unfolding endedBy renewed begun released emptiedAs unsaidAt
+  limit-ended (Ends.renews s w l) = ap limitOf (ends-leaves d f (Ends.renews s w l))
+  limit-ended (Ends.leaves s w l) = ap limitOf (ends-leaves d f (Ends.leaves s w l))
+  limit-ended (Ends.miscounts s o r w l n b) = ap limitOf (ends-leaves d f (Ends.miscounts s o r w l n b))
+  limit-ended (Ends.unknown s w l) = ap limitOf (ends-leaves d f (Ends.unknown s w l))
+  limit-ended (Ends.assigns s a w l) = ap limitOf (ends-leaves d f (Ends.assigns s a w l))
+
+  limit-agreed : (ps : List Param) → Negotiates d f → WellFormed negotiating (drop 2 f) ps
+      → limitOf (after d f) ≡ agreedLimit (limitOf d) ps
+  unfolding left limitedTo deviceOf
+  limit-agreed ps w m = ap limitOf (comes-leaves d f (Comes.negotiates ps w m))
 
   -- ---- the link state
 
@@ -109,10 +167,10 @@ module _ (d : Device) (f : List ℕ) where
   Goes e = (s : Session) × (t : Session) × (d .station .link ≡ Connected s) × (e .station .link ≡ Connected t)
 
   link-cases : Drops d f ⊎ ((after d f .station .link ≡ d .station .link) ⊎ Goes (after d f))
-  unfolding deviceOf acknowledged heeded answersWith poll.indicates
+  unfolding deviceOf limitedTo acknowledged heeded answersWith poll.indicates
   link-cases =
       after-cases d f (λ (e : Device). Drops d f ⊎ ((e .station .link ≡ d .station .link) ⊎ Goes e))
-      (inr (inl refl)) (λ a w. inl (inr (inr (a, w)))) (λ w l. inl w)
+      (inr (inl refl)) (λ a w. inl (inr (inr (a, w)))) (λ ps w m. inr (inl refl)) (λ w n l. inl w)
       (λ o r s e w. inr (inr (s, sessionAfter s r, w .link, relieved-link d s r (w .link))))
       (λ s n r w. inr (inr (s, _, w .numbered .link, refl)))
       (λ w. inr (inr (w .session, _, w .frame .numbered .link, refl)))
@@ -167,6 +225,14 @@ module _ (d : Device) (f : List ℕ) where
         tilt = ap (λ x. x .3) parts-kept;
         address-taken = λ a w. assigned a w .0;
         address-kept = λ none. ⊎-elim (λ w. absurd (none (w .0) (w .1))) (λ same. same) address-cases;
+        limit-assigned = limit-assigned;
+        limit-ended = limit-ended;
+        limit-agreed = limit-agreed;
+        limit-kept = λ unassigned unended unagreed.
+            ⊎-elim
+            (⊎-elim (λ w. absurd (unassigned (w .0) (w .1)))
+            (⊎-elim (λ w. absurd (unended w)) (λ w. absurd (unagreed (w .1) (w .0) (w .2)))))
+            (λ same. same) limit-cases;
         link-assigned = λ a w. assigned a w .1;
         link-begun = λ w. begun-link (Comes.begins (w .own) (w .link)) refl;
         link-renewed = λ s l w. renewed-link (Comes.renews s w l) refl;

@@ -10,7 +10,7 @@ use Rattle.record.specs.Allowed.{addressed, sessionAllowed, linkAllowed}
 use Rattle.record.specs.declared.Desk.{Desk}
 use Rattle.record.specs.declared.Link.{Link}
 use Rattle.record.specs.declared.Link.the-variants.{NoAddress, AddressAssigned, Connected}
-use Rattle.link.specs.Frames.{hasAddress}
+use Rattle.link.specs.Link.{hasAddress}
 
 pub link-addressed : (k : Desk) (l : Link) → linkAllowed k l ≡ true → hasAddress l ≡ true → addressed (k .address) ≡ true
 unfolding linkAllowed

@@ -14,6 +14,7 @@ use Rattle.antenna.specs.Motions.{runs}
 use Rattle.record.specs.declared.Session.{Session}
 use Rattle.record.specs.declared.Link.the-variants.{Connected}
 use Rattle.record.specs.declared.Device.{Device}
+use Rattle.record.specs.Allowed.{limitOf}
 use Rattle.record.specs.declared.Event.{Event}
 use Rattle.record.specs.Changes.{withAntenna}
 use Rattle.session.specs.Session.{pends, acknowledges, goodNumber, accepts}
@@ -29,18 +30,18 @@ use Rattle.link.specs.Link.{isOwn, judgedFrame}
 use Rattle.link.specs.Frames.{Own}
 use Rattle.conduct.specs.Conduct.{after, starts, Accepted, occurAll}
 use Rattle.conduct.proofs.Settles.{next-apart, same-session, device-kept, r-kept, info-is}
-use Rattle.conduct.proofs.Sessions.{Counted, relieved-number, info-counted, inform-address}
+use Rattle.conduct.proofs.Sessions.{Counted, relieved-number, info-counted, inform-keeps}
 use Rattle.conduct.proofs.Runs.{events-antenna}
 use Rattle.conduct.proofs.Due.{starts-exactly}
 
--- a frame read at the own address is read so by every device of that address
-own-at : (d e : Device) (f : List ℕ) (n r : ℕ) → e .station .desk .address ≡ d .station .desk .address → Own d f (Info n r)
-    → Own e f (Info n r)
+-- a frame read at the own address is read so by every device of that address and that frame limit
+own-at : (d e : Device) (f : List ℕ) (n r : ℕ) → e .station .desk .address ≡ d .station .desk .address
+    → limitOf e ≡ limitOf d → Own d f (Info n r) → Own e f (Info n r)
 unfolding isOwn
-own-at d e f n r a w =
+own-at d e f n r a l w =
     record {
       least = w .least;
-      most = w .most;
+      most = rw l (w .most);
       poll = w .poll;
       all = w .all;
       own = rw a (w .own);
@@ -81,11 +82,13 @@ module _ (d : Device) (f : List ℕ) (s : Session) (n r : ℕ) (w : Accepted d f
         let sent : n ≡ s .r = accepts-exactly (sessionAfter s r) n .0 (w .accepted) .1 ∙ r-kept s r in
         let due : t .r ≡ nextOf n = ap (λ (x : Session). x .r) (sym one) ∙ counted .due ∙ ap nextOf (sym sent) in
         let none = again-acknowledges t n r number due in
-        let address = ap (λ (x : Turn). x .device .station .desk .address) (info-is d f s n r (w .numbered))
-        ∙ inform-address d s r (w .numbered .link) n (drop 2 f) in
+        let turn = info-is d f s n r (w .numbered) in
+        let keeps = inform-keeps d s r (w .numbered .link) n (drop 2 f) in
+        let address = ap (λ (x : Turn). x .device .station .desk .address) turn ∙ keeps .0 in
+        let limit = ap (λ (x : Turn). limitOf (x .device)) turn ∙ keeps .1 in
         info-is e f t n r
         (record {
-          own = own-at d e f n r (ap (λ x. x .desk .address) same ∙ address) (w .numbered .own);
+          own = own-at d e f n r (ap (λ x. x .desk .address) same ∙ address) (ap (λ x. x .desk .limit) same ∙ limit) (w .numbered .own);
           link = ap (λ x. x .link) same ∙ there;
           good = again-good t n r number due;
         })

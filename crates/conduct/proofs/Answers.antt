@@ -19,9 +19,9 @@ use Rattle.control.specs.declared.Order.the-variants.{Snrm}
 use Rattle.record.specs.declared.Link.{Link}
 use Rattle.record.specs.declared.Link.the-variants.{NoAddress, AddressAssigned, Connected}
 use Rattle.record.specs.declared.Device.{Device}
-use Rattle.record.specs.Allowed.{identityOf, stationAllowed, allowedDevice}
+use Rattle.record.specs.Allowed.{identityOf, limitOf, allowedDevice}
 use Rattle.record.specs.Changes.{unsaidAt, emptiedAs, endedAs}
-use Rattle.record.proofs.Stays.{sound}
+use Rattle.record.proofs.Stays.{sound, limit-allowed}
 use Rattle.xid.specs.Match.{readOf}
 use Rattle.xid.specs.Meaning.{ScanOf, AssignmentOf, Meant, Answers, Takes}
 use Rattle.xid.specs.declared.Xid.{Xid}
@@ -31,12 +31,13 @@ use Rattle.station.specs.declared.Say.{Say}
 use Rattle.station.specs.declared.Turn.{Turn}
 use Rattle.station.specs.Turns.{saying, mute}
 use Rattle.states.specs.States.{newSession, begun, released, renewed, onSnrm, ua, connectedBy, assignedBy, linkedBy}
-use Rattle.link.specs.Link.{isOwn}
+use Rattle.link.specs.Link.{hasAddress, isOwn}
 use Rattle.link.specs.Link.{xidBy}
 use Rattle.link.specs.Link.{judgedFrame}
-use Rattle.link.specs.Frames.{controlOf, hasAddress, Own, Everyone}
+use Rattle.link.specs.Frames.{controlOf, Own, Everyone}
 use Rattle.link.proofs.Cases.{own-is, everyone-is}
-use Rattle.limits.specs.Limits.{frameLimit, frameMost}
+use Rattle.limits.specs.Limits.{frameMost}
+use Rattle.limits.proofs.Exactly.{limit-exactly}
 use Rattle.conduct.specs.Conduct.{after}
 use Rattle.conduct.proofs.Addressed.{link-addressed, addressed-bounds}
 
@@ -75,7 +76,7 @@ snrm-in d f e = ap (λ (x : Link). saying (onSnrm d x) ua) e
 
 module _ (d : Device) (allowed : allowedDevice d ≡ true) (assigned : hasAddress (d .station .link) ≡ true) where
   snrm-own : Own d (d .station .desk .address ∷ 0x93 ∷ []) Snrm
-  unfolding stationAllowed polled askedBy isOwn
+  unfolding polled askedBy isOwn
   snrm-own =
       let a = d .station .desk .address in
       let bounds =
@@ -85,7 +86,7 @@ module _ (d : Device) (allowed : allowedDevice d ≡ true) (assigned : hasAddres
       let self : eqb a a ≡ true = eq-eqb a a refl in
       record {
         least = omega arith;
-        most = omega arith;
+        most = omega (arith, limit-exactly (limitOf d) .0 (limit-allowed d allowed) .0);
         poll = refl;
         all = ne-eqb a 0xFF (λ e. omega (arith, bounds .1, e));
         own = rw (zero, self);
@@ -103,26 +104,26 @@ module _ (d : Device) (allowed : allowedDevice d ≡ true) (assigned : hasAddres
 
 -- ---- XID
 
-xid-means : (d : Device) (f : List ℕ) → Everyone f → (x : Xid) → readOf (identityOf (d .plate)) (drop 2 f) ≡ x
+xid-means : (d : Device) (f : List ℕ) → Everyone d f → (x : Xid) → readOf (identityOf (d .plate)) (drop 2 f) ≡ x
     → judgedFrame d f ≡ xidBy d x
 xid-means d f w x e = everyone-is d f w ∙ ap (xidBy d) e
 
 -- every scan that is read and matches
-pub scan-answers : (d : Device) (f : List ℕ) → Everyone f → Answers (identityOf (d .plate)) (drop 2 f)
+pub scan-answers : (d : Device) (f : List ℕ) → Everyone d f → Answers (identityOf (d .plate)) (drop 2 f)
     → judgedFrame d f ≡ saying d Say.Scanned
 unfolding xidBy
 scan-answers d f w a = xid-means d f w xid.Scan (scan-exactly (identityOf (d .plate)) (drop 2 f) .1 a)
 
 -- every assignment that is read and matches
-pub assignment-ends : (d : Device) (f : List ℕ) (a : ℕ) → Everyone f → Takes (identityOf (d .plate)) (drop 2 f) a
+pub assignment-ends : (d : Device) (f : List ℕ) (a : ℕ) → Everyone d f → Takes (identityOf (d .plate)) (drop 2 f) a
     → judgedFrame d f ≡ saying (endedAs d a AddressAssigned) Say.Assigned
 unfolding xidBy
 assignment-ends d f a w t =
     xid-means d f w (xid.Assignment a) (assignment-exactly (identityOf (d .plate)) (drop 2 f) a .1 t)
 
 -- a frame to everyone with the payload m
-module _ (d : Device) (m : List ℕ) (fits : length m + 2 ≤ frameMost frameLimit) where
-  to-everyone : Everyone (0xFF ∷ 0xBF ∷ m)
+module _ (d : Device) (m : List ℕ) (fits : length m + 2 ≤ frameMost (limitOf d)) where
+  to-everyone : Everyone d (0xFF ∷ 0xBF ∷ m)
   to-everyone = record { least = omega arith; most = omega arith; address = refl; control = refl }
 
   -- a payload that means nothing to the device: it stays as it was, and is silent

@@ -10,7 +10,8 @@ use Rattle.octets.proofs.Words.{true-not-false}
 use Rattle.control.specs.declared.Order.the-variants.{Info, Rr}
 use Rattle.record.specs.declared.Session.{Session}
 use Rattle.record.specs.declared.Device.{Device}
-use Rattle.record.specs.Allowed.{identityOf}
+use Rattle.record.specs.Allowed.{identityOf, limitOf}
+use Rattle.negotiation.proofs.Exactly.{offer-agreed, offer-exactly}
 use Rattle.record.specs.Changes.{deviceOf}
 use Rattle.antenna.specs.Motions.{started}
 use Rattle.session.specs.Session.{pends, accepts, taken}
@@ -27,14 +28,14 @@ use Rattle.acknowledge.specs.Acknowledge.{sessionAfter, stationAfter, acknowled
 use Rattle.poll.specs.Poll.{idlePoll, waitingPoll, pollOf}
 use Rattle.inform.specs.Inform.{carriedHere, repliedBy, carriedBy, informOf}
 use Rattle.states.specs.States.{rejected, informedBy, polledBy, pausedBy, onSnrm}
-use Rattle.link.specs.Link.{judgedFrame}
-use Rattle.link.specs.Frames.{hasAddress, Numbered, Unread}
-use Rattle.link.proofs.Cases.{judged-cases, unread-silent}
+use Rattle.link.specs.Link.{hasAddress, agreedBy, judgedFrame}
+use Rattle.link.specs.Frames.{Numbered, Unread}
+use Rattle.link.proofs.Cases.{negotiates-is, judged-cases, unread-silent}
 use Rattle.conduct.specs.Conduct.{after, Accepted}
 use Rattle.conduct.specs.Endings.{Ends, endedBy}
 use Rattle.conduct.specs.Endings as end
-use Rattle.conduct.specs.Comes.{Comes, unread, scans, assigns, begins, declines, renews, leaves, miscounts}
-use Rattle.conduct.specs.Comes.{unknown, starts, clears, subscribes, answers, murmurs, repeats, resends}
+use Rattle.conduct.specs.Comes.{Comes, unread, scans, assigns, negotiates, begins, declines, renews, leaves}
+use Rattle.conduct.specs.Comes.{miscounts, unknown, starts, clears, subscribes, answers, murmurs, repeats, resends}
 use Rattle.conduct.specs.Comes.{delivers, indicates, rests, pauses, left, says}
 use Rattle.conduct.proofs.Settles.{carried-kept, info-is, rr-is, rnr-is, accepted-is}
 use Rattle.conduct.proofs.Turns.{poll-cases}
@@ -49,6 +50,7 @@ spoken (Say.Reject c n why) = true
 spoken (Say.Pend c) = true
 spoken Say.Scanned = true
 spoken Say.Assigned = true
+spoken (Say.Negotiated a) = true
 
 said : {A : Type 0} {x : Say} → spoken x ≡ true → x ≡ Say.Silence → A
 said e h = absurd (true-not-false (sym e ∙ ap spoken h))
@@ -90,6 +92,7 @@ module _ (d : Device) (f : List ℕ) where
       (λ w e. scans w (scan-exactly (identityOf (d .plate)) (drop 2 f) .0 e))
       (λ a w e.
       assigns a (record { everyone = w; takes = assignment-exactly (identityOf (d .plate)) (drop 2 f) a .0 e }))
+      (λ n a w e. let (ps, formed, limit, asked, one) = offer-exactly (limitOf d) (drop 2 f) n a .0 e in negotiates ps w formed)
       begins declines renews leaves miscounts unknown info-comes rr-comes pauses
 
   -- ---- what comes of it
@@ -103,10 +106,12 @@ module _ (d : Device) (f : List ℕ) where
 
   pub comes-so : (c : Comes d f) → judgedFrame d f ≡ saying (left d f c) (says d f c)
   unfolding left says onSnrm rejected acknowledged deviceOf carriedBy repliedBy replies unanswered started informedBy informOf
-      polledBy pollOf waitingPoll idlePoll resent pausedBy
+      polledBy pollOf waitingPoll idlePoll resent pausedBy agreedBy
   comes-so (unread w) = unread-silent d f w
   comes-so (scans w a) = scan-answers d f w a
   comes-so (assigns a w) = assignment-ends d f a (w .everyone) (w .takes)
+  comes-so (negotiates ps w m) =
+      negotiates-is d f w ∙ ap (agreedBy d) (offer-agreed (limitOf d) (drop 2 f) ps m)
   comes-so (begins w l) = snrm-begins d f w (ap hasAddress l) ∙ snrm-in d f l
   comes-so (declines o w n l) = other-declined d f o w n l
   comes-so (renews s w l) = snrm-begins d f w (ap hasAddress l) ∙ snrm-in d f l
@@ -145,6 +150,7 @@ module _ (d : Device) (f : List ℕ) where
   silence-unread (unread w) e = w
   silence-unread (scans w a) e = said refl e
   silence-unread (assigns a w) e = said refl e
+  silence-unread (negotiates ps w m) e = said refl e
   silence-unread (begins w l) e = said refl e
   silence-unread (declines o w n l) e = said refl e
   silence-unread (renews s w l) e = said refl e

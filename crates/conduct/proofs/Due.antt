@@ -13,7 +13,7 @@ use Rattle.antenna.specs.Motions.{runs, started, moves, unowedOf}
 use Rattle.antenna.proofs.Movements.{unowed-runs, idle}
 use Rattle.record.specs.declared.Link.the-variants.{Connected}
 use Rattle.record.specs.declared.Device.{Device}
-use Rattle.record.specs.Changes.{deviceOf, emptiedAs, endedAs}
+use Rattle.record.specs.Changes.{deviceOf, emptiedAs, limitedTo}
 use Rattle.session.specs.Session.{taken}
 use Rattle.session.proofs.Numbers.{accepts-exactly}
 use Rattle.message.specs.Carried.{quieted}
@@ -23,8 +23,8 @@ use Rattle.inform.specs.Inform.{heeded}
 use Rattle.states.specs.States.{begun, released}
 use Rattle.states.proofs.Renews.{renewed-ends}
 use Rattle.conduct.specs.Conduct.{starts, TiltDue, movedOn, TiltStarted}
-use Rattle.conduct.specs.Comes.{Comes, unread, scans, assigns, begins, declines, renews, leaves, miscounts}
-use Rattle.conduct.specs.Comes.{unknown, clears, subscribes, answers, murmurs, repeats, resends, delivers}
+use Rattle.conduct.specs.Comes.{Comes, unread, scans, assigns, negotiates, begins, declines, renews, leaves}
+use Rattle.conduct.specs.Comes.{miscounts, unknown, clears, subscribes, answers, murmurs, repeats, resends, delivers}
 use Rattle.conduct.specs.Comes.{indicates, rests, pauses, left, says}
 use Rattle.conduct.specs.Comes as come
 use Rattle.conduct.proofs.Settles.{nothing-pends, r-kept}
@@ -53,10 +53,11 @@ module _ (d : Device) (f : List ℕ) where
   ended = not-begun (d .antenna .motion) (unowedOf (d .antenna .motion)) (unowed-runs (d .antenna .motion))
 
   due-by : (c : Comes d f) → Begins (d .antenna .motion) (left d f c .antenna .motion) → TiltDue d f
-  unfolding left begun released emptiedAs moves deviceOf acknowledged quieted
+  unfolding left begun released emptiedAs moves limitedTo deviceOf acknowledged quieted
   due-by (unread w) = kept
   due-by (scans w a) = kept
   due-by (assigns a w) = ended
+  due-by (negotiates ps w m) = kept
   due-by (begins w l) = ended
   due-by (declines o w n l) = kept
   due-by (renews s w l) = rw (renewed-ends d) ended

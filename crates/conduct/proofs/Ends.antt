@@ -11,7 +11,9 @@ use Rattle.record.specs.declared.Pending.the-variants.{Nothing}
 use Rattle.record.specs.declared.Link.{Link}
 use Rattle.record.specs.declared.Link.the-variants.{AddressAssigned, Connected}
 use Rattle.record.specs.declared.Device.{Device}
-use Rattle.record.specs.Changes.{unsaidAt, emptiedAs, endedAs}
+use Rattle.limits.specs.Limits.{frameLimit}
+use Rattle.record.specs.Allowed.{limitOf}
+use Rattle.record.specs.Changes.{unsaidAt, emptiedAs}
 use Rattle.poll.specs.Poll.{toTell}
 use Rattle.states.specs.States.{newSession, begun, released}
 use Rattle.states.proofs.Renews.{renewed-ends}
@@ -23,13 +25,13 @@ use Rattle.conduct.specs.Comes as come
 use Rattle.conduct.proofs.Comes.{comes-leaves, ends-leaves}
 
 module _ (d : Device) where
-  pub ended-drops : (a : ℕ) (l : Link) → pendingIn l ≡ Nothing → Dropped (endedAs d a l)
+  pub emptied-drops : (a n : ℕ) (l : Link) → pendingIn l ≡ Nothing → Dropped (emptiedAs d a n l)
   unfolding emptiedAs unsaidAt moves
-  ended-drops a l e = record { pending = e; reply = refl; said = refl; owed = unowed-owes (d .antenna .motion) }
+  emptied-drops a n l e = record { pending = e; reply = refl; said = refl; owed = unowed-owes (d .antenna .motion) }
 
-  pub ended-survives : (a : ℕ) (l : Link) → Survives d (endedAs d a l)
+  pub emptied-survives : (a n : ℕ) (l : Link) → Survives d (emptiedAs d a n l)
   unfolding emptiedAs unsaidAt moves
-  ended-survives a l =
+  emptied-survives a n l =
       record {
         raised = refl;
         told = refl;
@@ -41,25 +43,28 @@ module _ (d : Device) where
       }
 
   module _ (f : List ℕ) where
-    -- each of them leaves a device whose session has ended
-    pub drops-as : Drops d f → (a : ℕ) × (l : Link) × (pendingIn l ≡ Nothing) × (after d f ≡ endedAs d a l)
+    -- each of them leaves a device with nothing pending and nothing owed
+    pub drops-as : Drops d f
+        → (a : ℕ) × (n : ℕ) × (l : Link) × (pendingIn l ≡ Nothing) × (after d f ≡ emptiedAs d a n l)
     unfolding endedBy begun released left
     drops-as (inl (renews s w l)) =
-        (d .station .desk .address, Connected newSession, refl, ends-leaves d f (renews s w l) ∙ renewed-ends d)
-    drops-as (inl (leaves s w l)) = (d .station .desk .address, AddressAssigned, refl, ends-leaves d f (leaves s w l))
+        (d .station .desk .address, frameLimit, Connected newSession, refl, ends-leaves d f (renews s w l) ∙ renewed-ends d)
+    drops-as (inl (leaves s w l)) =
+        (d .station .desk .address, frameLimit, AddressAssigned, refl, ends-leaves d f (leaves s w l))
     drops-as (inl (miscounts s o r w l n b)) =
-        (d .station .desk .address, AddressAssigned, refl, ends-leaves d f (miscounts s o r w l n b))
-    drops-as (inl (unknown s w l)) = (d .station .desk .address, AddressAssigned, refl, ends-leaves d f (unknown s w l))
-    drops-as (inl (assigns s a w l)) = (a, AddressAssigned, refl, ends-leaves d f (assigns s a w l))
+        (d .station .desk .address, frameLimit, AddressAssigned, refl, ends-leaves d f (miscounts s o r w l n b))
+    drops-as (inl (unknown s w l)) =
+        (d .station .desk .address, frameLimit, AddressAssigned, refl, ends-leaves d f (unknown s w l))
+    drops-as (inl (assigns s a w l)) = (a, frameLimit, AddressAssigned, refl, ends-leaves d f (assigns s a w l))
     drops-as (inr (inl w)) =
-        (d .station .desk .address, Connected newSession, refl, comes-leaves d f (come.begins (w .own) (w .link)))
-    drops-as (inr (inr (a, w))) = (a, AddressAssigned, refl, comes-leaves d f (come.assigns a w))
+        (d .station .desk .address, limitOf d, Connected newSession, refl, comes-leaves d f (come.begins (w .own) (w .link)))
+    drops-as (inr (inr (a, w))) = (a, frameLimit, AddressAssigned, refl, comes-leaves d f (come.assigns a w))
 
     pub drops-drop : Drops d f → Dropped (after d f)
-    drops-drop e = let (a, l, idle, is) = drops-as e in rw is (ended-drops a l idle)
+    drops-drop e = let (a, n, l, idle, is) = drops-as e in rw is (emptied-drops a n l idle)
 
     pub drops-survive : Drops d f → Survives d (after d f)
-    drops-survive e = let (a, l, idle, is) = drops-as e in rw is (ended-survives a l)
+    drops-survive e = let (a, n, l, idle, is) = drops-as e in rw is (emptied-survives a n l)
 
     -- what there was to tell is still to be told
     pub drops-tell : Drops d f → toTell (after d f .station .desk) (after d f .antenna .drive) ≡ toTell (d .station .desk) (d .antenna .drive)

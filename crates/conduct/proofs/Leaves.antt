@@ -1,4 +1,4 @@
--- What a frame leaves of a device is one of eleven things, each with the frame that leaves it (`after-cases`). This
+-- What a frame leaves of a device is one of twelve things, each with the frame that leaves it (`after-cases`). This
 -- holds of any record, allowed or not. Assumes nothing.
 use mathlib.Core.Path.{_≡_, refl, ap}
 use mathlib.Core.Bool.{Bool, true}
@@ -7,6 +7,7 @@ use mathlib.Core.Logic.{inl, inr}
 use mathlib.Core.Option.{some}
 use Prim.Native.Nat.{ℕ}
 use lib.ListN.{drop}
+use Rattle.limits.specs.Limits.{frameLimit}
 use Rattle.antenna.specs.declared.Alarms.{Alarms}
 use Rattle.antenna.specs.declared.Motion.the-variants.{Still, Owing}
 use Rattle.antenna.specs.Motions.{moves}
@@ -17,8 +18,11 @@ use Rattle.record.specs.declared.Link.{Link}
 use Rattle.record.specs.declared.Link.the-variants.{AddressAssigned, Connected}
 use Rattle.record.specs.declared.Station.{Station}
 use Rattle.record.specs.declared.Device.{Device}
+use Rattle.record.specs.Allowed.{limitOf}
 use Rattle.record.specs.Desk.{calm}
-use Rattle.record.specs.Changes.{deviceOf, endedAs}
+use Rattle.params.specs.Field.{Param, WellFormed}
+use Rattle.negotiation.specs.Negotiation.{negotiating, agreedLimit}
+use Rattle.record.specs.Changes.{deviceOf, emptiedAs, endedAs, limitedTo}
 use Rattle.payload.specs.Payloads.{payloadOf, successOf, resultOf}
 use Rattle.message.specs.Messages.{askedOf}
 use Rattle.message.specs.Carried.{replies, quieted}
@@ -29,7 +33,7 @@ use Rattle.acknowledge.specs.Acknowledge.{sessionAfter, stationAfter, acknowled
 use Rattle.poll.specs.Poll as poll
 use Rattle.states.specs.States.{newSession, begun, released}
 use Rattle.states.proofs.Renews.{renewed-ends}
-use Rattle.link.specs.Frames.{numberIn, Numbered}
+use Rattle.link.specs.Frames.{numberIn, Numbered, Negotiates}
 use Rattle.conduct.specs.Conduct.{after, Accepted, TiltDue}
 use Rattle.conduct.specs.Endings.{Assigns, Ends, Drops}
 use Rattle.conduct.specs.Alarms.{Clears, Subscribes}
@@ -68,11 +72,13 @@ module _ (d : Device) (f : List ℕ) where
   abbrev told : Session → ℕ → Alarms
   told s r = there s r .desk .told
 
-  -- the device as it was; a session ended; a good N(R) read, and no more; then what an accepted message or RR adds
+  -- the device as it was; another frame limit; a session ended, or begun; a good N(R) read, and no more; then what an accepted message or RR adds
   module _ (P : Device → Type 0)
       (same : P d)
       (assigned : (a : ℕ) → Assigns d f a → P (endedAs d a AddressAssigned))
-      (ended : Drops d f → (l : Link) → P (endedAs d (d .station .desk .address) l))
+      (limited : (ps : List Param) → Negotiates d f → WellFormed negotiating (drop 2 f) ps
+      → P (limitedTo d (agreedLimit (limitOf d) ps)))
+      (ended : Drops d f → (n : ℕ) (l : Link) → P (emptiedAs d (d .station .desk .address) n l))
       (relieved : (o : Order) (r : ℕ) (s : Session) → numberIn o ≡ some r → Numbered d f o r s → P (acknowledged d s r))
       (heeded : (s : Session) (n r : ℕ) → Accepted d f s n r
       → P (unansweredAs d s r (d .antenna) (told s r) (d .station .desk .subscribed)))
@@ -96,12 +102,13 @@ module _ (d : Device) (f : List ℕ) where
     left-cases (Comes.unread w) = same
     left-cases (Comes.scans w a) = same
     left-cases (Comes.assigns a w) = assigned a w
-    left-cases (Comes.begins w l) = ended (inr (inl (record { own = w; link = l }))) (Connected newSession)
+    left-cases (Comes.negotiates ps w m) = limited ps w m
+    left-cases (Comes.begins w l) = ended (inr (inl (record { own = w; link = l }))) (limitOf d) (Connected newSession)
     left-cases (Comes.declines o w n l) = same
-    left-cases (Comes.renews s w l) = rw (renewed-ends d) (ended (inl (Ends.renews s w l)) (Connected newSession))
-    left-cases (Comes.leaves s w l) = ended (inl (Ends.leaves s w l)) AddressAssigned
-    left-cases (Comes.miscounts s o r w l n b) = ended (inl (Ends.miscounts s o r w l n b)) AddressAssigned
-    left-cases (Comes.unknown s w l) = ended (inl (Ends.unknown s w l)) AddressAssigned
+    left-cases (Comes.renews s w l) = rw (renewed-ends d) (ended (inl (Ends.renews s w l)) frameLimit (Connected newSession))
+    left-cases (Comes.leaves s w l) = ended (inl (Ends.leaves s w l)) frameLimit AddressAssigned
+    left-cases (Comes.miscounts s o r w l n b) = ended (inl (Ends.miscounts s o r w l n b)) frameLimit AddressAssigned
+    left-cases (Comes.unknown s w l) = ended (inl (Ends.unknown s w l)) frameLimit AddressAssigned
     left-cases (Comes.starts s n r w m) =
         started (record { session = s; ns = n; nr = r; frame = w; message = m })
     left-cases (Comes.clears s n r w m) =

@@ -14,7 +14,7 @@ use Rattle.antenna.specs.declared.Motion.the-variants.{Still, Moving, Owing, St
 use Rattle.antenna.specs.Motions.{unowedOf, moves}
 use Rattle.antenna.proofs.Movements.{idle}
 use Rattle.record.specs.declared.Device.{Device}
-use Rattle.record.specs.Changes.{deviceOf, emptiedAs, endedAs}
+use Rattle.record.specs.Changes.{deviceOf, emptiedAs, limitedTo}
 use Rattle.acknowledge.specs.Acknowledge.{acknowledged}
 use Rattle.message.specs.Messages.{askedOf}
 use Rattle.message.specs.Carried.{quieted}
@@ -42,13 +42,14 @@ unowed-apart (Stopped reached) e = still-apart e
 module _ (d : Device) (f : List ℕ) where
   pub motion-cases : (after d f .antenna .motion ≡ d .antenna .motion)
       ⊎ (TiltDue d f ⊎ (((reached : Bool) × Delivers d f reached) ⊎ Drops d f))
-  unfolding deviceOf acknowledged quieted
+  unfolding deviceOf limitedTo acknowledged quieted
   motion-cases =
       after-cases d f
       (λ (e : Device).
       (e .antenna .motion ≡ d .antenna .motion)
       ⊎ (TiltDue d f ⊎ (((reached : Bool) × Delivers d f reached) ⊎ Drops d f)))
-      (inl refl) (λ a w. inr (inr (inr (inr (inr (a, w)))))) (λ w l. inr (inr (inr w))) (λ o r s e w. inl refl)
+      (inl refl) (λ a w. inr (inr (inr (inr (inr (a, w)))))) (λ ps w m. inl refl) (λ w n l. inr (inr (inr w)))
+      (λ o r s e w. inl refl)
       (λ s n r w. inl refl) (λ w. inr (inl w)) (λ w. inl refl) (λ w. inl refl) (λ w b. inl refl)
       (λ b w. inr (inr (inl (b, w)))) (λ w. inl refl)
 
@@ -70,7 +71,7 @@ module _ (d : Device) (f : List ℕ) where
 
   pub motion-dropped : Drops d f → after d f .antenna .motion ≡ unowedOf (d .antenna .motion)
   unfolding emptiedAs moves
-  motion-dropped w = let (a, l, none, is) = drops-as d f w in ap (λ (e : Device). e .antenna .motion) is
+  motion-dropped w = let (a, n, l, none, is) = drops-as d f w in ap (λ (e : Device). e .antenna .motion) is
 
   module _ (t : Angle) where
     -- of all frames, only the one that asks t makes it owed

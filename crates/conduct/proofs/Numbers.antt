@@ -12,7 +12,7 @@ use Rattle.control.specs.declared.Order.the-variants.{Snrm, Info, Rr, Rnr}
 use Rattle.record.specs.declared.Session.{Session}
 use Rattle.record.specs.declared.Link.the-variants.{Connected}
 use Rattle.record.specs.declared.Device.{Device}
-use Rattle.record.specs.Changes.{unsaidAt, emptiedAs, endedAs}
+use Rattle.record.specs.Changes.{unsaidAt, deviceOf, emptiedAs, limitedTo}
 use Rattle.session.specs.Session.{acknowledges, accepts}
 use Rattle.acknowledge.specs.Acknowledge.{emptied, sessionAfter}
 use Rattle.station.specs.declared.Turn.{Turn}
@@ -99,10 +99,10 @@ module _ (d : Device) (f : List ℕ) (s t : Session) (here : d .station .link �
         (inr (numbers .0), s-told (Rnr r) r refl w (numbers .1))
 
     either-way : Either
-    unfolding saying released rejected emptiedAs unsaidAt
+    unfolding saying released rejected emptiedAs unsaidAt limitedTo deviceOf
     either-way =
         judged-cases d f Told (λ u. same-told) (λ w e. same-told) (λ a w e l. absurd (assigned-apart l))
-        (λ w e l. absurd (new w)) (λ o w n e. same-told) (λ k w e l. absurd (new w))
+        (λ n a w e. same-told) (λ w e l. absurd (new w)) (λ o w n e. same-told) (λ k w e l. absurd (new w))
         (λ k w e l. absurd (assigned-apart l)) (λ k o r w e n b l. absurd (assigned-apart l))
         (λ k w e l. absurd (assigned-apart l)) (λ k n r w l. info-told n r (at w)) (λ k r w l. rr-told r (at w))
         (λ k r w l. rnr-told r (at w)) there

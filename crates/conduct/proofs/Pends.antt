@@ -20,7 +20,7 @@ use Rattle.record.specs.declared.Pending.the-variants.{Answer, Indication}
 use Rattle.record.specs.declared.Session.{Session}
 use Rattle.record.specs.declared.Device.{Device}
 use Rattle.record.specs.Desk.{calm, noReply}
-use Rattle.record.specs.Changes.{unsaidAt, deviceOf}
+use Rattle.record.specs.Changes.{unsaidAt, deviceOf, limitedTo}
 use Rattle.session.specs.Session.{pends, acknowledges, taken}
 use Rattle.payload.specs.Payloads.{payloadOf, resultOf}
 use Rattle.message.specs.declared.Reply.{Reply}
@@ -173,10 +173,14 @@ module _ (d : Device) (f : List ℕ) where
           rw (session-kept (d .station) s r same, station-kept (d .station) s r same)
           (ap pendingIn (sym (w .numbered .link)), refl, refl)
 
+      limited-kept : (n : ℕ) → Kept (limitedTo d n)
+      unfolding limitedTo deviceOf
+      limited-kept n = (refl, refl, refl)
+
       pub pending-kept : Kept (after d f)
       pending-kept =
           after-cases d f Kept (refl, refl, refl) (λ a w. absurd (undropped (inr (inr (a, w)))))
-          (λ w l. absurd (undropped w))
+          (λ ps w m. limited-kept _) (λ w n l. absurd (undropped w))
           (λ o r s e w. rw (device-kept d s r (behind o r s e w)) (refl, refl, refl))
           (λ s n r w. heard-kept s n r w _ _ _)
           (λ w. heard-kept (w .session) (w .ns) (w .nr) (w .frame) _ _ _)

@@ -16,7 +16,7 @@ use Rattle.record.specs.declared.Pending.the-variants.{Answer}
 use Rattle.record.specs.declared.Session.{Session}
 use Rattle.record.specs.declared.Link.the-variants.{Connected}
 use Rattle.record.specs.declared.Device.{Device}
-use Rattle.record.specs.Changes.{deviceOf}
+use Rattle.record.specs.Changes.{deviceOf, limitedTo}
 use Rattle.session.specs.Session.{pends}
 use Rattle.station.specs.Station.{awaiting, answersWith}
 use Rattle.station.specs.declared.Turn.{Turn}
@@ -29,8 +29,8 @@ use Rattle.link.specs.Frames.{Numbered}
 use Rattle.conduct.specs.Conduct.{after}
 use Rattle.conduct.specs.Endings.{Ends, Drops, Collects}
 use Rattle.conduct.specs.Endings as end
-use Rattle.conduct.specs.Comes.{Comes, unread, scans, assigns, begins, declines, renews, leaves, miscounts}
-use Rattle.conduct.specs.Comes.{unknown, starts, clears, subscribes, answers, murmurs, repeats, resends}
+use Rattle.conduct.specs.Comes.{Comes, unread, scans, assigns, negotiates, begins, declines, renews, leaves}
+use Rattle.conduct.specs.Comes.{miscounts, unknown, starts, clears, subscribes, answers, murmurs, repeats, resends}
 use Rattle.conduct.specs.Comes.{delivers, indicates, rests, pauses, left, says}
 use Rattle.conduct.proofs.Comes.{comes, comes-so, comes-leaves}
 use Rattle.conduct.proofs.Ends.{drops-drop}
@@ -95,10 +95,11 @@ module _ (d : Device) (f : List ℕ) (reached : Bool) (waits : waitingOf (d .ant
   ends e = inr (inr (inl e))
 
   kept-by : Comes d f → Kept
-  unfolding left deviceOf acknowledged quieted
+  unfolding left deviceOf limitedTo acknowledged quieted
   kept-by (unread w) = stands (unread w) refl
   kept-by (scans w a) = stands (scans w a) refl
   kept-by (assigns a w) = inr (inr (inr (inr (a, w))))
+  kept-by (negotiates ps w m) = stands (negotiates ps w m) refl
   kept-by (begins w l) = inr (inr (inr (inl (record { own = w; link = l }))))
   kept-by (declines o w n l) = stands (declines o w n l) refl
   kept-by (renews s w l) = ends (end.renews s w l)

@@ -1,7 +1,7 @@
 -- What a device says of a frame is what specs/Spelt has, octet by octet, whatever the record. Assumes nothing.
 use mathlib.Core.Path.{_≡_, refl, sym, ap, ap₂, _∙_}
 use mathlib.Core.Bool.{Bool, true, false, cond, _||_}
-use mathlib.Core.List.{List, [], _∷_, _++_}
+use mathlib.Core.List.{List, [], _∷_, _++_, append-nil}
 use mathlib.Core.Logic.{_⊎_, inl, inr, ⊎-elim}
 use mathlib.Core.Option.{some}
 use Prim.Native.Nat.{ℕ, _+_, _*_, _%_}
@@ -21,16 +21,21 @@ use Rattle.record.specs.declared.Link.the-variants.{Connected}
 use Rattle.record.specs.declared.Desk.{Desk}
 use Rattle.record.specs.declared.Station.{Station}
 use Rattle.record.specs.declared.Device.{Device}
-use Rattle.record.specs.Allowed.{identityOf}
-use Rattle.record.specs.Changes.{unsaidAt, deviceOf, emptiedAs, endedAs}
+use Rattle.record.specs.Allowed.{identityOf, limitOf}
+use Rattle.record.specs.Changes.{unsaidAt, deviceOf, emptiedAs, limitedTo}
 use Rattle.session.specs.Session.{pends, acknowledges, goodNumber, taken, vsOf, countsOf}
 use Rattle.session.proofs.Numbers.{acknowledges-exactly}
 use Rattle.payload.specs.Payloads.{payloadOf, messageOf, resultOf}
 use Rattle.payload.proofs.Laws.{payload-says, success-is, result-reached, result-missed}
-use Rattle.params.specs.Field.{tripleOf, fieldOf, xidPayload}
+use Rattle.params.specs.Field.{Param, tripleOf, fieldOf, xidPayload}
+use Rattle.negotiation.specs.Negotiation.{agreedLimit, askedIn}
 use Rattle.report.specs.Reports.{indicationOf}
 use Rattle.xid_answer.specs.Answer.{scanParams, assignmentParams, scanAnswer, assignmentAnswer}
+use Rattle.xid_answer.specs.Answer.{lengthValue, negotiationParams, negotiationAnswer}
+use Rattle.xid_answer.proofs.Stored.{negotiation-field}
 use Rattle.xid_answer.proofs.Lengths.{scan-field, assignment-field}
+use Rattle.control.specs.declared.Asked.{Asked}
+use Rattle.station.specs.declared.Say.{Say}
 use Rattle.station.specs.declared.Turn.{Turn}
 use Rattle.station.specs.Station.{resent, awaiting, answersWith}
 use Rattle.station.specs.Turns.{saying, pend, ready}
@@ -42,11 +47,11 @@ use Rattle.states.specs.States.{begun, renewed, released}
 use Rattle.speech.specs.Speech.{pendingOctets, linkOctets, controlBy, payloadBy, frameBy}
 use Rattle.link.specs.Link.{judgedFrame}
 use Rattle.link.specs.Frames.{controlOf}
-use Rattle.conduct.specs.Comes.{Comes, unread, scans, assigns, begins, declines, renews, leaves, miscounts}
-use Rattle.conduct.specs.Comes.{unknown, starts, clears, subscribes, answers, murmurs, repeats, resends}
+use Rattle.conduct.specs.Comes.{Comes, unread, scans, assigns, negotiates, begins, declines, renews, leaves}
+use Rattle.conduct.specs.Comes.{miscounts, unknown, starts, clears, subscribes, answers, murmurs, repeats, resends}
 use Rattle.conduct.specs.Comes.{delivers, indicates, rests, pauses, unansweredAs, answeredAs, left, says}
 use Rattle.conduct.specs.Spelt.{rr, info, kept, indication, pendingSaid, again, sentNumber, frmr, resultSaid}
-use Rattle.conduct.specs.Spelt.{scanSaid, assignmentSaid, octetsSaid}
+use Rattle.conduct.specs.Spelt.{scanSaid, assignmentSaid, ifGiven, agreedSaid, negotiationSaid, octetsSaid}
 use Rattle.conduct.proofs.Settles.{r-kept}
 use Rattle.conduct.proofs.Comes.{comes-so}
 
@@ -184,6 +189,14 @@ assignment-is a i =
     (λ (k : ℕ). a ∷ 0xBF ∷ 0x81 ∷ 0xF0 ∷ k ∷ 1 ∷ length i ∷ (i ++ (4 ∷ 1 ∷ 0x01 ∷ [])))
     (assignment-field i)
 
+field-is : (ps : List Param) (N : ℕ) → fieldOf (negotiationParams (askedIn ps) N) ≡ agreedSaid ps N
+unfolding askedIn agreedSaid ifGiven lengthValue tripleOf
+field-is ps N = rw (negotiation-field (askedIn ps) N, append-nil (ifGiven 8 ps (8 ∷ 1 ∷ 1 ∷ [])))
+
+negotiation-is : (a : ℕ) (ps : List Param) (N : ℕ) → a ∷ 0xBF ∷ negotiationAnswer (askedIn ps) N ≡ negotiationSaid a ps N
+unfolding negotiationAnswer xidPayload negotiationSaid
+negotiation-is a ps N = ap (λ (t : List ℕ). a ∷ 0xBF ∷ 0x81 ∷ 0x80 ∷ length t ∷ t) (field-is ps N)
+
 result-is : (reached : Bool) → resultOf reached ≡ resultSaid reached
 unfolding resultSaid
 result-is true = result-reached
@@ -311,12 +324,20 @@ module _ (d : Device) (f : List ℕ) where
   unfolding frmr
   rejects s why = ap (λ (k : ℕ). some (d .station .desk .address ∷ 0x97 ∷ controlOf f ∷ k ∷ why ∷ [])) (counts-are s)
 
+  limited-says : (n : ℕ) (a : Asked) → frameBy (limitedTo d n) (Say.Negotiated a)
+      ≡ some (d .station .desk .address ∷ 0xBF ∷ negotiationAnswer a n)
+  unfolding frameBy controlBy payloadBy limitedTo deviceOf
+  limited-says n a = refl
+
   -- what a device says of a frame, of each case, octet by octet
   pub says-octets : (c : Comes d f) → frameBy (left d f c) (says d f c) ≡ octetsSaid d f c
   unfolding left says octetsSaid frameBy controlBy payloadBy begun renewed released emptiedAs unsaidAt frmr acknowledged
   says-octets (unread w) = refl
   says-octets (scans w a) = ap some (scan-is (d .station .desk .address) (identityOf (d .plate)))
   says-octets (assigns a w) = ap some (assignment-is a (identityOf (d .plate)))
+  says-octets (negotiates ps w m) =
+      limited-says (agreedLimit (limitOf d) ps) (askedIn ps)
+      ∙ ap some (negotiation-is (d .station .desk .address) ps (agreedLimit (limitOf d) ps))
   says-octets (begins w l) = refl
   says-octets (declines o w n l) = refl
   says-octets (renews s w l) = refl

@@ -12,6 +12,7 @@ use Rattle.control.specs.declared.Order.the-variants.{Info, Rr, Rnr}
 use Rattle.record.specs.declared.Session.{Session}
 use Rattle.record.specs.declared.Link.the-variants.{Connected}
 use Rattle.record.specs.declared.Device.{Device}
+use Rattle.record.specs.Allowed.{limitOf}
 use Rattle.session.specs.Session.{acknowledges, goodNumber, accepts, taken}
 use Rattle.session.proofs.Numbers.{acknowledges-exactly}
 use Rattle.station.specs.Station.{answersWith, awaiting}
@@ -26,7 +27,7 @@ use Rattle.inform.specs.Inform.{repliedBy}
 use Rattle.states.specs.States.{informedBy, polledBy, pausedBy}
 use Rattle.link.specs.Link.{judgedFrame}
 use Rattle.link.specs.Frames.{Numbered}
-use Rattle.conduct.proofs.Settles.{relieved-link, address-kept, r-kept, info-is, rr-is, rnr-is}
+use Rattle.conduct.proofs.Settles.{relieved-link, address-kept, limit-kept, r-kept, info-is, rr-is, rnr-is}
 use Rattle.conduct.proofs.Turns.{poll-cases, inform-cases}
 
 -- S after a good N(R) is N(R)
@@ -80,13 +81,16 @@ module _ (d : Device) (s : Session) (r : ℕ) (l : d .station .link ≡ Connecte
         (λ a e. record { session = _; link = refl; due = rw (a, r-kept s r); number = refl })
         (λ a. rw a (kept-counted _ refl))
 
-    -- an I-frame leaves the address
-    pub inform-address : informedBy d s n r m .device .station .desk .address ≡ d .station .desk .address
+    -- an I-frame leaves the address and the frame limit
+    pub inform-keeps : (informedBy d s n r m .device .station .desk .address ≡ d .station .desk .address)
+        × (limitOf (informedBy d s n r m .device) ≡ limitOf d)
     unfolding informedBy saying repliedBy deviceOf heeded answersWith
-    inform-address =
-        let kept = address-kept d s r in
+    inform-keeps =
+        let kept : (acknowledged d s r .station .desk .address ≡ d .station .desk .address)
+        × (limitOf (acknowledged d s r) ≡ limitOf d) = (address-kept d s r, limit-kept d s r) in
         inform-cases (acknowledged d s r) (sessionAfter s r)
-        (λ (t : Turn). t .device .station .desk .address ≡ d .station .desk .address) n m (λ a e. kept) (λ a e. kept) (λ a. kept)
+        (λ (t : Turn). (t .device .station .desk .address ≡ d .station .desk .address) × (limitOf (t .device) ≡ limitOf d)) n m
+        (λ a e. kept) (λ a e. kept) (λ a. kept)
 
 -- the session after a frame that is read in the session s with a good N(R)
 module _ (d : Device) (f : List ℕ) (s : Session) where

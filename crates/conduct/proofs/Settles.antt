@@ -15,12 +15,13 @@ use Rattle.record.specs.declared.Pending.the-variants.{Nothing, Answer, Indicat
 use Rattle.record.specs.declared.Session.{Session}
 use Rattle.record.specs.declared.Link.{Link}
 use Rattle.record.specs.declared.Link.the-variants.{AddressAssigned, Connected}
+use Rattle.record.specs.declared.Station.{Station}
 use Rattle.record.specs.declared.Device.{Device}
-use Rattle.record.specs.Changes.{unsaidAt}
+use Rattle.record.specs.Allowed.{limitOf}
+use Rattle.record.specs.Changes.{unsaidAt, deviceOf}
 use Rattle.session.specs.Session.{pends, acknowledges, taken}
 use Rattle.acknowledge.specs.Acknowledge.{emptied, relieved, sessionAfter, stationAfter}
 use Rattle.acknowledge.specs.Acknowledge.{acknowledged}
-use Rattle.record.specs.Changes.{deviceOf}
 use Rattle.message.specs.Carried.{carriedOf}
 use Rattle.inform.specs.Inform.{carriedHere, carriedBy, informOf}
 use Rattle.states.specs.States.{informedBy, polledBy, pausedBy}
@@ -49,21 +50,27 @@ nothing-pends Answer e = absurd (true-not-false e)
 nothing-pends Indication e = absurd (true-not-false e)
 
 module _ (d : Device) (s : Session) (r : ℕ) where
-  pub address-kept : acknowledged d s r .station .desk .address ≡ d .station .desk .address
-  unfolding acknowledged deviceOf stationAfter relieved unsaidAt
-  address-kept = go (acknowledges s r)
+  -- what an acknowledged answer does not touch
+  part-kept : {A : Type 0} (part : Station → A) → part (relieved (d .station) s) ≡ part (d .station)
+      → part (acknowledged d s r .station) ≡ part (d .station)
+  unfolding acknowledged deviceOf stationAfter
+  part-kept part e = go (acknowledges s r)
     where
-      go : (b : Bool) → (cond b (relieved (d .station) s) (d .station)) .desk .address ≡ d .station .desk .address
-      go true = refl
+      go : (b : Bool) → part (cond b (relieved (d .station) s) (d .station)) ≡ part (d .station)
+      go true = e
       go false = refl
 
+  pub address-kept : acknowledged d s r .station .desk .address ≡ d .station .desk .address
+  unfolding relieved
+  address-kept = part-kept (λ (t : Station). t .desk .address) refl
+
+  pub limit-kept : limitOf (acknowledged d s r) ≡ limitOf d
+  unfolding relieved
+  limit-kept = part-kept (λ (t : Station). t .desk .limit) refl
+
   pub subscribed-kept : acknowledged d s r .station .desk .subscribed ≡ d .station .desk .subscribed
-  unfolding acknowledged deviceOf stationAfter relieved unsaidAt
-  subscribed-kept = go (acknowledges s r)
-    where
-      go : (b : Bool) → (cond b (relieved (d .station) s) (d .station)) .desk .subscribed ≡ d .station .desk .subscribed
-      go true = refl
-      go false = refl
+  unfolding relieved
+  subscribed-kept = part-kept (λ (t : Station). t .desk .subscribed) refl
 
   -- the device is in the session after it
   pub relieved-link : d .station .link ≡ Connected s → acknowledged d s r .station .link ≡ Connected (sessionAfter s r)

@@ -1,7 +1,7 @@
 -- An allowed record stays allowed under every frame: the device never makes a record that it would refuse.
 -- Assumes nothing.
-use mathlib.Core.Path.{_≡_, refl, ap}
-use mathlib.Core.Bool.{Bool, true, false}
+use mathlib.Core.Path.{_≡_, refl, ap, _∙_}
+use mathlib.Core.Bool.{Bool, true, false, _&&_}
 use mathlib.Core.List.{List}
 use Prim.Native.Nat.{ℕ}
 use native.Mathlib.Omega.{arith}
@@ -11,14 +11,23 @@ use lib.ListN.{drop}
 use Rattle.octets.proofs.Words.{and-parts}
 use Rattle.antenna.specs.declared.Motion.the-variants.{Still}
 use Rattle.antenna.specs.Motions.{inRange, moves}
-use Rattle.record.specs.declared.Pending.the-variants.{Answer, Indication}
+use Rattle.limits.specs.Limits.{isLimit}
+use Rattle.record.specs.declared.Pending.{Pending}
+use Rattle.record.specs.declared.Pending.the-variants.{Nothing, Answer, Indication}
 use Rattle.record.specs.declared.Session.{Session}
-use Rattle.record.specs.declared.Link.the-variants.{AddressAssigned, Connected}
+use Rattle.record.specs.declared.Link.{Link}
+use Rattle.record.specs.declared.Link.the-variants.{NoAddress, AddressAssigned, Connected}
+use Rattle.record.specs.declared.Desk.{Desk}
 use Rattle.record.specs.declared.Device.{Device}
-use Rattle.record.specs.Allowed.{identityOf, numbersAllowed, pendingFits, sessionAllowed, addressed, linkAllowed}
-use Rattle.record.specs.Allowed.{stationAllowed, allowedDevice, replyMost}
-use Rattle.record.specs.Changes.{unsaidAt, emptiedAs, endedAs}
-use Rattle.record.proofs.Stays.{sound, end-stays}
+use Rattle.record.specs.Allowed.{identityOf, limitOf, numbersAllowed, pendingFits, sessionAllowed, addressed}
+use Rattle.record.specs.Allowed.{linkAllowed, allowedDevice, replyMost}
+use Rattle.record.specs.Desk.{withLimit}
+use Rattle.record.specs.Changes.{unsaidAt, emptiedAs, endedAs, limitedTo}
+use Rattle.record.proofs.Stays.{sound, allowed-by, limit-allowed, emptied-stays, end-stays}
+use Rattle.control.specs.declared.Asked.{Asked}
+use Rattle.negotiation.specs.declared.Offer.the-variants.{Agreed}
+use Rattle.negotiation.specs.Negotiation.{offerOf}
+use Rattle.negotiation.proofs.Exactly.{offer-exactly, agreed-least}
 use Rattle.session.specs.Session.{taken}
 use Rattle.session.proofs.Numbers.{accepts-exactly}
 use Rattle.station.specs.Station.{answersWith, awaiting}
@@ -38,7 +47,7 @@ use Rattle.poll.specs.Poll.{pollOf}
 use Rattle.inform.specs.Inform.{informOf, repliedBy}
 use Rattle.states.specs.States.{informedBy, polledBy, pausedBy}
 use Rattle.states.specs.States.{begun, renewed, released, rejected}
-use Rattle.link.specs.Frames.{hasAddress}
+use Rattle.link.specs.Link.{hasAddress}
 use Rattle.link.proofs.Cases.{judged-cases}
 use Rattle.conduct.specs.Conduct.{after}
 use Rattle.conduct.proofs.Settles.{nothing-pends}
@@ -65,16 +74,48 @@ module _ (d : Device) (allowed : allowedDevice d ≡ true) where
 
   module _ (has : hasAddress (d .station .link) ≡ true) where
     own-address : addressed (d .station .desk .address) ≡ true
-    unfolding stationAllowed
     own-address = link-addressed (d .station .desk) (d .station .link) (sound d allowed .link) has
 
     begun-stays : allowedDevice (begun d) ≡ true
     unfolding begun linkAllowed unsaidAt sessionAllowed numbersAllowed pendingFits
-    begun-stays = end-stays d (d .station .desk .address) _ allowed (rw own-address)
+    begun-stays =
+        emptied-stays d (d .station .desk .address) (limitOf d) _ allowed (limit-allowed d allowed) (rw own-address)
 
     released-stays : allowedDevice (released d) ≡ true
     unfolding released
     released-stays = assigned-stays (d .station .desk .address) own-address
+
+-- ---- another frame limit
+
+desk-limited : (k : Desk) (n : ℕ) (l : Link) → linkAllowed (withLimit k n) l ≡ linkAllowed k l
+unfolding linkAllowed sessionAllowed pendingFits
+desk-limited k n NoAddress = refl
+desk-limited k n AddressAssigned = refl
+desk-limited k n (Connected s) = ap (λ (b : Bool). addressed (k .address) && (numbersAllowed s && b)) (fits (s .pending))
+  where
+    fits : (p : Pending) → pendingFits (withLimit k n) p ≡ pendingFits k p
+    fits Nothing = refl
+    fits Answer = refl
+    fits Indication = refl
+
+limited-stays : (d : Device) (n : ℕ) → allowedDevice d ≡ true → isLimit n ≡ true → allowedDevice (limitedTo d n) ≡ true
+unfolding limitedTo deviceOf
+limited-stays d n allowed ok =
+    let w = sound d allowed in
+    allowed-by (limitedTo d n)
+    (record {
+      plate = w .plate;
+      range = w .range;
+      limit = ok;
+      link = desk-limited (d .station .desk) n (d .station .link) ∙ w .link;
+      owed = w .owed;
+    })
+
+agreed-stays : (d : Device) (m : List ℕ) (n : ℕ) (a : Asked) → allowedDevice d ≡ true
+    → offerOf (limitOf d) m ≡ Agreed n a → allowedDevice (limitedTo d n) ≡ true
+agreed-stays d m n a allowed e =
+    let (ps, formed, is, asked, one) = offer-exactly (limitOf d) m n a .0 e in
+    limited-stays d n allowed (ap isLimit is ∙ agreed-least (limitOf d) ps (limit-allowed d allowed))
 
 -- the end of one session, and the beginning of the next
 renewed-stays : (d : Device) → allowedDevice d ≡ true → hasAddress (d .station .link) ≡ true
@@ -100,6 +141,7 @@ module _ (d : Device) (s : Session) (w : Within d s) where
         plate = w .plate;
         range = w .range;
         address = w .address;
+        limit = w .limit;
         link = refl;
         numbers = w .numbers;
         fits = result-fits b;
@@ -114,6 +156,7 @@ module _ (d : Device) (s : Session) (w : Within d s) where
         plate = w .plate;
         range = w .range;
         address = w .address;
+        limit = w .limit;
         link = refl;
         numbers = w .numbers;
         fits = and-parts (d .station .desk .subscribed) _ e .1;
@@ -130,9 +173,9 @@ module _ (d : Device) (s : Session) (w : Within d s) where
   inform-stays n m =
       let allowed = allowed-within d s w in
       inform-cases d s Good n m
-      (λ a e. none-stays d s (taken s) _ m allowed (w .link) refl refl (taken-numbers s (w .numbers))
+      (λ a e. none-stays d s (taken s) _ m allowed (w .link) refl refl refl (taken-numbers s (w .numbers))
       (nothing-pends (s .pending) (accepts-exactly s n .0 a .0)))
-      (λ a e. answer-stays d s (awaiting (taken s) Answer) _ m allowed (w .link) refl refl
+      (λ a e. answer-stays d s (awaiting (taken s) Answer) _ m allowed (w .link) refl refl refl
       (taken-numbers s (w .numbers)) refl refl)
       (λ e. allowed)
 
@@ -143,6 +186,7 @@ unfolding saying rejected informedBy polledBy pausedBy
 stays-allowed d f allowed =
     judged-cases d f Good (λ u. allowed) (λ w e. allowed)
     (λ a w e. assigned-stays d allowed a (assignment-addressed (identityOf (d .plate)) (drop 2 f) a e))
+    (λ n a w e. agreed-stays d (drop 2 f) n a allowed e)
     (λ w l. begun-stays d allowed (ap hasAddress l))
     (λ o w n l. allowed)
     (λ s w l. renewed-stays d allowed (ap hasAddress l))

@@ -16,14 +16,13 @@ use Rattle.record.specs.declared.Session.{Session}
 use Rattle.record.specs.declared.Station.{Station}
 use Rattle.record.specs.declared.Device.{Device}
 use Rattle.record.specs.Desk.{calm}
-use Rattle.record.specs.Changes.{unsaidAt, emptiedAs, endedAs}
+use Rattle.record.specs.Changes.{unsaidAt, deviceOf, emptiedAs, limitedTo}
 use Rattle.session.specs.Session.{acknowledges, accepts}
 use Rattle.acknowledge.specs.Acknowledge.{sessionAfter, stationAfter, relieved, toldAfter}
 use Rattle.acknowledge.proofs.Settled.{station-kept, told-said}
 use Rattle.station.specs.declared.Turn.{Turn}
 use Rattle.station.specs.Station.{answersWith}
 use Rattle.station.specs.Turns.{saying}
-use Rattle.record.specs.Changes.{deviceOf}
 use Rattle.acknowledge.specs.Acknowledge.{acknowledged}
 use Rattle.message.specs.Carried.{quieted}
 use Rattle.message.proofs.Moves.{cleared-or-not}
@@ -151,10 +150,10 @@ module _ (d : Device) (f : List ℕ) where
       ⊎ ((after d f .antenna .drive .raised ≡ d .antenna .drive .raised)
       × ((after d f .station .desk .told ≡ d .station .desk .told)
       ⊎ (Indicated d f × (after d f .station .desk .told ≡ d .station .desk .said))))
-  unfolding saying emptiedAs unsaidAt moves begun released rejected
+  unfolding saying emptiedAs unsaidAt moves begun released rejected limitedTo deviceOf
   alarms-cases =
       judged-cases d f (λ t. judgedFrame d f ≡ t → Changed) (λ u. stay _ refl refl) (λ w x. stay _ refl refl)
-      (λ a w x. stay _ refl refl) (λ w l. stay _ refl refl) (λ o w n l. stay _ refl refl)
+      (λ a w x. stay _ refl refl) (λ n a w x. stay _ refl refl) (λ w l. stay _ refl refl) (λ o w n l. stay _ refl refl)
       (λ s w l. rw (renewed-ends d) (stay _ refl refl)) (λ s w l. stay _ refl refl) (λ s o r w l n b. stay _ refl refl)
       (λ s w l. stay _ refl refl) (λ s n r w e. numbered-changes (Info n r) r s refl w)
       (λ s r w e. numbered-changes (Rr r) r s refl w) (λ s r w e. numbered-changes (Rnr r) r s refl w) refl

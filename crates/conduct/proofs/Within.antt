@@ -10,47 +10,51 @@ use Rattle.antenna.specs.Motions.{inRange}
 use Rattle.record.specs.declared.Session.{Session}
 use Rattle.record.specs.declared.Link.the-variants.{Connected}
 use Rattle.record.specs.declared.Device.{Device}
-use Rattle.record.specs.Allowed.{platesAllowed, numbersAllowed, pendingFits, sessionAllowed, addressed, linkAllowed}
-use Rattle.record.specs.Allowed.{stationAllowed, owedAllowed, allowedDevice}
+use Rattle.limits.specs.Limits.{isLimit}
+use Rattle.record.specs.Allowed.{limitOf, platesAllowed, numbersAllowed, pendingFits, sessionAllowed, addressed}
+use Rattle.record.specs.Allowed.{linkAllowed, owedAllowed, allowedDevice}
 use Rattle.record.proofs.Stays.{sound, allowed-by}
 use Rattle.session.specs.Session.{acknowledges, taken}
 use Rattle.acknowledge.specs.Acknowledge.{emptied, relieved, sessionAfter, stationAfter}
 use Rattle.acknowledge.specs.Acknowledge.{acknowledged}
 use Rattle.record.specs.Changes.{deviceOf}
-use Rattle.conduct.proofs.Settles.{address-kept, relieved-link}
+use Rattle.conduct.proofs.Settles.{address-kept, limit-kept, relieved-link}
 
 pub record Within (d : Device) (s : Session) : Type 0 where
   pub plate : platesAllowed (d .plate) ≡ true
   pub range : inRange (d .antenna) (d .antenna .drive .tilt) ≡ true
   pub address : addressed (d .station .desk .address) ≡ true
+  pub limit : isLimit (limitOf d) ≡ true
   pub link : d .station .link ≡ Connected s
   pub numbers : numbersAllowed s ≡ true
   pub fits : pendingFits (d .station .desk) (s .pending) ≡ true
 
 pub within : (d : Device) (s : Session) → allowedDevice d ≡ true → d .station .link ≡ Connected s → Within d s
-unfolding stationAllowed linkAllowed sessionAllowed
+unfolding linkAllowed sessionAllowed
 within d s e l =
     let w = sound d e in
     let here = and-parts (addressed (d .station .desk .address)) (sessionAllowed (d .station .desk) s)
-    (sym (ap (linkAllowed (d .station .desk)) l) ∙ w .station) in
+    (sym (ap (linkAllowed (d .station .desk)) l) ∙ w .link) in
     let session = and-parts (numbersAllowed s) (pendingFits (d .station .desk) (s .pending)) (here .1) in
     record {
       plate = w .plate;
       range = w .range;
       address = here .0;
+      limit = w .limit;
       link = l;
       numbers = session .0;
       fits = session .1;
     }
 
 pub allowed-within : (d : Device) (s : Session) → Within d s → allowedDevice d ≡ true
-unfolding stationAllowed linkAllowed sessionAllowed owedAllowed
+unfolding linkAllowed sessionAllowed owedAllowed
 allowed-within d s w =
     allowed-by d
     (record {
       plate = w .plate;
       range = w .range;
-      station = ap (linkAllowed (d .station .desk)) (w .link) ∙ rw (w .address, w .numbers, w .fits);
+      limit = w .limit;
+      link = ap (linkAllowed (d .station .desk)) (w .link) ∙ rw (w .address, w .numbers, w .fits);
       owed = rw (w .link);
     })
 
@@ -75,6 +79,7 @@ relieved-within d s r w =
       plate = w .plate;
       range = w .range;
       address = ap addressed (address-kept d s r) ∙ w .address;
+      limit = ap isLimit (limit-kept d s r) ∙ w .limit;
       link = relieved-link d s r (w .link);
       numbers = numbers (acknowledges s r);
       fits = fits (acknowledges s r);

@@ -44,7 +44,7 @@ use Rattle.xid.specs.declared.Xid.the-variants as xid
 use Rattle.xid.proofs.Exactly.{scan-exactly, assignment-exactly}
 use Rattle.station.specs.Turns.{saying}
 use Rattle.states.specs.States.{onSnrm, newSession}
-use Rattle.link.specs.Frames.{controlOf, hasAddress, Numbered}
+use Rattle.link.specs.Frames.{controlOf, Numbered}
 use Rattle.conduct.specs.Conduct.{after, starts, TiltDue, TiltStarted, occurAll, Meeting, run}
 use Rattle.conduct.specs.Comes.{Comes, left, says}
 use Rattle.conduct.specs.Spelt.{octetsSaid}
@@ -56,7 +56,7 @@ use Rattle.conduct.proofs.Account.{account}
 use Rattle.station.specs.declared.Say.{Say}
 use Rattle.antenna.specs.declared.Angle.{Angle}
 use Rattle.antenna.specs.declared.Motion.the-variants.{Owing}
-use Rattle.link.specs.Link.{judgedFrame}
+use Rattle.link.specs.Link.{hasAddress, judgedFrame}
 use Rattle.conduct.proofs.Settles.{r-kept}
 use Rattle.conduct.proofs.Runs.{run-allowed}
 use Rattle.conduct.proofs.Due.{starts-exactly, due-moves-on}

@@ -83,7 +83,7 @@ module _ (i o : List ℕ) {o₁ o₂ o₃ : List ℕ} {a : ℕ} where
 
 -- ---- the answer to a negotiation, whose triples are there where they were asked
 
-abbrev asking : Bool → ℕ → List ℕ → List ℕ
+abbrev pub asking : Bool → ℕ → List ℕ → List ℕ
 asking asked n v = cond asked (tripleOf (n is v)) []
 
 -- the triple, or nothing; and where the place behind it is at most
@@ -118,7 +118,7 @@ field-asked true n v ps = refl
 field-asked false n v ps = refl
 
 module _ (a : Asked) (N : ℕ) where
-  negotiation-field : fieldOf (negotiationParams a N)
+  pub negotiation-field : fieldOf (negotiationParams a N)
       ≡ asking (a .sent) sentId (lengthValue N) ++ (asking (a .received) receivedId (lengthValue N)
       ++ (asking (a .sending) sendingId windowValue ++ (asking (a .receiving) receivingId windowValue ++ [])))
   unfolding negotiationParams fieldOf
