@@ -4,7 +4,7 @@
 use mathlib.Core.Path.{_≡_, refl, sym, ap, _∙_}
 use mathlib.Core.Bool.{true, false, not}
 use mathlib.Core.List.{List, [], _∷_}
-use mathlib.Core.Logic.{_↔_, Iff·trans, _⊎_, inl, inr, ⊎-elim}
+use mathlib.Core.Logic.{_↔_, Iff·trans, _⊎_, inl, inr, ⊎-map, ⊎-elim}
 use mathlib.Core.Option.{Option, none, some}
 use Prim.Native.Nat.{ℕ, _<_, _≤_}
 use borrow.Author.Tests.{ltb-true, ltb-false, lt-ltb, le-ltb, not-true, not-false}
@@ -15,20 +15,20 @@ use Rattle.refusal.specs.Numbers.{numberOf}
 use Rattle.refusal.specs.declared.Refusal.{Refusal}
 use Rattle.refusal.proofs.Exactly.{TestsFor, exactly-tests, exactly-given, answered-all}
 use Rattle.refusal.proofs.Answers.{gives-not-refuses, refuses-same, gives-same}
-use Rattle.limits.specs.Limits.{frameLimit, frameMost}
+use Rattle.limits.specs.Limits.{limitMost, isLimit, frameMost}
 use Rattle.frame.specs.Line.{broken, plain}
 use Rattle.frame.specs.Decode.{body, rightCheck}
-use Rattle.frame.proofs.Exact.{Sized, decode-4, decode-1, decode-2, decode-3}
+use Rattle.frame.proofs.Exact.{Sized, decode-6, decode-4, decode-1, decode-2, decode-3}
 use Rattle.record.specs.declared.Device.{Device}
-use Rattle.record.specs.Allowed.{allowedDevice}
+use Rattle.record.specs.Allowed.{limitOf, allowedDevice}
 use Rattle.link.specs.Link.{judgedFrame}
 use Rattle.device.specs.declared.Said.the-variants.{Silence, Frame, Refused}
 use Rattle.device.specs.declared.Judged.{Judged}
 use Rattle.device.specs.Judge.{Reaction, reactionOf, judgeRows, judged, heard, saidOf, sizeOf, toldOf}
 use Rattle.device.specs.Judge.{deviceAfter, frameAt, bufferAfter, Judges}
 use Rattle.device.proofs.Only.{none-not-some, some-same}
-use Rattle.device.proofs.Hearing.{Readable, hear-own-room, never-6, holds-four, holds-six, heard-at-once}
-use Rattle.device.proofs.Hearing.{heard-readable, heard-cases, by-decoder, by-judge}
+use Rattle.device.proofs.Hearing.{Readable, hear-own-room, holds-six, heard-at-once, heard-readable}
+use Rattle.device.proofs.Hearing.{heard-cases, by-decoder, by-either}
 
 -- ---- a decoded frame
 
@@ -42,8 +42,8 @@ module _ (d : Device) (f : List ℕ) (room : ℕ) where
   unfolding TestsFor numbersOf holds judgeRows
   judge-6 = (λ e. not-true _ (by-rows 6 .0 e), λ w. by-rows 6 .1 (ap not w))
 
-  -- 5: "an answer buffer shorter than 76", and not 6
-  pub judge-5 : judged d f room ≡ refuses 5 ↔ (allowedDevice d ≡ true) × (room < frameMost frameLimit)
+  -- 5: "an answer buffer shorter than 76", and N - 2 for 76, and not 6
+  pub judge-5 : judged d f room ≡ refuses 5 ↔ (allowedDevice d ≡ true) × (room < frameMost (limitOf d))
   unfolding TestsFor numbersOf holds judgeRows
   judge-5 = (
     λ e. let g = by-rows 5 .0 e in (not-false _ (g .0), ltb-true _ _ (g .1)),
@@ -52,7 +52,7 @@ module _ (d : Device) (f : List ℕ) (room : ℕ) where
 
   -- an answer: neither; and it is what comes of the frame
   pub judge-answer : (x : Reaction) → judged d f room ≡ gives x
-      ↔ (allowedDevice d ≡ true) × (frameMost frameLimit ≤ room) × (reactionOf (judgedFrame d f) ≡ x)
+      ↔ (allowedDevice d ≡ true) × (frameMost (limitOf d) ≤ room) × (reactionOf (judgedFrame d f) ≡ x)
   unfolding judged Clear judgeRows
   judge-answer x = (
     λ e.
@@ -72,44 +72,49 @@ module _ (d : Device) (f : List ℕ) (room : ℕ) where
 -- ---- octets from the line
 
 module _ (d : Device) (line : List ℕ) (room : ℕ) where
-  -- 4, 1, 2, 3: as the decoder gives them
-  pub hear-4 : heard d line room ≡ refuses 4 ↔ broken line ≡ true
-  unfolding holds
-  hear-4 = Iff·trans (by-decoder d line room 4 refl) (decode-4 frameLimit line (frameMost frameLimit))
+  -- 4, 1, 2, 3: as the decoder gives them, with the frame limit of the link
+  abbrev N : ℕ
+  N = limitOf d
 
-  pub hear-1 : heard d line room ≡ refuses 1 ↔ (broken line ≡ false) × (length (plain line) < 4)
+  pub hear-4 : heard d line room ≡ refuses 4 ↔ (isLimit N ≡ true) × (broken line ≡ true)
   unfolding holds
-  hear-1 = Iff·trans (by-decoder d line room 1 refl) (decode-1 frameLimit line (frameMost frameLimit))
+  hear-4 = Iff·trans (by-decoder d line room 4 refl) (decode-4 N line (frameMost limitMost))
+
+  pub hear-1 : heard d line room ≡ refuses 1 ↔ (isLimit N ≡ true) × (broken line ≡ false) × (length (plain line) < 4)
+  unfolding holds
+  hear-1 = Iff·trans (by-decoder d line room 1 refl) (decode-1 N line (frameMost limitMost))
 
   pub hear-2 : heard d line room ≡ refuses 2
-      ↔ (broken line ≡ false) × (4 ≤ length (plain line)) × (frameLimit < length (plain line))
+      ↔ (isLimit N ≡ true) × (broken line ≡ false) × (4 ≤ length (plain line)) × (N < length (plain line))
   unfolding holds
-  hear-2 = Iff·trans (by-decoder d line room 2 refl) (decode-2 frameLimit line (frameMost frameLimit))
+  hear-2 = Iff·trans (by-decoder d line room 2 refl) (decode-2 N line (frameMost limitMost))
 
   pub hear-3 : heard d line room ≡ refuses 3
-      ↔ Sized frameLimit line (frameMost frameLimit) × (rightCheck (plain line) ≡ false)
+      ↔ (isLimit N ≡ true) × Sized N line (frameMost limitMost) × (rightCheck (plain line) ≡ false)
   unfolding holds
-  hear-3 = Iff·trans (by-decoder d line room 3 refl) (decode-3 frameLimit line (frameMost frameLimit))
+  hear-3 = Iff·trans (by-decoder d line room 3 refl) (decode-3 N line (frameMost limitMost))
 
-  -- then 6
-  pub hear-6 : heard d line room ≡ refuses 6 ↔ Readable line × (allowedDevice d ≡ false)
-  hear-6 = (
-    λ e. let w = by-judge d line room 6 (never-6 line) .0 e in (w .0, judge-6 d _ room .0 (w .1)),
-    λ w. by-judge d line room 6 (never-6 line) .1 (w .0, judge-6 d _ room .1 (w .1)),
-  )
+  -- 6: a frame limit that is none, before those numbers; any other record that is not allowed, after them
+  pub hear-6 : heard d line room ≡ refuses 6
+      ↔ (isLimit N ≡ false) ⊎ (Readable N line × (allowedDevice d ≡ false))
+  hear-6 =
+      Iff·trans (by-either d line room 6) (
+        ⊎-map (decode-6 N line (frameMost limitMost) .0) (λ w. (w .0, judge-6 d _ room .0 (w .1))),
+        ⊎-map (decode-6 N line (frameMost limitMost) .1) (λ w. (w .0, judge-6 d _ room .1 (w .1))),
+      )
 
   -- then 5
-  pub hear-5 : heard d line room ≡ refuses 5 ↔ Readable line × (allowedDevice d ≡ true) × (room < frameMost frameLimit)
-  hear-5 = (
-    λ e.
-        let w = by-judge d line room 5 (hear-own-room line) .0 e in
-        let g = judge-5 d _ room .0 (w .1) in (w .0, g .0, g .1),
-    λ w. by-judge d line room 5 (hear-own-room line) .1 (w .0, judge-5 d _ room .1 (w .1, w .2)),
-  )
+  pub hear-5 : heard d line room ≡ refuses 5 ↔ Readable N line × (allowedDevice d ≡ true) × (room < frameMost N)
+  hear-5 =
+      Iff·trans (by-either d line room 5) (
+        ⊎-elim (λ e. absurd (hear-own-room d line e))
+            (λ w. let g = judge-5 d _ room .0 (w .1) in (w .0, g .0, g .1)),
+        λ w. inr (w .0, judge-5 d _ room .1 (w .1, w .2)),
+      )
 
   -- an answer: none of the numbers; and it is what comes of the decoded frame
   pub hear-answer : (x : Reaction) → heard d line room ≡ gives x
-      ↔ Readable line × (allowedDevice d ≡ true) × (frameMost frameLimit ≤ room)
+      ↔ Readable N line × (allowedDevice d ≡ true) × (frameMost N ≤ room)
       × (reactionOf (judgedFrame d (body (plain line))) ≡ x)
   hear-answer x = (
     λ e.
@@ -119,15 +124,15 @@ module _ (d : Device) (line : List ℕ) (room : ℕ) where
     λ w. heard-readable d line room (w .0) ∙ judge-answer d _ room x .1 (w .1, w .2, w .3),
   )
 
-  -- any octets get what comes of the frame in them, or one of 4, 1, 2, 3, 6, 5
+  -- any octets get what comes of the frame in them, or one of 6, 4, 1, 2, 3, 5
   pub hear-all : (heard d line room ≡ gives (reactionOf (judgedFrame d (body (plain line)))))
-      ⊎ ((k : ℕ) × (holds k (4 ∷ 1 ∷ 2 ∷ 3 ∷ 6 ∷ 5 ∷ []) ≡ true) × (heard d line room ≡ refuses k))
+      ⊎ ((k : ℕ) × (holds k (6 ∷ 4 ∷ 1 ∷ 2 ∷ 3 ∷ 5 ∷ []) ≡ true) × (heard d line room ≡ refuses k))
   hear-all =
       heard-cases d line room
       (λ w.
       ⊎-elim (λ e. inl (heard-readable d line room w ∙ e))
-      (λ (k, h, e). inr (k, holds-four k h, heard-readable d line room w ∙ e)) (judge-all d (body (plain line)) room))
-      (λ k h e. inr (k, holds-six k h, heard-at-once d line room k e))
+      (λ (k, h, e). inr (k, holds-six k h, heard-readable d line room w ∙ e)) (judge-all d (body (plain line)) room))
+      (λ k h e. inr (k, h, heard-at-once d line room k e))
 
 -- ---- what a number and silence leave
 

@@ -18,17 +18,16 @@ use Rattle.record.specs.declared.Link.the-variants.{NoAddress, AddressAssigned,
 use Rattle.record.specs.declared.Plate.{Plate}
 use Rattle.record.specs.declared.Desk.{Desk}
 use Rattle.record.specs.declared.Device.{Device}
-use Rattle.record.specs.Allowed.{identityOf, replyMost, identityAllowed, platesAllowed, pendingFits, sessionAllowed}
-use Rattle.record.specs.Allowed.{numbersAllowed, addressed, linkAllowed, stationAllowed, allowedDevice}
+use Rattle.record.specs.Allowed.{identityOf, limitOf, replyMost, identityAllowed, platesAllowed, pendingFits}
+use Rattle.record.specs.Allowed.{sessionAllowed, numbersAllowed, addressed, linkAllowed, allowedDevice}
 use Rattle.record.proofs.Stays.{sound}
 use Rattle.report.proofs.Laws.{indication-fits}
-use Rattle.xid_answer.proofs.Lengths.{scan-short, assignment-short}
+use Rattle.xid_answer.proofs.Lengths.{scan-short, assignment-short, negotiation-short}
 use Rattle.station.specs.declared.Say.{Say}
-use Rattle.station.specs.declared.Say.the-variants.{Silence, Bare, Reject, Pend, Scanned, Assigned}
+use Rattle.station.specs.declared.Say.the-variants.{Silence, Bare, Reject, Pend, Scanned, Assigned, Negotiated}
 use Rattle.link.specs.Link.{judgedFrame}
-use Rattle.speech.specs.Speech.{pendingOctets, linkOctets, isSilent, controlBy, payloadBy, frameBy}
+use Rattle.speech.specs.Speech.{pendingOctets, linkOctets, isSilent, controlBy, payloadBy, frameBy, spokenMost}
 use Rattle.conduct.proofs.Stays.{stays-allowed}
-use Rattle.limits.specs.Limits.{frameLimit, frameMost}
 use Rattle.device.proofs.Only.{none-not-some, some-same}
 
 -- ---- what is pending has at most so many octets as a payload of the record
@@ -61,7 +60,7 @@ addressed-most a e = omega (arith, ltb-true a 255 (and-parts (ltb 0 a) (ltb a 25
 
 module _ (d : Device) (allowed : allowedDevice d ≡ true) where
   payload-short : (x : Say) → length (payloadBy d x) ≤ replyMost
-  unfolding payloadBy stationAllowed
+  unfolding payloadBy
   payload-short Silence = omega arith
   payload-short (Bare c) = omega arith
   payload-short (Reject c v w) = omega arith
@@ -70,9 +69,10 @@ module _ (d : Device) (allowed : allowedDevice d ≡ true) where
       scan-short (identityOf (d .plate)) (plate-identity (d .plate) (sound d allowed .plate)) (d .station .desk .address)
   payload-short Assigned =
       assignment-short (identityOf (d .plate)) (plate-identity (d .plate) (sound d allowed .plate))
+  payload-short (Negotiated a) = negotiation-short a (limitOf d)
 
   pub frame-fits : (x : Say) (g : List ℕ) → frameBy d x ≡ some g
-      → (2 ≤ length g) × (length g ≤ frameMost frameLimit) × (getD g 0 0 ≡ d .station .desk .address)
+      → (2 ≤ length g) × (length g ≤ spokenMost) × (getD g 0 0 ≡ d .station .desk .address)
   unfolding frameBy
   frame-fits x g e = go (isSilent x) e
     where
@@ -80,7 +80,7 @@ module _ (d : Device) (allowed : allowedDevice d ≡ true) where
       f = d .station .desk .address ∷ controlBy x ∷ payloadBy d x
 
       go : (b : Bool) → cond b none (some f) ≡ some g
-          → (2 ≤ length g) × (length g ≤ frameMost frameLimit) × (getD g 0 0 ≡ d .station .desk .address)
+          → (2 ≤ length g) × (length g ≤ spokenMost) × (getD g 0 0 ≡ d .station .desk .address)
       go true q = absurd (none-not-some q)
       go false q =
           let same : f ≡ g = some-same q in
@@ -99,13 +99,12 @@ address-most t (Connected s) e =
     addressed-most (t .address) (and-parts (addressed (t .address)) (sessionAllowed t s) e .0)
 
 pub address-fits : (d : Device) → allowedDevice d ≡ true → d .station .desk .address ≤ 254
-unfolding stationAllowed
 address-fits d allowed = address-most (d .station .desk) (d .station .link) (sound d allowed .link)
 
 -- ---- after a frame
 
 pub answer-fits : (d : Device) (f g : List ℕ) → allowedDevice d ≡ true
     → frameBy (judgedFrame d f .device) (judgedFrame d f .say) ≡ some g
-    → (2 ≤ length g) × (length g ≤ frameMost frameLimit) × (getD g 0 0 ≡ judgedFrame d f .device .station .desk .address)
+    → (2 ≤ length g) × (length g ≤ spokenMost) × (getD g 0 0 ≡ judgedFrame d f .device .station .desk .address)
 answer-fits d f g allowed =
     frame-fits (judgedFrame d f .device) (stays-allowed d f allowed) (judgedFrame d f .say) g

@@ -3,7 +3,7 @@
 use mathlib.Core.Path.{_≡_, refl, sym, ap, _∙_}
 use mathlib.Core.Bool.{Bool, true, false, cond}
 use mathlib.Core.List.{List, [], _∷_}
-use mathlib.Core.Logic.{_↔_, _⊎_, inl, inr}
+use mathlib.Core.Logic.{_↔_, _⊎_, inl, inr, ⊎-elim}
 use Prim.Native.Nat.{ℕ, _≤_}
 use native.Mathlib.Omega.{arith}
 use lib.Dec.{eqb}
@@ -13,11 +13,13 @@ use Rattle.octets.proofs.Words.{true-not-false}
 use Rattle.refusal.specs.Answer.{gives, refuses, numbersOf}
 use Rattle.refusal.proofs.Exactly.{answered-all}
 use Rattle.refusal.proofs.Answers.{gives-not-refuses, refuses-same}
-use Rattle.limits.specs.Limits.{frameLimit, frameMost}
+use Rattle.limits.specs.Limits.{limitMost, isLimit, frameMost}
+use Rattle.limits.proofs.Exactly.{limit-exactly}
 use Rattle.frame.specs.Line.{plain}
 use Rattle.frame.specs.Decode.{body, rightCheck}
 use Rattle.frame.proofs.Exact.{Sized, decode-5, decode-frame, decode-all}
 use Rattle.record.specs.declared.Device.{Device}
+use Rattle.record.specs.Allowed.{limitOf}
 use Rattle.link.specs.Link.{judgedFrame}
 use Rattle.device.specs.Judge.{reactionOf, judgeRows, judged, heardBy, decodedHere, heard}
 
@@ -40,11 +42,8 @@ module _ (k n : ℕ) where
       go true h = refl
       go false h = f h
 
-pub holds-four : (k : ℕ) → holds k (6 ∷ 5 ∷ []) ≡ true → holds k (4 ∷ 1 ∷ 2 ∷ 3 ∷ 6 ∷ 5 ∷ []) ≡ true
-holds-four k h = skip k 4 _ (skip k 1 _ (skip k 2 _ (skip k 3 _ h)))
-
-pub holds-six : (k : ℕ) → holds k (4 ∷ 1 ∷ 2 ∷ 3 ∷ 5 ∷ []) ≡ true → holds k (4 ∷ 1 ∷ 2 ∷ 3 ∷ 6 ∷ 5 ∷ []) ≡ true
-holds-six k = keep k 4 _ _ (keep k 1 _ _ (keep k 2 _ _ (keep k 3 _ _ (skip k 6 _))))
+pub holds-six : (k : ℕ) → holds k (6 ∷ 5 ∷ []) ≡ true → holds k (6 ∷ 4 ∷ 1 ∷ 2 ∷ 3 ∷ 5 ∷ []) ≡ true
+holds-six k = keep k 6 _ _ (λ h. skip k 4 _ (skip k 1 _ (skip k 2 _ (skip k 3 _ h))))
 
 module _ (d : Device) (f : List ℕ) (room : ℕ) where
   -- judging gives no number but 6 and 5
@@ -59,59 +58,53 @@ module _ (d : Device) (f : List ℕ) (room : ℕ) where
 
 -- ---- the decoder
 
--- a line that can be read: no number of the decoder
-abbrev pub Readable : List ℕ → Type 0
-Readable line = Sized frameLimit line (frameMost frameLimit) × (rightCheck (plain line) ≡ true)
+-- a line that can be read with the frame limit N: no number of the decoder
+abbrev pub Readable : ℕ → List ℕ → Type 0
+Readable N line = (isLimit N ≡ true) × Sized N line (frameMost limitMost) × (rightCheck (plain line) ≡ true)
 
-body-short : (line : List ℕ) → length (plain line) ≤ frameLimit → length (body (plain line)) ≤ frameMost frameLimit
+body-short : (N : ℕ) (line : List ℕ) → isLimit N ≡ true → length (plain line) ≤ N
+    → length (body (plain line)) ≤ frameMost limitMost
 unfolding body
-body-short line h = simp length-take (omega arith)
+body-short N line ok h = simp length-take (omega (arith, limit-exactly N .0 ok .1))
 
--- the decoder has room in its own buffer for every frame: it never says 5 there
-pub hear-own-room : (line : List ℕ) → decodedHere line ≡ refuses 5 → ⊥
-hear-own-room line e =
-    let (s, c, r) = decode-5 frameLimit line (frameMost frameLimit) .0 e in omega (arith, body-short line (s .2))
+module _ (d : Device) (line : List ℕ) where
+  -- the decoder has room in its own buffer for every frame: it never says 5 there
+  pub hear-own-room : decodedHere d line ≡ refuses 5 → ⊥
+  hear-own-room e =
+      let (ok, s, c, r) = decode-5 (limitOf d) line (frameMost limitMost) .0 e in
+      omega (arith, body-short (limitOf d) line ok (s .2))
 
--- the decoder has no number 6
-pub never-6 : (line : List ℕ) → decodedHere line ≡ refuses 6 → ⊥
-unfolding holds
-never-6 line e = go (decode-all frameLimit line (frameMost frameLimit))
-  where
-    go : (decodedHere line ≡ gives (body (plain line)))
-        ⊎ ((k : ℕ) × (holds k (4 ∷ 1 ∷ 2 ∷ 3 ∷ 5 ∷ []) ≡ true) × (decodedHere line ≡ refuses k)) → ⊥
-    go (inl g) = gives-not-refuses (sym g ∙ e)
-    go (inr (k, h, g)) = true-not-false (sym h ∙ ap (λ j. holds j (4 ∷ 1 ∷ 2 ∷ 3 ∷ 5 ∷ [])) (refuses-same (sym g ∙ e)))
-
-readable-decoded : (line : List ℕ) → Readable line → decodedHere line ≡ gives (body (plain line))
-readable-decoded line w =
-    decode-frame frameLimit line (frameMost frameLimit) (body (plain line)) .1
-    (w .0, w .1, body-short line (w .0 .2), refl)
+  readable-decoded : Readable (limitOf d) line → decodedHere d line ≡ gives (body (plain line))
+  readable-decoded w =
+      decode-frame (limitOf d) line (frameMost limitMost) (body (plain line)) .1
+      (w .0, w .1, w .2, body-short (limitOf d) line (w .0) (w .1 .2), refl)
 
 module _ (d : Device) (line : List ℕ) (room : ℕ) where
   -- a number of the decoder is given at once
-  pub heard-at-once : (k : ℕ) → decodedHere line ≡ refuses k → heard d line room ≡ refuses k
+  pub heard-at-once : (k : ℕ) → decodedHere d line ≡ refuses k → heard d line room ≡ refuses k
   unfolding heard heardBy
   heard-at-once k e = rw e
 
   -- a readable line is judged
-  pub heard-readable : Readable line → heard d line room ≡ judged d (body (plain line)) room
+  pub heard-readable : Readable (limitOf d) line → heard d line room ≡ judged d (body (plain line)) room
   unfolding heard heardBy
-  heard-readable w = rw (readable-decoded line w)
+  heard-readable w = rw (readable-decoded d line w)
 
   -- octets from the line are a readable line, or get a number of the decoder
-  pub heard-cases : {A : Type 0} → (Readable line → A)
-      → ((k : ℕ) → holds k (4 ∷ 1 ∷ 2 ∷ 3 ∷ 5 ∷ []) ≡ true → decodedHere line ≡ refuses k → A) → A
-  heard-cases {A} read not-read = go (decode-all frameLimit line (frameMost frameLimit))
+  pub heard-cases : {A : Type 0} → (Readable (limitOf d) line → A)
+      → ((k : ℕ) → holds k (6 ∷ 4 ∷ 1 ∷ 2 ∷ 3 ∷ 5 ∷ []) ≡ true → decodedHere d line ≡ refuses k → A) → A
+  heard-cases {A} read not-read = go (decode-all (limitOf d) line (frameMost limitMost))
     where
-      go : (decodedHere line ≡ gives (body (plain line)))
-          ⊎ ((k : ℕ) × (holds k (4 ∷ 1 ∷ 2 ∷ 3 ∷ 5 ∷ []) ≡ true) × (decodedHere line ≡ refuses k)) → A
+      go : (decodedHere d line ≡ gives (body (plain line)))
+          ⊎ ((k : ℕ) × (holds k (6 ∷ 4 ∷ 1 ∷ 2 ∷ 3 ∷ 5 ∷ []) ≡ true) × (decodedHere d line ≡ refuses k)) → A
       go (inl e) =
-          let w = decode-frame frameLimit line (frameMost frameLimit) (body (plain line)) .0 e in read (w .0, w .1)
+          let w = decode-frame (limitOf d) line (frameMost limitMost) (body (plain line)) .0 e in
+          read (w .0, w .1, w .2)
       go (inr (k, h, e)) = not-read k h e
 
   -- a number that judging does not give is the decoder's
   pub by-decoder : (k : ℕ) → holds k (6 ∷ 5 ∷ []) ≡ false
-      → heard d line room ≡ refuses k ↔ decodedHere line ≡ refuses k
+      → heard d line room ≡ refuses k ↔ decodedHere d line ≡ refuses k
   by-decoder k other = (
     λ e.
         heard-cases
@@ -121,12 +114,12 @@ module _ (d : Device) (line : List ℕ) (room : ℕ) where
     heard-at-once k,
   )
 
-  -- one that the decoder does not give is given to a readable line, where judging gives it
-  pub by-judge : (k : ℕ) → (decodedHere line ≡ refuses k → ⊥)
-      → heard d line room ≡ refuses k ↔ Readable line × (judged d (body (plain line)) room ≡ refuses k)
-  by-judge k never = (
+  -- any other is the decoder's, or judging gives it to a readable line
+  pub by-either : (k : ℕ) → heard d line room ≡ refuses k
+      ↔ (decodedHere d line ≡ refuses k) ⊎ (Readable (limitOf d) line × (judged d (body (plain line)) room ≡ refuses k))
+  by-either k = (
     λ e.
-        heard-cases (λ w. (w, sym (heard-readable w) ∙ e))
-        (λ j h q. absurd (never (rw (refuses-same (sym e ∙ heard-at-once j q)) q))),
-    λ w. heard-readable (w .0) ∙ w .1,
+        heard-cases (λ w. inr (w, sym (heard-readable w) ∙ e))
+        (λ j h q. inl (rw (refuses-same (sym e ∙ heard-at-once j q)) q)),
+    ⊎-elim (heard-at-once k) (λ w. heard-readable (w .0) ∙ w .1),
   )

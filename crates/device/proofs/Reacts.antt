@@ -14,13 +14,15 @@ use Rattle.refusal.specs.Numbers.{numberOf}
 use Rattle.refusal.specs.Answer.{Answer, gives, refuses, answered, Hands}
 use Rattle.refusal.proofs.Answers.{octets-told, refusal-told}
 use Rattle.record.specs.declared.Device.{Device}
-use Rattle.record.specs.Allowed.{allowedDevice}
+use Rattle.record.specs.Allowed.{limitOf, allowedDevice}
+use Rattle.record.proofs.Stays.{limit-allowed}
 use Rattle.station.specs.declared.Say.{Say}
 use Rattle.station.specs.declared.Turn.{Turn}
 use Rattle.link.specs.Link.{judgedFrame}
 use Rattle.speech.specs.declared.Spoken.{Spoken}
-use Rattle.speech.specs.Speech.{isSilent, controlBy, payloadBy, frameBy, spokenOf}
-use Rattle.limits.specs.Limits.{frameLimit, frameMost}
+use Rattle.speech.specs.Speech.{isSilent, controlBy, payloadBy, frameBy, spokenMost, spokenOf}
+use Rattle.limits.specs.Limits.{frameMost}
+use Rattle.limits.proofs.Exactly.{limit-exactly}
 use Rattle.device.specs.declared.Said.the-variants.{Silence, Frame, Refused}
 use Rattle.device.specs.declared.Judged.{Judged}
 use Rattle.device.specs.Judge.{Reaction, reacts, reactionOf, judgeRows, judged, heardBy, decodedHere, heard, refusalIn}
@@ -55,7 +57,7 @@ module _ (d : Device) (x : Say) (o : List ℕ) {r : Spoken} (e : r ≡ spokenOf 
           let two : r .len ≡ length f = ap (λ (y : Spoken). y .len) e ∙ rw q in
           absurd (omega (arith, two, z))
 
-  pub framed : (r .len ≡ 0 → ⊥) → r .len ≤ frameMost frameLimit → frameMost frameLimit ≤ length o → {o' : List ℕ}
+  pub framed : (r .len ≡ 0 → ⊥) → r .len ≤ spokenMost → spokenMost ≤ length o → {o' : List ℕ}
       → o' ≡ sets o 0 (take (r .len) (r .octets))
       → Judges (gives (reacts d x)) d o (record { said = Frame (r .len); device = d }) o'
   unfolding frameBy spokenOf saidOf toldOf sizeOf deviceAfter bufferAfter frameAt reacts
@@ -68,7 +70,7 @@ module _ (d : Device) (x : Say) (o : List ℕ) {r : Spoken} (e : r ≡ spokenOf 
           let f : List ℕ = d .station .desk .address ∷ controlBy x ∷ payloadBy d x in
           let n : r .len ≡ length f = ap (λ (y : Spoken). y .len) e ∙ rw q in
           let t : take (r .len) (r .octets) ≡ f =
-          ap (λ (y : Spoken). take (y .len) (y .octets)) e ∙ rw q (take-start f (replicate (frameMost frameLimit) 0)) in
+          ap (λ (y : Spoken). take (y .len) (y .octets)) e ∙ rw q (take-start f (replicate spokenMost 0)) in
           record {
             said = rw (q, n);
             device = refl;
@@ -82,17 +84,21 @@ module _ (d : Device) (f o : List ℕ) where
   unfolding judged judgeRows answered
   judged-6 e = rw e
 
-  pub judged-5 : allowedDevice d ≡ true → length o < frameMost frameLimit → judged d f (length o) ≡ refuses 5
+  pub judged-5 : allowedDevice d ≡ true → length o < frameMost (limitOf d) → judged d f (length o) ≡ refuses 5
   unfolding judged judgeRows answered
-  judged-5 e h = rw (e, lt-ltb (length o) (frameMost frameLimit) h)
+  judged-5 e h = rw (e, lt-ltb (length o) (frameMost (limitOf d)) h)
 
-  pub judged-turn : allowedDevice d ≡ true → frameMost frameLimit ≤ length o
+  pub judged-turn : allowedDevice d ≡ true → frameMost (limitOf d) ≤ length o
       → judged d f (length o) ≡ gives (reactionOf (judgedFrame d f))
   unfolding judged judgeRows answered
-  judged-turn e h = rw (e, le-ltb (length o) (frameMost frameLimit) h)
+  judged-turn e h = rw (e, le-ltb (length o) (frameMost (limitOf d)) h)
+
+  -- the room that the frame limit asks for is enough for every answer
+  pub roomy : allowedDevice d ≡ true → frameMost (limitOf d) ≤ length o → spokenMost ≤ length o
+  roomy e h = omega (arith, limit-exactly (limitOf d) .0 (limit-allowed d e) .0, h)
 
   -- the turn's device and what it says
-  pub turned : allowedDevice d ≡ true → frameMost frameLimit ≤ length o → {t : Turn} {r : Judged} {o' : List ℕ}
+  pub turned : allowedDevice d ≡ true → frameMost (limitOf d) ≤ length o → {t : Turn} {r : Judged} {o' : List ℕ}
       → t ≡ judgedFrame d f
       → Judges (gives (reacts (t .device) (t .say))) (t .device) o r o' → Judges (judged d f (length o)) d o r o'
   unfolding deviceAfter
@@ -104,18 +110,18 @@ module _ (d : Device) (f o : List ℕ) where
 -- ---- a line heard
 
 module _ (d : Device) (line o store store' : List ℕ) where
-  pub heard-refused : {h : Handed} (k q : Refusal) → Hands (decodedHere line) store h store'
+  pub heard-refused : {h : Handed} (k q : Refusal) → Hands (decodedHere d line) store h store'
       → h ≡ Handed.Refused k → q ≡ refusalIn h
       → Judges (heard d line (length o)) d o (record { said = Refused q; device = d }) o
   unfolding heard heardBy
   heard-refused k q w e u =
-      let t = refusal-told (decodedHere line) {k = k} (rw e at w) in
+      let t = refusal-told (decodedHere d line) {k = k} (rw e at w) in
       refused (heard d line (length o)) d o q (rw (t .0, u, e))
 
-  pub heard-judged : (n : ℕ) → {h : Handed} → Hands (decodedHere line) store h store' → h ≡ Handed.Octets n
+  pub heard-judged : (n : ℕ) → {h : Handed} → Hands (decodedHere d line) store h store' → h ≡ Handed.Octets n
       → judged d (take n store') (length o) ≡ heard d line (length o)
   unfolding heard heardBy
-  heard-judged n w e = let t = octets-told (decodedHere line) {n = n} (rw e at w) in rw (t .0)
+  heard-judged n w e = let t = octets-told (decodedHere d line) {n = n} (rw e at w) in rw (t .0)
 
 -- the frame that was decoded stands in the decoder's buffer
 pub heard-count : (x : Answer (List ℕ)) (n : ℕ) {store store' : List ℕ} {h : Handed} → Hands x store h store'

@@ -9,7 +9,7 @@ use lib.ListN.{length, drop}
 use Rattle.refusal.specs.Answer.{gives}
 use Rattle.record.specs.declared.Link.the-variants.{AddressAssigned}
 use Rattle.record.specs.declared.Device.{Device}
-use Rattle.record.specs.Allowed.{identityOf, allowedDevice}
+use Rattle.record.specs.Allowed.{identityOf, limitOf, allowedDevice}
 use Rattle.record.specs.Changes.{endedAs}
 use Rattle.xid.specs.Meaning.{Answers}
 use Rattle.link.specs.Frames.{Everyone}
@@ -18,12 +18,12 @@ use Rattle.conduct.specs.Comes.{Comes, scans, assigns, left}
 use Rattle.conduct.specs.Spelt.{scanSaid, assignmentSaid, octetsSaid}
 use Rattle.conduct.proofs.Comes.{comes-leaves}
 use Rattle.conduct.proofs.Says.{frame-octets}
-use Rattle.limits.specs.Limits.{frameLimit, frameMost}
+use Rattle.limits.specs.Limits.{frameMost}
 use Rattle.device.specs.Judge.{reacts, judged}
 use Rattle.device.proofs.Exact.{judge-answer}
 
 module _ (d : Device) (f : List ℕ) (room : ℕ) (allowed : allowedDevice d ≡ true)
-    (fits : frameMost frameLimit ≤ room) where
+    (fits : frameMost (limitOf d) ≤ room) where
   -- whatever the frame is to the device: the device that its case leaves, and the octets that its case has
   pub judged-octets : (c : Comes d f)
       → judged d f room ≡ gives (record { device = left d f c; frame = octetsSaid d f c })
@@ -37,7 +37,7 @@ module _ (d : Device) (f : List ℕ) (room : ℕ) (allowed : allowedDevice d ≡
       )
 
   -- "Answer, in any state: 1 (unpadded, n octets), 2, 4 in that order; length field n+8"
-  pub scan-octets : Everyone f → Answers (identityOf (d .plate)) (drop 2 f) → (a : ℕ) (i : List ℕ)
+  pub scan-octets : Everyone d f → Answers (identityOf (d .plate)) (drop 2 f) → (a : ℕ) (i : List ℕ)
       → d .station .desk .address ≡ a → identityOf (d .plate) ≡ i
       → judged d f room
       ≡ gives

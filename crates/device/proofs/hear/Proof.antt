@@ -24,7 +24,7 @@ refusal-in-requires c κs = search needs
 
 returns : tie.Need-returns
 returns c =
-    let a = c .before .before .before .before .before .before .before .before .args in
+    let a = c .before .before .before .before .before .before .before .before .before .before .args in
     heard-refused (a .device) _ (now (a .answer)) _ _ _ _ (c .before .before .before .before .decode .ensures) (c .before .enum-told .given .1)
     (c .refusal-in .ensures)
 
@@ -42,9 +42,10 @@ same-length c = search needs
 
 returns-2 : tie.Need-returns-2
 returns-2 c =
-    let a = c .before .before .before .before .before .before .before .before .before .before .before .before .before .args in
+    let decoding = c .before .before .before .before .before .before .before .before .before in
+    let a = decoding .before .before .before .before .before .before .args in
     judges-is
-    (heard-judged (a .device) _ (now (a .answer)) _ _ _ (c .before .before .before .before .before .before .before .before .before .decode .ensures) (c .before .before .before .before .before .before .handed .given .1))
+    (heard-judged (a .device) _ (now (a .answer)) _ _ _ (decoding .decode .ensures) (c .before .before .before .before .before .before .handed .given .1))
     (c .before .before .judge .ensures)
 
 pub hear-spec : {M : Type 1} → statement M
