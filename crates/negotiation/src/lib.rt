@@ -26,6 +26,11 @@ pub const SENDING_ID: u8 = 7;
 
 pub const RECEIVING_ID: u8 = 8;
 
+// The most octets of a length, and of a window.
+const LENGTH_OCTETS: usize = 4;
+
+const WINDOW_OCTETS: usize = 1;
+
 // Which identifiers a negotiation asks: the lengths sent and received, the windows of sending and receiving.
 pub struct Asked {
     pub sent: bool,
@@ -48,22 +53,22 @@ fn negotiating() -> Group
         Identifier {
             id: SENT_ID,
             least: 1,
-            most: 4,
+            most: LENGTH_OCTETS,
         },
         Identifier {
             id: RECEIVED_ID,
             least: 1,
-            most: 4,
+            most: LENGTH_OCTETS,
         },
         Identifier {
             id: SENDING_ID,
             least: 1,
-            most: 1,
+            most: WINDOW_OCTETS,
         },
         Identifier {
             id: RECEIVING_ID,
             least: 1,
-            most: 1,
+            most: WINDOW_OCTETS,
         },
         Identifier {
             id: 0,

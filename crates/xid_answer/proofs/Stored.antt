@@ -2,7 +2,7 @@
 use mathlib.Core.Path.{_≡_, refl, sym, _∙_}
 use mathlib.Core.List.{List, [], _∷_, _++_, append-nil}
 use mathlib.Core.Bool.{Bool, true, false, cond}
-use Prim.Native.Nat.{ℕ, _+_, _-_, _*_, _/_, _%_, _<_, _≤_, min}
+use Prim.Native.Nat.{ℕ, _+_, _-_, _*_, _/_, _%_, _≤_, min}
 use native.Mathlib.Nat.{add-zero, zero-add}
 use native.Mathlib.Omega.{arith}
 use lib.ListN.{length, take, set, replicate, length-append, length-take}
@@ -100,16 +100,10 @@ length-asking true n v = length-triple n v
 length-asking false n v = refl
 
 -- the octets of (N - 4) · 8
-pub no-length : (N : ℕ) → N < 4 → 0 ∷ 0 ∷ [] ≡ lengthValue N
+pub length-octets : (N : ℕ) {high low : ℕ} → high ≡ (N - 4) * 8 / 256 % 256 → low ≡ (N - 4) * 8 % 256
+    → high ∷ low ∷ [] ≡ lengthValue N
 unfolding lengthValue
-no-length N h = let none : N - 4 ≡ 0 = omega arith in rw none
-
-pub some-length : (N : ℕ) → (N - 4) / 32 % 256 ∷ (N - 4) % 32 * 8 ∷ [] ≡ lengthValue N
-unfolding lengthValue
-some-length N =
-    let high : (N - 4) / 32 % 256 ≡ (N - 4) * 8 / 256 % 256 = omega arith in
-    let low : (N - 4) % 32 * 8 ≡ (N - 4) * 8 % 256 = omega arith in
-    rw (high, low)
+length-octets N h l = rw (h, l)
 
 field-asked : (asked : Bool) (n : ℕ) (v : List ℕ) (ps : List Param)
     → fieldOf (ifAsked asked (n is v) ps) ≡ asking asked n v ++ fieldOf ps

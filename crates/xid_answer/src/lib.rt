@@ -76,11 +76,10 @@ fn put_assignment_answer(out: &mut [u8], identity: &[u8]) -> usize
 fn length_value(limit: usize) -> [u8; 2]
     ensures { λ r. ⌜ r ≡ lengthValue limit ⌝ }
 {
-    if limit < 4 {
-        return [0, 0];
-    }
-    let most = limit - 4;
-    [(most / 32 % 256) as u8, (most % 32 * 8) as u8]
+    let most = limit - octets::fewer(limit, 4);
+    let high = (most / 32 % 256) as u8;
+    let low = (most % 32 * 8) as u8;
+    [high, low]
 }
 
 // How many octets a triple of `count` octets takes: none where it was not asked.
