@@ -1,6 +1,6 @@
 // Longer frames by negotiation: what the payload of an XID frame to the own address asks of the link, whose frame limit
-// is `limit`. Headline: the limit agreed is the whole octets in the smaller length asked and 4 more, 78 to 260, exactly;
-// none asked keeps it (proofs/Exactly.antt). Assumes nothing of its caller: any octets, any limit.
+// is `limit`. Headline: the limit agreed is the whole octets in the smaller length asked and 4 more, 78 to 260,
+// exactly; none asked keeps it (proofs/Exactly.antt). Assumes nothing of its caller: any octets, any limit.
 ghost use mathlib.Core.Path.{_≡_};
 ghost use mathlib.Core.Bool.{not};
 ghost use Prim.Native.Nat.{_*_, min};
