@@ -10,39 +10,61 @@ use native.Mathlib.Omega.{arith}
 use lib.ListN.{length}
 use Rattle.octets.specs.Octets.{Octets}
 use Rattle.octets.proofs.Words.{or-parts, true-not-false}
-use Rattle.refusal.specs.Answer.{gives, answered}
+use Rattle.refusal.specs.Answer.{gives}
 use Rattle.refusal.proofs.Answers.{in-room}
-use Rattle.limits.specs.Limits.{frameLimit, frameMost, payloadMost, lineMost}
+use Rattle.limits.specs.Limits.{frameLimit, limitMost, isLimit, frameMost, payloadMost, lineMost}
+use Rattle.limits.proofs.Exactly.{limit-exactly, limit-least}
 use Rattle.frame.specs.Line.{inside}
-use Rattle.frame.specs.Decode.{decoded}
 use Rattle.frame.specs.Write.{lineOf}
 use Rattle.frame.proofs.Lengths.{line-most, write-fits}
 use Rattle.frame.proofs.Trip.{trip}
 use Rattle.record.specs.declared.Device.{Device}
-use Rattle.record.specs.Allowed.{allowedDevice}
+use Rattle.record.specs.Allowed.{limitOf, allowedDevice}
+use Rattle.record.proofs.Stays.{limit-allowed}
 use Rattle.link.specs.Link.{judgedFrame}
-use Rattle.device.specs.Judge.{reactionOf, judgeRows, judged, heardBy, heard}
-use Rattle.bus.specs.Cable.{octetsGiven, lineFor, hears, repliesTo, afterLine, anyReplies, allAfter, afterLines}
+use Rattle.device.specs.Judge.{reactionOf, heardBy, decodedHere, heard}
+use Rattle.device.proofs.Exact.{judge-answer}
+use Rattle.bus.specs.Cable.{octetsGiven, lineWith, lineFor, hears, repliesTo, afterLine, anyReplies, allAfter, afterLines}
 use Rattle.bus.specs.Cable.{allAfterLines}
 
 -- the writer never refuses a frame with a payload that may be written, and the longest line has room for it
-pub line-written : (a c : ℕ) (p : List ℕ) → length p ≤ payloadMost frameLimit → lineFor (a ∷ c ∷ p) ≡ lineOf (a ∷ c ∷ p)
-unfolding lineFor octetsGiven
-line-written a c p h =
-    let fits = line-most frameLimit a c p (omega arith) h in
-    ap octetsGiven (write-fits frameLimit a c p (lineMost frameLimit) (omega arith) fits)
+module _ (N : ℕ) (ok : isLimit N ≡ true) (a c : ℕ) (p : List ℕ) (h : length p ≤ payloadMost N) where
+  pub line-with : lineWith N (a ∷ c ∷ p) ≡ lineOf (a ∷ c ∷ p)
+  unfolding lineWith octetsGiven
+  line-with =
+      let least = limit-exactly N .0 ok .0 in
+      let fits = line-most N a c p (omega (arith, least)) h in
+      ap octetsGiven (write-fits N ok a c p (lineMost N) h fits)
 
-pub hears-written : (d : Device) (a c : ℕ) (p : List ℕ) → allowedDevice d ≡ true → Octets (a ∷ c ∷ p)
-    → length p ≤ payloadMost frameLimit
-    → hears d (lineFor (a ∷ c ∷ p)) ≡ gives (reactionOf (judgedFrame d (a ∷ c ∷ p)))
-unfolding hears heard heardBy judged judgeRows answered
-hears-written d a c p allowed os h =
-    let b : List ℕ = a ∷ c ∷ p in
-    let decodes : decoded frameLimit (inside (lineFor b)) (frameMost frameLimit) ≡ gives b =
-    ap (λ (l : List ℕ). decoded frameLimit (inside l) (frameMost frameLimit)) (line-written a c p h)
-    ∙ trip b os frameLimit (frameMost frameLimit) (omega arith) (omega arith)
-    ∙ in-room b (frameMost frameLimit) (omega arith) in
-    ap (heardBy d (frameMost frameLimit)) decodes ∙ rw allowed
+pub line-written : (a c : ℕ) (p : List ℕ) → length p ≤ payloadMost frameLimit → lineFor (a ∷ c ∷ p) ≡ lineOf (a ∷ c ∷ p)
+line-written = line-with frameLimit limit-least
+
+-- a line whose frame has room in the frame limit of the link is judged as it was put in
+module _ (d : Device) (a c : ℕ) (p : List ℕ) (allowed : allowedDevice d ≡ true) (os : Octets (a ∷ c ∷ p)) where
+  hears-line : length p ≤ payloadMost (limitOf d)
+      → hears d (lineOf (a ∷ c ∷ p)) ≡ gives (reactionOf (judgedFrame d (a ∷ c ∷ p)))
+  unfolding hears heard heardBy
+  hears-line h =
+      let b : List ℕ = a ∷ c ∷ p in
+      let ok = limit-allowed d allowed in
+      let size = limit-exactly (limitOf d) .0 ok in
+      let decodes : decodedHere d (inside (lineOf b)) ≡ gives b =
+      trip b os (limitOf d) ok (frameMost limitMost) (omega arith) (omega (arith, size .0))
+      ∙ in-room b (frameMost limitMost) (omega (arith, size .0, size .1)) in
+      ap (heardBy d (frameMost limitMost)) decodes
+      ∙ judge-answer d b (frameMost limitMost) _ .1 (allowed, omega (arith, size .1), refl)
+
+  -- written with the frame limit of the link: "the frame limit N, one for both ways"
+  pub hears-with : length p ≤ payloadMost (limitOf d)
+      → hears d (lineWith (limitOf d) (a ∷ c ∷ p)) ≡ gives (reactionOf (judgedFrame d (a ∷ c ∷ p)))
+  hears-with h = ap (hears d) (line-with (limitOf d) (limit-allowed d allowed) a c p h) ∙ hears-line h
+
+  -- written with the least one, which every link has room for
+  pub hears-written : length p ≤ payloadMost frameLimit
+      → hears d (lineFor (a ∷ c ∷ p)) ≡ gives (reactionOf (judgedFrame d (a ∷ c ∷ p)))
+  hears-written h =
+      let least = limit-exactly (limitOf d) .0 (limit-allowed d allowed) .0 in
+      ap (hears d) (line-written a c p h) ∙ hears-line (omega (arith, least))
 
 -- ---- a row
 

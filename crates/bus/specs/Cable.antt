@@ -4,7 +4,8 @@
 --   rowMost         == the most devices of a row in memory
 --   identityIn d    == the identity of the device d, unpadded; paddedIn d == padded with 0x20 to 19
 --   Cabled ds       == the records ds may hang on one cable: allowed, with different padded identities
---   lineFor f       == the line that the master writes for the frame f of address, control and payload
+--   lineWith N f    == the line that the master writes for the frame f of address, control and payload, with the frame
+--                      limit N; lineFor f == with 78, which every link has room for
 --   octetsGiven x   == the octets of an answer of the writer; none for a number
 --   hears d l       == what comes of the line l at the device d; withFrame x == an answer with a frame comes of it
 --   repliesTo d l     == d answers the line l with a frame; afterLine d l == d afterwards
@@ -19,7 +20,7 @@ use mathlib.Core.Option.{Option, none, some}
 use Prim.Native.Nat.{ℕ}
 use lib.ListN.{getD, drop}
 use Rattle.refusal.specs.Answer.{Answer, gives, refuses}
-use Rattle.limits.specs.Limits.{frameLimit, frameMost, lineMost}
+use Rattle.limits.specs.Limits.{frameLimit, limitMost, frameMost, lineMost}
 use Rattle.frame.specs.Line.{inside}
 use Rattle.frame.specs.Write.{written}
 use Rattle.identity.specs.Bits.{Bits}
@@ -50,13 +51,17 @@ unfoldable pub octetsGiven : Answer (List ℕ) → List ℕ
 octetsGiven (gives l) = l
 octetsGiven (refuses k) = []
 
--- 01: "The writer gives flag, frame, flag"; "at most 158", and so many are lent
-unfoldable pub lineFor : List ℕ → List ℕ
-lineFor f = octetsGiven (written frameLimit (getD f 0 0) (getD f 1 0) (drop 2 f) (lineMost frameLimit))
+-- 01: "The writer gives flag, frame, flag"; "at most 158", which is 2N + 2, and so many are lent
+unfoldable pub lineWith : ℕ → List ℕ → List ℕ
+lineWith N f = octetsGiven (written N (getD f 0 0) (getD f 1 0) (drop 2 f) (lineMost N))
 
--- "each device hears what lies between its flags", with an answer buffer for every frame
+abbrev pub lineFor : List ℕ → List ℕ
+lineFor f = lineWith frameLimit f
+
+-- "each device hears what lies between its flags", with an answer buffer of 258 octets: what the largest frame limit asks
+-- for, so that no device looks absent
 unfoldable pub hears : Device → List ℕ → Answer Reaction
-hears d l = heard d (inside l) (frameMost frameLimit)
+hears d l = heard d (inside l) (frameMost limitMost)
 
 -- an answer with a frame; silence is none, and so is a number
 unfoldable pub isFrame : Option (List ℕ) → Bool

@@ -1,5 +1,5 @@
--- The number that octets stand for, highest first: octet by octet, for a loop that goes through them by i and stops where
--- the number is past any frame's; and the limit that it asks for. Assumes nothing.
+-- The number that octets stand for, highest first: octet by octet, for a loop that goes through them by i and stops
+-- where the number is past any payload's; and the limit that it asks for. Assumes nothing.
 use mathlib.Core.Path.{_≡_, sym, ap₂, _∙_}
 use mathlib.Core.List.{List, [], _∷_}
 use Prim.Native.Nat.{ℕ, _+_, _*_, _<_, _≤_, min}

@@ -1,5 +1,5 @@
--- Which payloads are negotiations, both ways, and the frame limit that is agreed, in 02's words and numbers: by the smaller
--- length asked, never above it but for the floor, 78 to 260. For octets of any content. Assumes nothing.
+-- Which payloads are negotiations, both ways, and the frame limit that is agreed, in 02's words and numbers: by the
+-- smaller length asked, never above it but for the floor, 78 to 260. For octets of any content. Assumes nothing.
 use mathlib.Core.Path.{_≡_, refl, sym, _∙_}
 use mathlib.Core.Bool.{Bool, true, false, cond, _&&_}
 use mathlib.Core.List.{List, [], _∷_}
@@ -67,7 +67,8 @@ not-agreed : {N : ℕ} {a : Asked} → Malformed ≡ Agreed N a → ⊥
 not-agreed e = let z : _≡_ {A = ℕ} 0 1 = cc in omega arith
 
 module _ (N : ℕ) (m : List ℕ) where
-  pub offer-agreed : (ps : List Param) → WellFormed negotiating m ps → offerOf N m ≡ Agreed (agreedLimit N ps) (askedIn ps)
+  pub offer-agreed : (ps : List Param) → WellFormed negotiating m ps
+      → offerOf N m ≡ Agreed (agreedLimit N ps) (askedIn ps)
   unfolding offerOf offered
   offer-agreed ps w = rw (params-exactly negotiating m ps .1 w)
 

@@ -1,5 +1,5 @@
--- Computed, for a link whose frame limit is 100: lengths of one to four octets and the limit that each comes to, windows,
--- nothing asked, and payloads that are no negotiations. Assumes nothing.
+-- Computed, for a link whose frame limit is 100: lengths of one to four octets and the limit that each comes to,
+-- windows, nothing asked, and payloads that are no negotiations. Assumes nothing.
 use mathlib.Core.Path.{_≡_, refl}
 use mathlib.Core.Bool.{Bool, true, false}
 use mathlib.Core.List.{List, [], _∷_}
@@ -45,8 +45,8 @@ windows =
     ∷ (0x81 ∷ 0x80 ∷ 10 ∷ 8 ∷ 1 ∷ 1 ∷ 6 ∷ 2 ∷ 0x03 ∷ 0x20 ∷ 7 ∷ 1 ∷ 1 ∷ []) gets Agreed 104 (asks false true true true)
     ∷ []
 
--- a repeat, another identifier, a window of two octets, lengths of none and of five; another group, a wrong length field,
--- a last triple that runs past the end
+-- a repeat, another identifier, a window of two octets, lengths of none and of five; another group, a wrong length
+-- field, a last triple that runs past the end
 abbrev pub misformed : List Row
 misformed =
     (0x81 ∷ 0x80 ∷ 6 ∷ 7 ∷ 1 ∷ 1 ∷ 7 ∷ 1 ∷ 1 ∷ []) gets Malformed

@@ -1,5 +1,5 @@
--- What the walk finds of a negotiation: the limit by the parts of the two lengths, and which identifiers are asked, each
--- by the part at its place in the table. Assumes nothing.
+-- What the walk finds of a negotiation: the limit by the parts of the two lengths, and which identifiers are asked,
+-- each by the part at its place in the table. Assumes nothing.
 use mathlib.Core.Path.{_≡_, refl, ap, _∙_}
 use mathlib.Core.Bool.{true, false, not}
 use mathlib.Core.List.{List}

@@ -7,10 +7,9 @@
 --   limitFor b      == the frame limit that a length of b bits asks for
 --   limitAsked N b  == the frame limit after N where the length b is asked, or none
 --   agreedLimit N ps == the frame limit after N by the parameters ps
---   askedIn ps      == which identifiers ps have; noneAsked == none
+--   askedIn ps      == which identifiers ps have
 --   offered N x     == what comes of the parameters x, where there are such; offerOf N m == of the payload m
 -- Assumes nothing.
-use mathlib.Core.Bool.{Bool, false}
 use mathlib.Core.List.{List, [], _∷_}
 use mathlib.Core.Option.{Option, none, some}
 use Prim.Native.Nat.{ℕ, _+_, _*_, _/_, min, max}

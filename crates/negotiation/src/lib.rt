@@ -1,6 +1,6 @@
 // Longer frames by negotiation: what the payload of an XID frame to the own address asks of the link, whose frame limit
-// is `limit`. Headline: the limit agreed is the whole octets in the smaller length asked and 4 more, 78 to 260, exactly;
-// none asked keeps it (proofs/Exactly.antt). Assumes nothing of its caller: any octets, any limit.
+// is `limit`. Headline: the limit agreed is the whole octets in the smaller length asked and 4 more, 78 to 260,
+// exactly; none asked keeps it (proofs/Exactly.antt). Assumes nothing of its caller: any octets, any limit.
 ghost use mathlib.Core.Path.{_≡_};
 ghost use mathlib.Core.Bool.{not};
 ghost use Prim.Native.Nat.{_*_, min};
@@ -27,6 +27,11 @@ pub const SENDING_ID: u8 = 7;
 
 pub const RECEIVING_ID: u8 = 8;
 
+// The most octets of a length, and of a window.
+const LENGTH_OCTETS: usize = 4;
+
+const WINDOW_OCTETS: usize = 1;
+
 // What a payload comes to: no negotiation; or the frame limit from now on, and what was asked.
 pub enum Offer {
     Malformed,
@@ -41,22 +46,22 @@ fn negotiating() -> Group
         Identifier {
             id: SENT_ID,
             least: 1,
-            most: 4,
+            most: LENGTH_OCTETS,
         },
         Identifier {
             id: RECEIVED_ID,
             least: 1,
-            most: 4,
+            most: LENGTH_OCTETS,
         },
         Identifier {
             id: SENDING_ID,
             least: 1,
-            most: 1,
+            most: WINDOW_OCTETS,
         },
         Identifier {
             id: RECEIVING_ID,
             least: 1,
-            most: 1,
+            most: WINDOW_OCTETS,
         },
         Identifier {
             id: 0,

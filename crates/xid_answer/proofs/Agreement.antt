@@ -1,5 +1,5 @@
--- What a master reads in the answer to a negotiation: the identifiers that it asked, and the device's own frame limit. Its
--- octets, spelt out. Assumes nothing.
+-- What a master reads in the answer to a negotiation: the identifiers that it asked, and the device's own frame limit.
+-- Its octets, spelt out. Assumes nothing.
 use mathlib.Core.Path.{_≡_, refl, sym, ap, _∙_}
 use mathlib.Core.Bool.{Bool, true, false, cond}
 use mathlib.Core.List.{List, [], _∷_}
@@ -15,12 +15,13 @@ use Rattle.octets.proofs.Words.{true-not-false}
 use Rattle.limits.specs.Limits.{payloadMost, isLimit}
 use Rattle.limits.proofs.Exactly.{limit-exactly}
 use Rattle.params.specs.declared.Identifier.{Identifier}
-use Rattle.params.specs.Field.{Param, _is_, tripleOf, fieldOf, xidPayload, rightLength, identifiers, AllRight, WellFormed}
-use Rattle.params.specs.Field.{noneTwice, valueFor, given}
+use Rattle.params.specs.Field.{Param, _is_, tripleOf, fieldOf, xidPayload, rightLength, identifiers, AllRight}
+use Rattle.params.specs.Field.{WellFormed, noneTwice, valueFor, given}
 use Rattle.params.proofs.Exact.{once-different}
 use Rattle.control.specs.declared.Asked.{Asked}
 use Rattle.negotiation.specs.declared.Offer.the-variants.{Agreed}
-use Rattle.negotiation.specs.Negotiation.{receivedId, sendingId, receivingId, negotiating, bitsIn, smallerOf, agreedLimit, askedIn, offerOf}
+use Rattle.negotiation.specs.Negotiation.{receivedId, sendingId, receivingId, negotiating, bitsIn, smallerOf}
+use Rattle.negotiation.specs.Negotiation.{agreedLimit, askedIn, offerOf}
 use Rattle.negotiation.proofs.Bits.{bits-two}
 use Rattle.negotiation.proofs.Exactly.{offer-agreed, limit-kept, limit-agreed}
 use Rattle.xid_answer.specs.Answer.{ifAsked, lengthValue, windowValue, negotiationParams, negotiationAnswer}
@@ -109,13 +110,13 @@ module _ (a : Asked) (N : ℕ) where
         ∙ value-same 8 windowValue [] (a .receiving) refl,
   )
     where
-      past-five : (n : ℕ) → eqb 5 n ≡ false → valueFor n (ifAsked (a .sent) (5 is lengthValue N) fromSix) ≡ valueFor n fromSix
+      past-five : (n : ℕ) → eqb 5 n ≡ false
+          → valueFor n (ifAsked (a .sent) (5 is lengthValue N) fromSix) ≡ valueFor n fromSix
       past-five n = value-other n 5 (lengthValue N) fromSix (a .sent)
 
       past-six : (n : ℕ) → eqb 5 n ≡ false → eqb 6 n ≡ false
           → valueFor n (ifAsked (a .sent) (5 is lengthValue N) fromSix) ≡ valueFor n fromSeven
-      past-six n h k =
-          value-other n 5 (lengthValue N) fromSix (a .sent) h ∙ value-other n 6 (lengthValue N) fromSeven (a .received) k
+      past-six n h k = past-five n h ∙ value-other n 6 (lengthValue N) fromSeven (a .received) k
 
   pub negotiation-formed : WellFormed negotiating (negotiationAnswer a N) (negotiationParams a N)
   unfolding negotiationAnswer negotiationParams lengthValue rightLength identifiers noneTwice valueFor
@@ -127,10 +128,11 @@ module _ (a : Asked) (N : ℕ) where
       let once₈ = once-same 8 windowValue [] (a .receiving) refl refl in
       let once₇ = once-same 7 windowValue fromEight (a .sending) (none-from-8 7 refl) once₈ in
       let once₆ = once-same 6 (lengthValue N) fromSeven (a .received) (none-from-7 6 refl refl) once₇ in
+      let once₅ = once-same 5 (lengthValue N) fromSix (a .sent) (none-from-6 5 refl refl refl) once₆ in
       record {
         octets = refl;
         right = right-same 5 (lengthValue N) fromSix t (a .sent) refl right₆;
-        once = once-different (identifiers (negotiationParams a N)) (once-same 5 (lengthValue N) fromSix (a .sent) (none-from-6 5 refl refl refl) once₆);
+        once = once-different (identifiers (negotiationParams a N)) once₅;
       }
 
   -- the identifiers that were asked, and no others

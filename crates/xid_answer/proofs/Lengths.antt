@@ -18,7 +18,8 @@ use Rattle.params.proofs.Kept.{of-both}
 use Rattle.control.specs.declared.Asked.{Asked}
 use Rattle.xid.specs.Addressing.{identityId, addressId, kindId, addressing}
 use Rattle.xid_answer.specs.Answer.{scanParams, assignmentParams, scanAnswer, assignmentAnswer, negotiationAnswer}
-use Rattle.xid_answer.proofs.Stored.{scan-length, assignment-length, length-scan, length-assignment, length-negotiation}
+use Rattle.xid_answer.proofs.Stored.{scan-length, assignment-length, length-scan, length-assignment}
+use Rattle.xid_answer.proofs.Stored.{length-negotiation}
 
 -- "length field n+8"
 pub scan-field : (i : List ℕ) (a : ℕ) → getD (scanAnswer i a) 2 0 ≡ length i + 8

@@ -2,7 +2,7 @@
 use mathlib.Core.Path.{_≡_, refl, sym, _∙_}
 use mathlib.Core.List.{List, [], _∷_, _++_, append-nil}
 use mathlib.Core.Bool.{Bool, true, false, cond}
-use Prim.Native.Nat.{ℕ, _+_, _-_, _*_, _/_, _%_, _<_, _≤_, min}
+use Prim.Native.Nat.{ℕ, _+_, _-_, _*_, _/_, _%_, _≤_, min}
 use native.Mathlib.Nat.{add-zero, zero-add}
 use native.Mathlib.Omega.{arith}
 use lib.ListN.{length, take, set, replicate, length-append, length-take}
@@ -68,15 +68,17 @@ module _ (i o : List ℕ) {o₁ o₂ o₃ : List ℕ} {a : ℕ} where
       let third : Run o₄ n [] o 0 xs = run-put kind r refl second in
       rw (scan-length i address) (run-done refl third)
 
-  pub assignment-stored : {n : ℕ} → o₁ ≡ sets o 0 (opening groupOctet (length i + 5)) → Puts o₁ 3 (tripleOf (identityId is i)) a o₂
-      → Puts o₂ a (tripleOf (kindId is (deviceType ∷ []))) n o₃ → Puts o 0 (assignmentAnswer i) n o₃
+  pub assignment-stored : {n : ℕ} → o₁ ≡ sets o 0 (opening groupOctet (length i + 5))
+      → Puts o₁ 3 (tripleOf (identityId is i)) a o₂ → Puts o₂ a (tripleOf (kindId is (deviceType ∷ []))) n o₃
+      → Puts o 0 (assignmentAnswer i) n o₃
   unfolding assignmentAnswer xidPayload assignmentParams fieldOf
   assignment-stored {n} s p r =
       let own = tripleOf (identityId is i) in
       let kind = tripleOf (kindId is (deviceType ∷ [])) in
       let xs = opening groupOctet (length i + 5) ++ (own ++ (kind ++ [])) in
       let all : Run o 0 xs o 0 xs = run-all in
-      let opened : Run o₁ 3 (own ++ (kind ++ [])) o 0 xs = run-some (opening groupOctet (length i + 5)) s refl refl all in
+      let opened : Run o₁ 3 (own ++ (kind ++ [])) o 0 xs =
+      run-some (opening groupOctet (length i + 5)) s refl refl all in
       let first : Run o₂ a (kind ++ []) o 0 xs = run-put own p refl opened in
       let second : Run o₃ n [] o 0 xs = run-put kind r refl first in
       rw (assignment-length i) (run-done refl second)
@@ -100,16 +102,10 @@ length-asking true n v = length-triple n v
 length-asking false n v = refl
 
 -- the octets of (N - 4) · 8
-pub no-length : (N : ℕ) → N < 4 → 0 ∷ 0 ∷ [] ≡ lengthValue N
+pub length-octets : (N : ℕ) {high low : ℕ} → high ≡ (N - 4) * 8 / 256 % 256 → low ≡ (N - 4) * 8 % 256
+    → high ∷ low ∷ [] ≡ lengthValue N
 unfolding lengthValue
-no-length N h = let none : N - 4 ≡ 0 = omega arith in rw none
-
-pub some-length : (N : ℕ) → (N - 4) / 32 % 256 ∷ (N - 4) % 32 * 8 ∷ [] ≡ lengthValue N
-unfolding lengthValue
-some-length N =
-    let high : (N - 4) / 32 % 256 ≡ (N - 4) * 8 / 256 % 256 = omega arith in
-    let low : (N - 4) % 32 * 8 ≡ (N - 4) * 8 % 256 = omega arith in
-    rw (high, low)
+length-octets N h l = rw (h, l)
 
 field-asked : (asked : Bool) (n : ℕ) (v : List ℕ) (ps : List Param)
     → fieldOf (ifAsked asked (n is v) ps) ≡ asking asked n v ++ fieldOf ps
@@ -186,11 +182,12 @@ module _ (row : List ℕ) (count : ℕ) (h : length row ≡ width) {n : ℕ} (e 
 pub length-negotiation : (a : Asked) (N : ℕ) → length (negotiationAnswer a N) ≤ 17
 unfolding negotiationAnswer xidPayload
 length-negotiation a N =
-    omega (arith, negotiation-length a N, some (a .sent) 4, some (a .received) 4, some (a .sending) 3, some (a .receiving) 3)
+    let long = negotiation-length a N in
+    omega (arith, long, most (a .sent) 4, most (a .received) 4, most (a .sending) 3, most (a .receiving) 3)
   where
-    some : (asked : Bool) (n : ℕ) → cond asked n 0 ≤ n
-    some true n = omega arith
-    some false n = omega arith
+    most : (asked : Bool) (n : ℕ) → cond asked n 0 ≤ n
+    most true n = omega arith
+    most false n = omega arith
 
 pub negotiation-held : (a : Asked) (N : ℕ) {r : ℕ} {o : List ℕ}
     → Puts (replicate replyMost 0) 0 (negotiationAnswer a N) r o

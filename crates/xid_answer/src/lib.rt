@@ -1,6 +1,6 @@
-// The payloads of a device's answers to a scan, to an assignment and to a negotiation. Headline: they are the well-formed
-// payloads that 01 and 02 list, the first two with length fields n+8 and n+5 (proofs/Lengths.antt), and who reads the third
-// reads the limit that was agreed (proofs/Agreement.antt). Assumes nothing of its caller: any plate, any limit.
+// The payloads of a device's answers to a scan, to an assignment and to a negotiation. Headline: they are the
+// well-formed payloads that 01 and 02 list, the first two with length fields n+8 and n+5 (proofs/Lengths.antt), and who
+// reads the third reads the device's limit (proofs/Agreement.antt). Assumes nothing of its caller: any plate, any limit.
 ghost use mathlib.Core.Path.{_≡_};
 ghost use mathlib.Core.Bool.{cond};
 ghost use mathlib.Core.List.{[]};
@@ -76,11 +76,10 @@ fn put_assignment_answer(out: &mut [u8], identity: &[u8]) -> usize
 fn length_value(limit: usize) -> [u8; 2]
     ensures { λ r. ⌜ r ≡ lengthValue limit ⌝ }
 {
-    if limit < 4 {
-        return [0, 0];
-    }
-    let most = limit - 4;
-    [(most / 32 % 256) as u8, (most % 32 * 8) as u8]
+    let most = limit - octets::fewer(limit, 4);
+    let high = (most / 32 % 256) as u8;
+    let low = (most % 32 * 8) as u8;
+    [high, low]
 }
 
 // How many octets a triple of `count` octets takes: none where it was not asked.
@@ -93,8 +92,8 @@ fn if_asked(asked: bool, count: u8) -> u8
 // Puts a triple at a place where it was asked, and gives the place behind it.
 fn put_if(out: &mut [u8], at: usize, asked: bool, id: u8, value: &[u8]) -> usize
     requires { ⌜ (at ≤ replyMost) × (length (now value) ≤ width) ⌝ }
-    ensures { λ r. ⌜ Puts (now (out .entry)) at (cond asked (tripleOf (id is now (value .entry))) []) r (now (out .exit))
-        × (r ≤ at + (length (now (value .entry)) + 2)) ⌝ }
+    ensures { λ r. ⌜ Puts (now (out .entry)) at (cond asked (tripleOf (id is now (value .entry))) []) r
+        (now (out .exit)) × (r ≤ at + (length (now (value .entry)) + 2)) ⌝ }
 {
     if asked {
         return put_param(out, at, id, value);
