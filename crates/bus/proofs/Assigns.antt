@@ -19,6 +19,7 @@ use Rattle.identity.proofs.Identities.{allowed-parts, printable-octets}
 use Rattle.record.specs.declared.Device.{Device}
 use Rattle.record.specs.declared.Link.the-variants.{AddressAssigned}
 use Rattle.record.specs.Allowed.{allowedDevice}
+use Rattle.record.proofs.Stays.{limited}
 use Rattle.record.specs.Changes.{unsaidAt, emptiedAs, endedAs}
 use Rattle.params.specs.Field.{_is_, tripleOf, fieldOf, xidPayload, rightLength, identifiers, noneTwice, valueFor}
 use Rattle.params.proofs.Exact.{once-different}
@@ -59,13 +60,13 @@ module _ (m : List ℕ) (octets : Octets m) (fits : length m ≤ 74) (d : Device
       })
   unfolding saying reacts frameBy controlBy payloadBy emptiedAs unsaidAt
   taken-heard a e =
-      judged-heard _ (assignment-taken d m (omega arith) a (assignment-exactly (identityIn d) m a .0 e))
+      judged-heard _ (assignment-taken d m (omega (arith, limited d allowed .0)) a (assignment-exactly (identityIn d) m a .0 e))
 
   -- nothing: the device stays as it was, and no answer comes
   pub silence-heard : readOf (identityIn d) m ≡ Xid.Silence
       → hears d (lineFor (0xFF ∷ 0xBF ∷ m)) ≡ gives (record { device = d; frame = none })
   unfolding saying reacts frameBy
-  silence-heard e = judged-heard _ (xid-silent d m (omega arith) e)
+  silence-heard e = judged-heard _ (xid-silent d m (omega (arith, limited d allowed .0)) e)
 
 -- ---- the frame with an identity
 

@@ -18,7 +18,7 @@ use Rattle.octets.proofs.Words.{and-parts}
 use Rattle.identity.proofs.Scans.{answers-begins}
 use Rattle.record.specs.declared.Device.{Device}
 use Rattle.record.specs.Allowed.{identityAllowed, platesAllowed, allowedDevice}
-use Rattle.record.proofs.Stays.{sound}
+use Rattle.record.proofs.Stays.{sound, limited}
 use Rattle.xid.specs.declared.Xid.{Xid}
 use Rattle.xid.proofs.Probe.{probePayload, probe-read}
 use Rattle.station.specs.declared.Say.{Say}
@@ -67,11 +67,17 @@ module _ (d : Device) (p : Bits) where
   abbrev pub asks : Bool
   asks = answersScan (identityIn d) (maskOf p) (octetsOf p)
 
-  probe-judged : judgedFrame d (0xFF ∷ 0xBF ∷ asking p) ≡ saying d (cond asks Say.Scanned Say.Silence)
+  probe-judged : allowedDevice d ≡ true
+      → judgedFrame d (0xFF ∷ 0xBF ∷ asking p) ≡ saying d (cond asks Say.Scanned Say.Silence)
   unfolding xidBy
-  probe-judged =
+  probe-judged allowed =
       everyone-is d (0xFF ∷ 0xBF ∷ asking p)
-      (record { least = omega arith; most = omega (arith, probe-long p); address = refl; control = refl })
+      (record {
+        least = omega arith;
+        most = omega (arith, probe-long p, limited d allowed .0);
+        address = refl;
+        control = refl;
+      })
       ∙ ap (xidBy d)
       (probe-read (identityIn d) (octetsOf p) (maskOf p) (length-packed width p)
       (length-packed width (ones (length p))))
@@ -86,7 +92,7 @@ module _ (d : Device) (p : Bits) where
     unfolding probeOf saying
     probe-heard =
         hears-written d 0xFF 0xBF (asking p) allowed (probe-octets p) (omega (arith, probe-long p))
-        ∙ ap (λ (t : Turn). gives (reactionOf t)) probe-judged
+        ∙ ap (λ (t : Turn). gives (reactionOf t)) (probe-judged allowed)
 
     -- it answers exactly if its identity does, and stays as it was
     pub probe-replies : repliesTo d (lineFor (probeOf p)) ≡ asks

@@ -20,7 +20,7 @@ use Rattle.frame.proofs.Lengths.{line-most, write-fits}
 use Rattle.frame.proofs.Trip.{trip}
 use Rattle.record.specs.declared.Device.{Device}
 use Rattle.record.specs.Allowed.{limitOf, allowedDevice}
-use Rattle.record.proofs.Stays.{limit-allowed}
+use Rattle.record.proofs.Stays.{limit-allowed, limited}
 use Rattle.link.specs.Link.{judgedFrame}
 use Rattle.device.specs.Judge.{reactionOf, heardBy, decodedHere, heard}
 use Rattle.device.proofs.Exact.{judge-answer}
@@ -46,10 +46,9 @@ module _ (d : Device) (a c : ℕ) (p : List ℕ) (allowed : allowedDevice d ≡ 
   unfolding hears heard heardBy
   hears-line h =
       let b : List ℕ = a ∷ c ∷ p in
-      let ok = limit-allowed d allowed in
-      let size = limit-exactly (limitOf d) .0 ok in
+      let size = limited d allowed in
       let decodes : decodedHere d (inside (lineOf b)) ≡ gives b =
-      trip b os (limitOf d) ok (frameMost limitMost) (omega arith) (omega (arith, size .0))
+      trip b os (limitOf d) (limit-allowed d allowed) (frameMost limitMost) (omega arith) (omega (arith, size .0))
       ∙ in-room b (frameMost limitMost) (omega (arith, size .0, size .1)) in
       ap (heardBy d (frameMost limitMost)) decodes
       ∙ judge-answer d b (frameMost limitMost) _ .1 (allowed, omega (arith, size .1), refl)
@@ -63,8 +62,7 @@ module _ (d : Device) (a c : ℕ) (p : List ℕ) (allowed : allowedDevice d ≡ 
   pub hears-written : length p ≤ payloadMost frameLimit
       → hears d (lineFor (a ∷ c ∷ p)) ≡ gives (reactionOf (judgedFrame d (a ∷ c ∷ p)))
   hears-written h =
-      let least = limit-exactly (limitOf d) .0 (limit-allowed d allowed) .0 in
-      ap (hears d) (line-written a c p h) ∙ hears-line (omega (arith, least))
+      ap (hears d) (line-written a c p h) ∙ hears-line (omega (arith, limited d allowed .0))
 
 -- ---- a row
 

@@ -17,9 +17,9 @@ use Rattle.control.specs.Control.{polled}
 use Rattle.record.specs.declared.Device.{Device}
 use Rattle.record.specs.declared.Link.{Link}
 use Rattle.record.specs.declared.Link.the-variants.{AddressAssigned}
-use Rattle.record.specs.Allowed.{stationAllowed, allowedDevice}
+use Rattle.record.specs.Allowed.{allowedDevice}
 use Rattle.record.specs.Changes.{unsaidAt, emptiedAs, endedAs}
-use Rattle.record.proofs.Stays.{sound}
+use Rattle.record.proofs.Stays.{sound, limited}
 use Rattle.station.specs.declared.Turn.{Turn}
 use Rattle.station.specs.Turns.{saying, mute}
 use Rattle.states.specs.States.{begun, onSnrm, ua}
@@ -45,7 +45,6 @@ pub record Ready (d : Device) : Type 0 where
 module _ (d : Device) (w : Ready d) where
   -- the address is one of 1 to 254
   address-bounds : (1 ≤ d .station .desk .address) × (d .station .desk .address ≤ 254)
-  unfolding stationAllowed
   address-bounds =
       addressed-bounds (d .station .desk .address)
       (link-addressed (d .station .desk) (d .station .link) (sound d (w .allowed) .link) (ap hasAddress (w .link)))
@@ -69,7 +68,7 @@ module _ (d : Device) (w : Ready d) where
       let (least, most) = address-bounds in
       let a = d .station .desk .address in
       let silent : judgedFrame o (a ∷ 0x93 ∷ []) ≡ mute o =
-      judged-is o (a ∷ 0x93 ∷ []) (omega arith) (omega arith)
+      judged-is o (a ∷ 0x93 ∷ []) (omega arith) (omega (arith, limited o fine .0))
       ∙ rw (ne-eqb a 0xFF (λ e. omega arith), ne-eqb a (o .station .desk .address) (λ e. other (sym e))) in
       hears-written o a 0x93 [] fine (omega arith) (omega arith) ∙ ap (λ (t : Turn). gives (reactionOf t)) silent
 

@@ -21,7 +21,7 @@ use Rattle.record.specs.declared.Link.the-variants.{NoAddress, AddressAssigned,
 use Rattle.record.specs.declared.Device.{Device}
 use Rattle.record.specs.Allowed.{identityOf, limitOf, allowedDevice}
 use Rattle.record.specs.Changes.{unsaidAt, emptiedAs, endedAs}
-use Rattle.record.proofs.Stays.{sound, limit-allowed}
+use Rattle.record.proofs.Stays.{sound, limited}
 use Rattle.xid.specs.Match.{readOf}
 use Rattle.xid.specs.Meaning.{ScanOf, AssignmentOf, Meant, Answers, Takes}
 use Rattle.xid.specs.declared.Xid.{Xid}
@@ -37,7 +37,6 @@ use Rattle.link.specs.Link.{judgedFrame}
 use Rattle.link.specs.Frames.{controlOf, Own, Everyone}
 use Rattle.link.proofs.Cases.{own-is, everyone-is}
 use Rattle.limits.specs.Limits.{frameMost}
-use Rattle.limits.proofs.Exactly.{limit-exactly}
 use Rattle.conduct.specs.Conduct.{after}
 use Rattle.conduct.proofs.Addressed.{link-addressed, addressed-bounds}
 
@@ -86,7 +85,7 @@ module _ (d : Device) (allowed : allowedDevice d ≡ true) (assigned : hasAddres
       let self : eqb a a ≡ true = eq-eqb a a refl in
       record {
         least = omega arith;
-        most = omega (arith, limit-exactly (limitOf d) .0 (limit-allowed d allowed) .0);
+        most = omega (arith, limited d allowed .0);
         poll = refl;
         all = ne-eqb a 0xFF (λ e. omega (arith, bounds .1, e));
         own = rw (zero, self);

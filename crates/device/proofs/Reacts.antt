@@ -15,14 +15,13 @@ use Rattle.refusal.specs.Answer.{Answer, gives, refuses, answered, Hands}
 use Rattle.refusal.proofs.Answers.{octets-told, refusal-told}
 use Rattle.record.specs.declared.Device.{Device}
 use Rattle.record.specs.Allowed.{limitOf, allowedDevice}
-use Rattle.record.proofs.Stays.{limit-allowed}
+use Rattle.record.proofs.Stays.{limited}
 use Rattle.station.specs.declared.Say.{Say}
 use Rattle.station.specs.declared.Turn.{Turn}
 use Rattle.link.specs.Link.{judgedFrame}
 use Rattle.speech.specs.declared.Spoken.{Spoken}
 use Rattle.speech.specs.Speech.{isSilent, controlBy, payloadBy, frameBy, spokenMost, spokenOf}
 use Rattle.limits.specs.Limits.{frameMost}
-use Rattle.limits.proofs.Exactly.{limit-exactly}
 use Rattle.device.specs.declared.Said.the-variants.{Silence, Frame, Refused}
 use Rattle.device.specs.declared.Judged.{Judged}
 use Rattle.device.specs.Judge.{Reaction, reacts, reactionOf, judgeRows, judged, heardBy, decodedHere, heard, refusalIn}
@@ -95,7 +94,7 @@ module _ (d : Device) (f o : List ℕ) where
 
   -- the room that the frame limit asks for is enough for every answer
   pub roomy : allowedDevice d ≡ true → frameMost (limitOf d) ≤ length o → spokenMost ≤ length o
-  roomy e h = omega (arith, limit-exactly (limitOf d) .0 (limit-allowed d e) .0, h)
+  roomy e h = omega (arith, limited d e .0, h)
 
   -- the turn's device and what it says
   pub turned : allowedDevice d ≡ true → frameMost (limitOf d) ≤ length o → {t : Turn} {r : Judged} {o' : List ℕ}

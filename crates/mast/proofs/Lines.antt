@@ -13,7 +13,7 @@ use Rattle.refusal.specs.declared.Handed.{Handed}
 use Rattle.refusal.specs.declared.Handed.the-variants.{Octets, Refused}
 use Rattle.refusal.specs.Answer.{Answer, gives, refuses, answerOf, counted, outAfter, Hands}
 use Rattle.refusal.proofs.Answers.{gives-not-refuses, gives-same, octets-told, in-room}
-use Rattle.limits.specs.Limits.{frameLimit, frameMost, lineMost}
+use Rattle.limits.specs.Limits.{frameLimit, limitMost, frameMost, lineMost}
 use Rattle.frame.specs.Line.{inside}
 use Rattle.frame.specs.Write.{written}
 use Rattle.record.specs.declared.Device.{Device}
@@ -25,7 +25,7 @@ use Rattle.scan.specs.declared.Scan.{Scan}
 use Rattle.scan.specs.Record.{beginningOf}
 use Rattle.scan.specs.Scan.{probeLength, probeOf, over, probed}
 use Rattle.scan.proofs.Probes.{length-probe, probed-over, probed-open}
-use Rattle.bus.specs.Cable.{octetsGiven, lineFor, hears, isFrame, withFrame}
+use Rattle.bus.specs.Cable.{octetsGiven, lineWith, lineFor, hears, isFrame, withFrame}
 use Rattle.mast.specs.Steps.{lineIn, sizeIn, givenIn, frameIn, isHandedOut, Probing, Listens}
 use Rattle.mast.specs.declared.Written.{Written}
 
@@ -52,7 +52,7 @@ pub probe-line : (f : List ℕ) (m : ℕ) {o o' : List ℕ} {r : Handed} {n : �
     → Hands (written frameLimit (getD f 0 0) (getD f 1 0) (take (m - 2) (drop 2 f)) (lineMost frameLimit)) o r o'
     → n ≡ sizeIn r
     → take n o' ≡ lineFor f
-unfolding lineFor
+unfolding lineWith
 probe-line f m {o' = o'} {r = r} long h e =
     let all : take (m - 2) (drop 2 f) ≡ drop 2 f = take-all (m - 2) (drop 2 f) (omega (arith, length-drop 2 f)) in
     ap (λ (k : ℕ). take k o') e
@@ -125,14 +125,14 @@ said-frame (gives x) s e = go (x .frame) s e
     go (some f) (Said.Refused k) e = absurd (gives-not-refuses (sym e))
 
 pub listens-is : (d : Device) (l : List ℕ) {x o o' : List ℕ} {j : Judged} {before b : Bool}
-    → Judges (heard d x (frameMost frameLimit)) d o j o' → x ≡ inside l → b ≡ (frameIn (j .said) || before)
+    → Judges (heard d x (frameMost limitMost)) d o j o' → x ≡ inside l → b ≡ (frameIn (j .said) || before)
     → Listens d l before (record { heard = b; device = j .device })
 unfolding hears
 listens-is d l {x} {j = j} {before = before} h e f =
-    let same : heard d x (frameMost frameLimit) ≡ hears d l = ap (λ (s : List ℕ). heard d s (frameMost frameLimit)) e in
+    let same : heard d x (frameMost limitMost) ≡ hears d l = ap (λ (s : List ℕ). heard d s (frameMost limitMost)) e in
     record {
       heard =
           f ∙ ap (λ (t : Bool). t || before)
-          (said-frame (heard d x (frameMost frameLimit)) (j .said) (h .said) ∙ ap withFrame same);
+          (said-frame (heard d x (frameMost limitMost)) (j .said) (h .said) ∙ ap withFrame same);
       device = h .device ∙ ap (λ (a : Answer Reaction). deviceAfter a d) same;
     }

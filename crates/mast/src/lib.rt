@@ -13,8 +13,9 @@ ghost use Rattle.mast.specs.Steps.{sizeIn, givenIn, frameIn, lineIn, Pro
 use bus::MOST;
 use bus::Row;
 use device::Said;
-use frame::FRAME_MOST;
-use frame::LINE_MOST;
+use limits::LIMIT;
+use limits::LINE_MOST;
+use limits::LONGEST_FRAME;
 use record::Device;
 use refusal::Handed;
 use scan::PROBE;
@@ -64,7 +65,7 @@ fn line_of(probe: [u8; PROBE]) -> Written
     ensures { λ r. ⌜ lineIn r ≡ lineFor probe ⌝ }
 {
     let mut octets = [0u8; LINE_MOST];
-    let handed = writer::write(probe[0], probe[1], &probe[2..], &mut octets);
+    let handed = writer::write(LIMIT, probe[0], probe[1], &probe[2..], &mut octets);
     Written {
         octets,
         len: size_in(handed),
@@ -122,7 +123,7 @@ fn is_heard(said: Said, before: bool) -> bool
 fn listen(device: Device, line: Written, before: bool) -> Listened
     ensures { λ r. ⌜ Listens device (lineIn line) before r ⌝ }
 {
-    let mut answer = [0u8; FRAME_MOST];
+    let mut answer = [0u8; LONGEST_FRAME];
     let octets = line.octets;
     let judged = device::hear(device, inner(&octets, line.len), &mut answer);
     let said = judged.said;

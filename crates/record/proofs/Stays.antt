@@ -12,8 +12,8 @@ use Rattle.octets.proofs.Stores.{take-start}
 use Rattle.octets.proofs.Words.{true-not-false, and-parts}
 use Rattle.refusal.specs.Answer.{gives, Clear}
 use Rattle.refusal.proofs.Exactly.{exactly-given}
-use Rattle.limits.specs.Limits.{frameLimit, isLimit}
-use Rattle.limits.proofs.Exactly.{limit-least}
+use Rattle.limits.specs.Limits.{frameLimit, isLimit, Limited}
+use Rattle.limits.proofs.Exactly.{limit-exactly, limit-least}
 use Rattle.identity.specs.Identity.{width}
 use Rattle.identity.proofs.Identities.{allowed-parts}
 use Rattle.antenna.specs.declared.Angle.{Angle}
@@ -23,7 +23,7 @@ use Rattle.antenna.specs.declared.Motion.the-variants.{Still, Moving, Owing, St
 use Rattle.antenna.specs.Motions.{inRange, runs, owesOf, unowedOf, moves}
 use Rattle.antenna.specs.Events.{canStop, restedAt, withAlarm, restedOf}
 use Rattle.antenna.proofs.Movements.{unowed-owes}
-use Rattle.record.specs.Allowed.{identityAllowed, platesAllowed, linkAllowed}
+use Rattle.record.specs.Allowed.{limitOf, identityAllowed, platesAllowed, linkAllowed}
 use Rattle.record.specs.Allowed.{stationAllowed, owedAllowed, allowedDevice}
 use Rattle.record.specs.Fresh.{identityFrom, productFrom, versionFrom, plateFrom, freshFrom}
 use Rattle.record.specs.Fresh.{textsAllowed, dataAllowed}
@@ -57,8 +57,11 @@ unfolding allowedDevice stationAllowed
 allowed-by d s = rw (s .plate, s .range, s .limit, s .link, s .owed)
 
 -- the frame limit of an allowed record is one
-pub limit-allowed : (d : Device) → allowedDevice d ≡ true → isLimit (d .station .desk .limit) ≡ true
+pub limit-allowed : (d : Device) → allowedDevice d ≡ true → isLimit (limitOf d) ≡ true
 limit-allowed d e = sound d e .limit
+
+pub limited : (d : Device) → allowedDevice d ≡ true → Limited (limitOf d)
+limited d e = limit-exactly (limitOf d) .0 (limit-allowed d e)
 
 -- a stop makes nothing owed where nothing was
 rested-owes : (m : Motion) (t : Angle) → owesOf m ≡ false → owesOf (restedOf m t) ≡ false
