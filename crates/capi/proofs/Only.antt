@@ -9,7 +9,9 @@ use denote.Ref.{now}
 use Rattle.octets.proofs.Only.{AsksNothing, Settles, SettlesAll}
 use Rattle.capi.proofs.gorittaem_check.Reads as gorittaem-check-reads
 use Rattle.capi.proofs.gorittaem_decode.Reads as gorittaem-decode-reads
+use Rattle.capi.proofs.gorittaem_decode_n.Reads as gorittaem-decode-n-reads
 use Rattle.capi.proofs.gorittaem_write.Reads as gorittaem-write-reads
+use Rattle.capi.proofs.gorittaem_write_n.Reads as gorittaem-write-n-reads
 
 -- every promise by `Crosses` allows one number and one output
 pub crosses-only : {right : Answer (List ℕ)} {o p q : List ℕ} {r s : ℕ}
@@ -22,8 +24,14 @@ gorittaem-check-only κs a r q s t = only
 pub gorittaem-decode-only : SettlesAll gorittaem-decode-reads.Learnt (λ κs s. now (s .1 .0))
 gorittaem-decode-only κs a r q s t = crosses-only
 
+pub gorittaem-decode-n-only : SettlesAll gorittaem-decode-n-reads.Learnt (λ κs s. now (s .1 .1 .0))
+gorittaem-decode-n-only κs a r q s t = crosses-only
+
 pub gorittaem-write-only : SettlesAll gorittaem-write-reads.Learnt (λ κs s. now (s .1 .1 .1 .0))
 gorittaem-write-only κs a r q s t = crosses-only
+
+pub gorittaem-write-n-only : SettlesAll gorittaem-write-n-reads.Learnt (λ κs s. now (s .1 .1 .1 .1 .0))
+gorittaem-write-n-only κs a r q s t = crosses-only
 
 pub gorittaem-check-asks : AsksNothing gorittaem-check-reads.Asked
 gorittaem-check-asks κs a = tt
@@ -31,5 +39,11 @@ gorittaem-check-asks κs a = tt
 pub gorittaem-decode-asks : AsksNothing gorittaem-decode-reads.Asked
 gorittaem-decode-asks κs a = tt
 
+pub gorittaem-decode-n-asks : AsksNothing gorittaem-decode-n-reads.Asked
+gorittaem-decode-n-asks κs a = tt
+
 pub gorittaem-write-asks : AsksNothing gorittaem-write-reads.Asked
 gorittaem-write-asks κs a = tt
+
+pub gorittaem-write-n-asks : AsksNothing gorittaem-write-n-reads.Asked
+gorittaem-write-n-asks κs a = tt

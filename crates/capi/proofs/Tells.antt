@@ -6,7 +6,7 @@ use Prim.Native.Nat.{ℕ, _-_, _<_, _≤_}
 use native.Mathlib.Omega.{arith}
 use lib.ListN.{length, take, length-take}
 use Rattle.refusal.specs.Answer.{Answer, gives, refuses}
-use Rattle.limits.specs.Limits.{lineMost}
+use Rattle.limits.proofs.Exactly.{limit-exactly}
 use Rattle.frame.specs.Line.{plain}
 use Rattle.frame.specs.Decode.{body, decoded}
 use Rattle.frame.specs.Write.{written}
@@ -24,15 +24,16 @@ body-short : (d : List ℕ) → length (body d) ≤ length d
 unfolding body
 body-short d = simp length-take (omega arith)
 
--- over the frame limit N, as long as every line is shorter than the refusals' base
-module _ (N : ℕ) (small : lineMost N < refusals) where
+-- for every number N: octets are given for a frame limit alone, and its lines stay far below the refusals' base
+module _ (N : ℕ) where
   module _ (src : List ℕ) (room : ℕ) where
     decoded-short : (b : List ℕ) → decoded N src room ≡ gives b → length b < refusals
     decoded-short b e =
         let f = decode-frame N src room b .0 e in
-        let few = f .0 .2 in
+        let most = limit-exactly N .0 (f .0) in
+        let few = f .1 .2 in
         let all = body-short (plain src) in
-        rw (← (f .3)) (omega arith)
+        rw (← (f .4)) (omega arith)
 
     pub decode-tells : {o o' : List ℕ} {r : ℕ}
         → Crosses (decoded N src room) o r o' → Tells (decoded N src room) o r o'
@@ -42,8 +43,9 @@ module _ (N : ℕ) (small : lineMost N < refusals) where
     written-short : (l : List ℕ) → written N address control payload room ≡ gives l → length l < refusals
     written-short l e =
         let f = write-line N address control payload room l .0 e in
+        let most = limit-exactly N .0 (f .0) in
         let few = line-short (address ∷ control ∷ payload) in
-        rw (← (f .2)) (omega arith)
+        rw (← (f .3)) (omega arith)
 
     pub write-tells : {o o' : List ℕ} {r : ℕ}
         → Crosses (written N address control payload room) o r o'

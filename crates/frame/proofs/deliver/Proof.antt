@@ -11,7 +11,7 @@ use Rattle.frame.proofs.deliver.Statement.{statement}
 use Rattle.frame.proofs.deliver.Tie as tie
 
 returns : tie.Need-returns
-returns c = refused TooShort (short _ _ _ (c .if1 .taken))
+returns c = refused TooShort (short _ _ _ (omega (arith, c .if1 .taken)))
 
 returns-2 : tie.Need-returns-2
 returns-2 c = refused TooLong (long _ _ _ (c .before .if1 .left) (c .if2 .taken))
