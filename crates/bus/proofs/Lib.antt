@@ -3,6 +3,7 @@ pub mod Hears
 pub mod Heard
 pub mod Scans
 pub mod Lines
+pub mod Longer
 pub mod Assigns
 pub mod Shared
 pub mod Starts

@@ -91,7 +91,7 @@ module _ (d : Device) (f : List ℕ) where
   -- ---- the frame limit
 
   -- an end, an assignment or a negotiation changes it, or else nothing does
-  abbrev Limits : Type 0
+  abbrev pub Limits : Type 0
   Limits = ((a : ℕ) × Assigns d f a)
       ⊎ (Ends d f ⊎ ((ps : List Param) × Negotiates d f × WellFormed negotiating (drop 2 f) ps))
 
@@ -119,7 +119,7 @@ module _ (d : Device) (f : List ℕ) where
   limit-by (Comes.rests s r w p q t) = inr (limit-kept d s r)
   limit-by (Comes.pauses s r w) = inr (limit-kept d s r)
 
-  limit-cases : Limits ⊎ (limitOf (after d f) ≡ limitOf d)
+  pub limit-cases : Limits ⊎ (limitOf (after d f) ≡ limitOf d)
   limit-cases =
       ⊎-elim inl (λ e. inr (ap limitOf (comes-leaves d f (comes d f)) ∙ e)) (limit-by (comes d f))
 

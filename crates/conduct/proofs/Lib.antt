@@ -18,6 +18,7 @@ pub mod Results
 pub mod Comes
 pub mod Says
 pub mod Leaves
+pub mod Limits
 pub mod Motions
 pub mod Pends
 pub mod Account

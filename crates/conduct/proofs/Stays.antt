@@ -98,7 +98,7 @@ desk-limited k n (Connected s) = ap (λ (b : Bool). addressed (k .address) && (n
     fits Answer = refl
     fits Indication = refl
 
-limited-stays : (d : Device) (n : ℕ) → allowedDevice d ≡ true → isLimit n ≡ true → allowedDevice (limitedTo d n) ≡ true
+pub limited-stays : (d : Device) (n : ℕ) → allowedDevice d ≡ true → isLimit n ≡ true → allowedDevice (limitedTo d n) ≡ true
 unfolding limitedTo deviceOf
 limited-stays d n allowed ok =
     let w = sound d allowed in

@@ -33,7 +33,7 @@ use Rattle.record.specs.Allowed.{identityAllowed, platesAllowed, numbersAllowed
 use Rattle.record.specs.Allowed.{linkAllowed, stationAllowed, owedAllowed, allowedDevice}
 use Rattle.record.specs.Fresh.{identityFrom, productFrom, versionFrom, plateFrom, freshFrom, textsAllowed, dataAllowed}
 use Rattle.record.specs.Fresh.{freshOf, blankDevice}
-use Rattle.record.specs.Changes.{unsaidAt, endedAs, canBe, afterEvent, eventRows, happened}
+use Rattle.record.specs.Changes.{unsaidAt, emptiedAs, limitedTo, canBe, afterEvent, eventRows, happened}
 use Rattle.session.specs.Session.{acknowledges, goodNumber, accepts, taken, vsOf, countsOf}
 use Rattle.station.specs.Station.{resent, awaiting}
 use Rattle.acknowledge.specs.Acknowledge.{sessionAfter, stationAfter}
@@ -56,16 +56,19 @@ use Rattle.poll.specs.Poll.{indicates, toTell, idlePoll, waitingPoll, pollOf}
 use Rattle.report.specs.Reports.{indicationOf}
 use Rattle.antenna.specs.Alarms.{changesAmong, anyDiffer}
 use Rattle.xid_answer.specs.Answer.{scanParams, assignmentParams, scanAnswer, assignmentAnswer}
+use Rattle.xid_answer.specs.Answer.{ifAsked, lengthValue, negotiationParams, negotiationAnswer}
 use Rattle.params.specs.Field.{tripleOf, fieldOf, xidPayload}
 use Rattle.inform.specs.Inform.{repliedBy, carriedBy, informOf}
 use Rattle.states.specs.States.{informedBy, polledBy, pausedBy, rnrBy}
 use Rattle.states.specs.States.{begun, renewed, released, rejected, infoBy, rrBy, connectedBy, assignedBy, linkedBy}
-use Rattle.link.specs.Link.{ownBy, xidBy, everyoneBy, isOwn, addressedBy, controlledBy, wrongSize}
+use Rattle.link.specs.Link.{orderedBy, agreedBy, negotiatedBy, ownBy, xidBy, everyoneBy, isOwn, addressedBy}
+use Rattle.link.specs.Link.{controlledBy, wrongSize}
 use Rattle.link.specs.Link.{judgedFrame}
 use Rattle.conduct.specs.Conduct.{after, Meeting, frame, event, meets, run}
 use Rattle.speech.specs.Speech.{pendingOctets, linkOctets, controlBy, payloadBy, frameBy}
 use Rattle.device.specs.Judge.{reacts, judgeRows, judged, sizeOf, toldOf, frameAt, bufferAfter}
-use Rattle.limits.specs.Limits.{frameLimit, frameMost}
+use Rattle.limits.specs.Limits.{frameLimit, isLimit, frameMost}
+use Rattle.negotiation.specs.Negotiation.{bitsFrom, smallerOf, limitFor, limitAsked, agreedLimit, askedIn, offered, offerOf}
 
 -- ---- who is tried
 
@@ -183,6 +186,10 @@ starred =
 abbrev pub rose : ℕ → Meeting
 rose k = event (Raised k)
 
+-- a negotiation of 256 octets
+abbrev pub longest : List ℕ
+longest = 7 ∷ 0xBF ∷ 0x81 ∷ 0x80 ∷ 4 ∷ 5 ∷ 2 ∷ 8 ∷ 0 ∷ []
+
 abbrev pub further : List Row
 further =
     -- "S+1 where an answer is pending, which removes it and moves S on": the result collected, acknowledged, and then get
@@ -217,6 +224,15 @@ further =
     -- "Answer, in any state: 1 (unpadded, n octets), 2, 4 in that order; length field n+8"
     ∷ gets (pos 0) [] (0xFF ∷ 0xBF ∷ 0x81 ∷ 0xF0 ∷ 6 ∷ 1 ∷ 1 ∷ 0 ∷ 3 ∷ 1 ∷ 0 ∷ [])
     (7 ∷ 0xBF ∷ 0x81 ∷ 0xF0 ∷ 0x0E ∷ 1 ∷ 6 ∷ 0x4B ∷ 0x41 ∷ 0x30 ∷ 0x31 ∷ 0x32 ∷ 0x33 ∷ 2 ∷ 1 ∷ 7 ∷ 4 ∷ 1 ∷ 1 ∷ [])
+    -- 02 (iv): lengths of 4,000 and 2,048 bits and a window of 7: the smaller, and 1; a length of 80 bits "is answered 78"
+    ∷ gets (pos 0) []
+    (7 ∷ 0xBF ∷ 0x81 ∷ 0x80 ∷ 0x0B ∷ 7 ∷ 1 ∷ 7 ∷ 6 ∷ 2 ∷ 0x0F ∷ 0xA0 ∷ 5 ∷ 2 ∷ 8 ∷ 0 ∷ [])
+    (7 ∷ 0xBF ∷ 0x81 ∷ 0x80 ∷ 0x0B ∷ 5 ∷ 2 ∷ 8 ∷ 0 ∷ 6 ∷ 2 ∷ 8 ∷ 0 ∷ 7 ∷ 1 ∷ 1 ∷ [])
+    ∷ gets (pos 0) [] (7 ∷ 0xBF ∷ 0x81 ∷ 0x80 ∷ 3 ∷ 5 ∷ 1 ∷ 80 ∷ []) (7 ∷ 0xBF ∷ 0x81 ∷ 0x80 ∷ 4 ∷ 5 ∷ 2 ∷ 2 ∷ 0x50 ∷ [])
+    -- "and 78 again after .. a session's end": 76 octets are room again after DISC
+    ∷ gets (pos 0) (frame longest ∷ snrm ∷ frame (7 ∷ 0x53 ∷ []) ∷ []) (7 ∷ 0x53 ∷ []) (7 ∷ 0x1F ∷ [])
+    -- "'own address, XID: silence' now holds for other groups"
+    ∷ silent (pos 0) [] (7 ∷ 0xBF ∷ 0x81 ∷ 0xF0 ∷ 3 ∷ 2 ∷ 1 ∷ 9 ∷ [])
     ∷ []
 
 -- ---- the statement
@@ -229,10 +245,10 @@ _also_ a b = (a, b)
 computed : All starred × All further
 unfolding All Holds heard scan.driven scan.fresh scan.ended scan.over scan.reported stateAt step stepIn noted listing
     goOn next carry zeroHalf named word packed rowsOf flat phaseOf stateOf fresh assigned run meets judged
-    judgeRows wrongSize judgedFrame controlledBy addressedBy isOwn everyoneBy xidBy ownBy linkedBy assignedBy connectedBy
+    judgeRows wrongSize judgedFrame controlledBy addressedBy isOwn everyoneBy xidBy ownBy orderedBy negotiatedBy agreedBy linkedBy assignedBy connectedBy
     rrBy infoBy rejected released begun renewed pollOf waitingPoll informedBy informOf carriedBy repliedBy polledBy saying
     deviceOf acknowledged sessionAfter stationAfter resent awaiting answersWith heeded acknowledges goodNumber
-    accepts taken vsOf countsOf polled nextOf infoOf rrOf numberedBy askedBy unsaidAt endedAs canBe afterEvent eventRows
+    accepts taken vsOf countsOf polled nextOf infoOf rrOf numberedBy askedBy unsaidAt emptiedAs limitedTo canBe afterEvent eventRows
     happened freshOf freshFrom plateFrom identityFrom productFrom versionFrom textsAllowed dataAllowed stateAfter
     answered allowedDevice owedAllowed stationAllowed linkAllowed addressed sessionAllowed pendingFits numbersAllowed
     platesAllowed identityAllowed allowedIdentity allPrintable printable lastOf holds _atStartOf_ inRange
@@ -245,13 +261,15 @@ unfolding All Holds heard scan.driven scan.fresh scan.ended scan.over scan.repor
     driveChecks checks inTable takenBy carriedOf outcome doneBy replies unanswered pendingOctets linkOctets
     controlBy payloadBy frameBy reacts sizeOf toldOf frameAt bufferAfter emptied toldAfter relieved indicates toTell
     idlePoll pausedBy rnrBy indicationOf changesAmong anyDiffer withAlarm isAlarm placeOf scanAnswer assignmentAnswer
-    scanParams assignmentParams xidPayload fieldOf tripleOf
+    scanParams assignmentParams xidPayload fieldOf tripleOf isLimit bitsFrom smallerOf limitFor limitAsked agreedLimit askedIn
+    offered offerOf ifAsked lengthValue negotiationParams negotiationAnswer
 computed = (
   (refl, refl) also (refl, refl) also (refl, refl) also (refl, refl) also (refl, refl) also (refl, refl) also refl
       also (refl, refl) also (refl, refl) also (refl, refl) also (refl, refl) also ((refl, refl), refl)
       also ((refl, refl), refl) also ((refl, refl), refl) also tt,
   (refl, refl) also (refl, refl) also (refl, refl) also (refl, refl) also (refl, refl) also (refl, refl)
       also (refl, refl) also (refl, refl) also (refl, refl) also (refl, refl) also (refl, refl) also (refl, refl)
+      also (refl, refl) also (refl, refl) also (refl, refl) also ((refl, refl), refl)
       also tt,
 )
 

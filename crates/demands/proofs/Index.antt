@@ -28,12 +28,13 @@ pub use Rattle.xid.proofs.Ends.{ends-exactly, end-exactly}
 pub use Rattle.xid.proofs.Probe.{probe-scan, probe-read}
 -- ---- why a device does not answer an XID frame: each condition, both ways, each number, both ways, and the device by them
 pub use Rattle.link.proofs.Judged.{wrong-size-exactly}
-pub use Rattle.link.proofs.Xids.{wrong-address-exactly, wrong-control-exactly, everyone-exactly}
+pub use Rattle.link.proofs.Xids.{negotiates-exactly, wrong-address-exactly, wrong-control-exactly, everyone-exactly}
+pub use Rattle.link.proofs.Xids.{negotiation-exactly}
 pub use Rattle.xid.proofs.Rows.{malformed-exactly, neither-exactly}
 pub use Rattle.xid.proofs.Exactly.{bad-address-exactly, other-identity-exactly, other-type-exactly}
 pub use Rattle.xid.proofs.Exactly.{other-vendor-exactly, other-scan-exactly}
 pub use Rattle.xid.proofs.Told.{silence-numbered}
-pub use Rattle.link.proofs.Xids.{row-1, row-2, row-3, row-4, row-5, row-6, row-7, row-8, row-9, row-10, row-none}
+pub use Rattle.link.proofs.Xids.{row-1, row-2, row-3, row-4, row-5, row-6, row-7, row-8, row-9, row-10, row-none, row-own}
 pub use Rattle.link.proofs.Xids.{xid-judged, all-judged, number-silent, answers-exactly}
 -- ---- messages: each return code exactly when, and the answer that says it; set tilt alone starts a movement; what
 -- ---- the others are answered, octet by octet
@@ -55,7 +56,7 @@ pub use Rattle.session.proofs.Numbers.{good-exactly, accepts-exactly, acknowled
 pub use Rattle.link.proofs.Silence.{own-exactly, quiet-exactly, quiet-payload}
 pub use Rattle.poll.proofs.Tells.{to-tell-exactly}
 -- ---- what is allowed stays so, and no run from a fresh device meets refusal 6
-pub use Rattle.record.proofs.Stays.{event-stays, end-stays, fresh-allowed}
+pub use Rattle.record.proofs.Stays.{event-stays, emptied-stays, end-stays, fresh-allowed}
 pub use Rattle.conduct.proofs.Stays.{stays-allowed}
 pub use Rattle.conduct.proofs.Runs.{run-allowed, never-refused, event-never-refused}
 -- ---- conduct: what comes of any frame; a tilt only when due, and never again; R and S; results and alarms; sessions' ends
@@ -90,6 +91,7 @@ pub use Rattle.frame.proofs.Only.{decode-asks}
 pub use Rattle.writer.proofs.Only.{write-asks}
 pub use Rattle.refusal.proofs.Only.{hand-out-asks}
 pub use Rattle.capi.proofs.Only.{gorittaem-check-asks, gorittaem-decode-asks, gorittaem-write-asks}
+pub use Rattle.capi.proofs.Only.{gorittaem-decode-n-asks, gorittaem-write-n-asks}
 pub use Rattle.scan.proofs.Only.{probe-asks}
 pub use Rattle.scanner.proofs.Only.{new-asks, report-asks}
 pub use Rattle.fresh.proofs.Only.{fresh-asks}
@@ -99,6 +101,7 @@ pub use Rattle.drives.proofs.Only.{obey-asks}
 -- ---- the demands
 pub use Rattle.states.proofs.Renews.{renewed-ends}
 pub use Rattle.demands.proofs.One.{hear-defined, judge-defined, decode-answers, write-answers, hand-out-answers}
+pub use Rattle.demands.proofs.One.{c-decode-n-answers, c-write-n-answers, limit-words}
 pub use Rattle.demands.proofs.One.{c-decode-answers, c-write-answers, probe-answers, report-answers, fresh-answers}
 pub use Rattle.demands.proofs.One.{happen-answers, aim-answers}
 pub use Rattle.demands.proofs.One.{obey-answers, obey-keeps, broken-words}

@@ -26,7 +26,9 @@ use Rattle.refusal.proofs.hand_out.Reads as hand-out-reads
 use denote.Ref.{now}
 use Rattle.capi.proofs.Tells.{Tells, decode-tells, write-tells}
 use Rattle.capi.proofs.gorittaem_decode.Reads as c-decode-reads
+use Rattle.capi.proofs.gorittaem_decode_n.Reads as c-decode-n-reads
 use Rattle.capi.proofs.gorittaem_write.Reads as c-write-reads
+use Rattle.capi.proofs.gorittaem_write_n.Reads as c-write-n-reads
 use Rattle.frame.proofs.decode.Reads as decode-reads
 use Rattle.writer.proofs.write.Reads as write-reads
 use Rattle.scan.proofs.probe.Reads as probe-reads
@@ -46,15 +48,17 @@ use Rattle.frame.specs.Line.{broken, plain}
 use Rattle.frame.specs.Decode.{body, rightCheck, decoded}
 use Rattle.frame.specs.Write.{lineOf, written}
 use Rattle.frame.proofs.Lines.{broken-exactly}
-use Rattle.frame.proofs.Exact.{Sized, decode-4, decode-1, decode-2, decode-3, decode-5}
-use Rattle.frame.proofs.Exact.{write-9, write-5}
+use Rattle.limits.specs.Limits.{isLimit}
+use Rattle.limits.proofs.Exactly.{limit-exactly, limit-least}
+use Rattle.frame.proofs.Exact.{Sized, decode-6, decode-4, decode-1, decode-2, decode-3, decode-5}
+use Rattle.frame.proofs.Exact.{write-6, write-9, write-5}
 use Rattle.scan.specs.Scan.{over, probed, reported}
 use Rattle.scan.specs.declared.Scan.{Scan}
 use Rattle.scan.proofs.Refusals.{Over, over-exactly, report-seven, probe-seven, probe-five}
 use Rattle.record.specs.declared.Device.{Device}
 use Rattle.record.specs.declared.Event.{Event}
 use Rattle.record.specs.declared.Span.{Span}
-use Rattle.record.specs.Allowed.{allowedDevice, AllowedRecord}
+use Rattle.record.specs.Allowed.{limitOf, allowedDevice, AllowedRecord}
 use Rattle.record.specs.Fresh.{freshOf, dataAllowed, AllowedData, antennaFrom, blankDevice}
 use Rattle.record.specs.Changes.{canBe, CanHappen, happened}
 use Rattle.record.proofs.Only.{fresh-6, happen-6, happen-8}
@@ -123,6 +127,7 @@ unsaid d f = go (judgedFrame d f .say) refl
     go (Say.Pend c) e h = absurd (none-not-some (sym h))
     go Say.Scanned e h = absurd (none-not-some (sym h))
     go Say.Assigned e h = absurd (none-not-some (sym h))
+    go (Say.Negotiated a) e h = absurd (none-not-some (sym h))
 
 -- by any answer that comes of a frame, judged by an allowed device
 defined : (x : Answer Reaction) (d : Device) (f o : List ℕ) {r : Judged} {o' : List ℕ}
@@ -168,14 +173,14 @@ judge-defined κs a r s =
     defined (judged (a .0) f room) (a .0) f (now (a .1 .1 .0))
     (λ y e. let g = judge-answer (a .0) f room y .0 e in (g .0, g .2))
 
--- the codec
+-- the codec, with any number for the frame limit
 pub decode-answers : (κs : _) (a : _) (r : _) (s : _) → decode-reads.Learnt κs a r s
-    → Hands-out (decoded 78 (now (a .0)) (length (now (a .1 .0)))) (now (a .1 .0)) r (now (s .1 .0))
+    → Hands-out (decoded (a .0) (now (a .1 .0)) (length (now (a .1 .1 .0)))) (now (a .1 .1 .0)) r (now (s .1 .1 .0))
 decode-answers κs a r s = hands-out _ r
 
 pub write-answers : (κs : _) (a : _) (r : _) (s : _) → write-reads.Learnt κs a r s
-    → Hands-out (written 78 (a .0) (a .1 .0) (now (a .1 .1 .0)) (length (now (a .1 .1 .1 .0)))) (now (a .1 .1 .1 .0)) r
-    (now (s .1 .1 .1 .0))
+    → Hands-out (written (a .0) (a .1 .0) (a .1 .1 .0) (now (a .1 .1 .1 .0)) (length (now (a .1 .1 .1 .1 .0))))
+    (now (a .1 .1 .1 .1 .0)) r (now (s .1 .1 .1 .1 .0))
 write-answers κs a r s = hands-out _ r
 
 pub hand-out-answers : (κs : _) (a : _) (r : _) (s : _) → hand-out-reads.Learnt κs a r s
@@ -185,12 +190,22 @@ hand-out-answers κs a r s = hands-out _ r
 -- the codec, to a program in C: the number tells the answer
 pub c-decode-answers : (κs : _) (a : _) (r : _) (s : _) → c-decode-reads.Learnt κs a r s
     → Tells (decoded 78 (now (a .0)) (length (now (a .1 .0)))) (now (a .1 .0)) r (now (s .1 .0))
-c-decode-answers κs a r s = decode-tells 78 (omega arith) (now (a .0)) (length (now (a .1 .0)))
+c-decode-answers κs a r s = decode-tells 78 (now (a .0)) (length (now (a .1 .0)))
+
+pub c-decode-n-answers : (κs : _) (a : _) (r : _) (s : _) → c-decode-n-reads.Learnt κs a r s
+    → Tells (decoded (a .0) (now (a .1 .0)) (length (now (a .1 .1 .0)))) (now (a .1 .1 .0)) r (now (s .1 .1 .0))
+c-decode-n-answers κs a r s = decode-tells (a .0) (now (a .1 .0)) (length (now (a .1 .1 .0)))
 
 pub c-write-answers : (κs : _) (a : _) (r : _) (s : _) → c-write-reads.Learnt κs a r s
     → Tells (written 78 (a .0) (a .1 .0) (now (a .1 .1 .0)) (length (now (a .1 .1 .1 .0)))) (now (a .1 .1 .1 .0)) r
     (now (s .1 .1 .1 .0))
-c-write-answers κs a r s = write-tells 78 (omega arith) (a .0) (a .1 .0) (now (a .1 .1 .0)) (length (now (a .1 .1 .1 .0)))
+c-write-answers κs a r s = write-tells 78 (a .0) (a .1 .0) (now (a .1 .1 .0)) (length (now (a .1 .1 .1 .0)))
+
+pub c-write-n-answers : (κs : _) (a : _) (r : _) (s : _) → c-write-n-reads.Learnt κs a r s
+    → Tells (written (a .0) (a .1 .0) (a .1 .1 .0) (now (a .1 .1 .1 .0)) (length (now (a .1 .1 .1 .1 .0))))
+    (now (a .1 .1 .1 .1 .0)) r (now (s .1 .1 .1 .1 .0))
+c-write-n-answers κs a r s =
+    write-tells (a .0) (a .1 .0) (a .1 .1 .0) (now (a .1 .1 .1 .0)) (length (now (a .1 .1 .1 .1 .0)))
 
 -- a scan: asking changes nothing in it, so it is not handed back
 pub probe-answers : (κs : _) (a : _) (r : _) (s : _) → probe-reads.Learnt κs a r s
@@ -241,26 +256,65 @@ obey-keeps κs a r s w said =
     (sym (ap (λ (x : After). isNo (x .reply)) (w .after)) ∙ said) in
     (ap (λ (x : After). x .row) (w .after) ∙ kept .0, w .lent ∙ kept .1)
 
--- ---- which number, "each exactly then", in the order of 01: "The decoder tests 4, 1, 2, 3, 5"
+-- ---- which number, "each exactly then", in the order of 01: "The decoder tests 4, 1, 2, 3, 5"; 02 (iv): "outside 78 to
+-- 260: refusal 6 first"
 
+-- "78 to 260"
+pub limit-words : (N : ℕ) → isLimit N ≡ true ↔ (78 ≤ N) × (N ≤ 260)
+limit-words = limit-exactly
+
+-- for every number N; "refusal 2 means more than N"
+module _ (N : ℕ) (s : List ℕ) (room : ℕ) where
+  pub decode-numbers : (decoded N s room ≡ refuses 6 ↔ isLimit N ≡ false)
+      × (decoded N s room ≡ refuses 4 ↔ (isLimit N ≡ true) × (broken s ≡ true))
+      × (decoded N s room ≡ refuses 1 ↔ (isLimit N ≡ true) × (broken s ≡ false) × (length (plain s) < 4))
+      × (decoded N s room ≡ refuses 2
+      ↔ (isLimit N ≡ true) × (broken s ≡ false) × (4 ≤ length (plain s)) × (N < length (plain s)))
+      × (decoded N s room ≡ refuses 3 ↔ (isLimit N ≡ true) × Sized N s room × (rightCheck (plain s) ≡ false))
+      × (decoded N s room ≡ refuses 5
+      ↔ (isLimit N ≡ true) × Sized N s room × (rightCheck (plain s) ≡ true) × (room < length (body (plain s))))
+  decode-numbers = (
+    decode-6 N s room,
+    decode-4 N s room,
+    decode-1 N s room,
+    decode-2 N s room,
+    decode-3 N s room,
+    decode-5 N s room,
+  )
+
+-- so with 01's limit, without the number 6
 module _ (s : List ℕ) (room : ℕ) where
-  pub decode-numbers : (decoded 78 s room ≡ refuses 4 ↔ broken s ≡ true)
+  pub decode-numbers-78 : (decoded 78 s room ≡ refuses 4 ↔ broken s ≡ true)
       × (decoded 78 s room ≡ refuses 1 ↔ (broken s ≡ false) × (length (plain s) < 4))
       × (decoded 78 s room ≡ refuses 2 ↔ (broken s ≡ false) × (4 ≤ length (plain s)) × (78 < length (plain s)))
       × (decoded 78 s room ≡ refuses 3 ↔ Sized 78 s room × (rightCheck (plain s) ≡ false))
       × (decoded 78 s room ≡ refuses 5
       ↔ Sized 78 s room × (rightCheck (plain s) ≡ true) × (room < length (body (plain s))))
-  decode-numbers =
-      (decode-4 78 s room, decode-1 78 s room, decode-2 78 s room, decode-3 78 s room, decode-5 78 s room)
+  decode-numbers-78 = (
+    Iff·trans (decode-4 78 s room) (λ w. w .1, λ e. (limit-least, e)),
+    Iff·trans (decode-1 78 s room) (λ w. (w .1, w .2), λ w. (limit-least, w .0, w .1)),
+    Iff·trans (decode-2 78 s room) (λ w. (w .1, w .2, w .3), λ w. (limit-least, w .0, w .1, w .2)),
+    Iff·trans (decode-3 78 s room) (λ w. (w .1, w .2), λ w. (limit-least, w .0, w .1)),
+    Iff·trans (decode-5 78 s room) (λ w. (w .1, w .2, w .3), λ w. (limit-least, w .0, w .1, w .2)),
+  )
 
 -- "0x7E inside, or 0x7D as the last octet", in words
 pub broken-words : (s : List ℕ) → broken s ≡ true ↔ OneOf 0x7E s ⊎ ((0 < length s) × (getD s (length s - 1) 0 ≡ 0x7D))
 broken-words = broken-exactly
 
--- "the writer 9, then 5"
-pub write-numbers : (a c : ℕ) (p : List ℕ) (room : ℕ) → (written 78 a c p room ≡ refuses 9 ↔ 74 < length p)
+-- "the writer 9, then 5", and 6 before them; "9 more than N - 4"
+pub write-numbers : (N a c : ℕ) (p : List ℕ) (room : ℕ) → (written N a c p room ≡ refuses 6 ↔ isLimit N ≡ false)
+    × (written N a c p room ≡ refuses 9 ↔ (isLimit N ≡ true) × (N - 4 < length p))
+    × (written N a c p room ≡ refuses 5
+    ↔ (isLimit N ≡ true) × (length p ≤ N - 4) × (room < length (lineOf (a ∷ c ∷ p))))
+write-numbers N a c p room = (write-6 N a c p room, write-9 N a c p room, write-5 N a c p room)
+
+pub write-numbers-78 : (a c : ℕ) (p : List ℕ) (room : ℕ) → (written 78 a c p room ≡ refuses 9 ↔ 74 < length p)
     × (written 78 a c p room ≡ refuses 5 ↔ (length p ≤ 74) × (room < length (lineOf (a ∷ c ∷ p))))
-write-numbers a c p room = (write-9 78 a c p room, write-5 78 a c p room)
+write-numbers-78 a c p room = (
+  Iff·trans (write-9 78 a c p room) (λ w. w .1, λ h. (limit-least, h)),
+  Iff·trans (write-5 78 a c p room) (λ w. (w .1, w .2), λ w. (limit-least, w .0, w .1)),
+)
 
 -- "the scanner 7, then 5"
 pub probe-numbers : (s : Scan) (room : ℕ) → (probed s room ≡ refuses 7 ↔ Over s)
@@ -270,9 +324,9 @@ probe-numbers s room = (Iff·trans (probe-seven s room) (over-exactly s), probe-
 pub report-numbers : (s : Scan) (a : Bool) → reported s a ≡ refuses 7 ↔ Over s
 report-numbers s a = Iff·trans (report-seven s a) (over-exactly s)
 
--- "the device 6, then 5 for a frame or 8 for an event"
+-- "the device 6, then 5 for a frame or 8 for an event"; 02 (iv): 76 is N - 2, of the link's frame limit N
 pub judge-numbers : (d : Device) (f : List ℕ) (room : ℕ) → (judged d f room ≡ refuses 6 ↔ allowedDevice d ≡ false)
-    × (judged d f room ≡ refuses 5 ↔ (allowedDevice d ≡ true) × (room < 76))
+    × (judged d f room ≡ refuses 5 ↔ (allowedDevice d ≡ true) × (room < limitOf d - 2))
 judge-numbers d f room = (judge-6 d f room, judge-5 d f room)
 
 pub event-numbers : (d : Device) (e : Event) → (happened d e ≡ refuses 6 ↔ allowedDevice d ≡ false)
@@ -295,12 +349,18 @@ data-words = data-exactly
 pub event-words : (n : Antenna) (e : Event) → canBe n e ≡ true ↔ CanHappen n e
 event-words = can-exactly
 
--- octets from the line: the decoder's numbers at once, then 6, then 5
+-- octets from the line: 6 for a record whose frame limit is none, the decoder's numbers with that limit at once, then 6,
+-- then 5
 module _ (d : Device) (s : List ℕ) (room : ℕ) where
-  pub hear-numbers : (heard d s room ≡ refuses 4 ↔ broken s ≡ true)
-      × (heard d s room ≡ refuses 1 ↔ (broken s ≡ false) × (length (plain s) < 4))
-      × (heard d s room ≡ refuses 2 ↔ (broken s ≡ false) × (4 ≤ length (plain s)) × (78 < length (plain s)))
-      × (heard d s room ≡ refuses 3 ↔ Sized 78 s 76 × (rightCheck (plain s) ≡ false))
-      × (heard d s room ≡ refuses 6 ↔ Readable s × (allowedDevice d ≡ false))
-      × (heard d s room ≡ refuses 5 ↔ Readable s × (allowedDevice d ≡ true) × (room < 76))
-  hear-numbers = (hear-4 d s room, hear-1 d s room, hear-2 d s room, hear-3 d s room, hear-6 d s room, hear-5 d s room)
+  abbrev N : ℕ
+  N = limitOf d
+
+  pub hear-numbers : (heard d s room ≡ refuses 6 ↔ (isLimit N ≡ false) ⊎ (Readable N s × (allowedDevice d ≡ false)))
+      × (heard d s room ≡ refuses 4 ↔ (isLimit N ≡ true) × (broken s ≡ true))
+      × (heard d s room ≡ refuses 1 ↔ (isLimit N ≡ true) × (broken s ≡ false) × (length (plain s) < 4))
+      × (heard d s room ≡ refuses 2
+      ↔ (isLimit N ≡ true) × (broken s ≡ false) × (4 ≤ length (plain s)) × (N < length (plain s)))
+      × (heard d s room ≡ refuses 3 ↔ (isLimit N ≡ true) × Sized N s 258 × (rightCheck (plain s) ≡ false))
+      × (heard d s room ≡ refuses 5 ↔ Readable N s × (allowedDevice d ≡ true) × (room < N - 2))
+  hear-numbers =
+      (hear-6 d s room, hear-4 d s room, hear-1 d s room, hear-2 d s room, hear-3 d s room, hear-5 d s room)

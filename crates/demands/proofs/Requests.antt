@@ -17,6 +17,31 @@ pub use Rattle.xid.proofs.Wild.{plain-type, plain-vendor, half-wild}
 pub use Rattle.xid.proofs.Wild.{masked-neither, masked-silent}
 -- what is silence to a device is so on the cable: it stays as it was, and no answer comes
 pub use Rattle.bus.proofs.Assigns.{silence-heard}
+-- ---- (iv) longer frames by negotiation: "The frame limit N, one for both ways, is a number of the link, 78 to 260"
+-- an XID to the own address with the group 0x80: which payloads are one, both ways, and that any other is silence
+pub use Rattle.negotiation.proofs.Exactly.{negotiating-exactly, offer-exactly, offer-malformed}
+pub use Rattle.conduct.proofs.Limits.{malformed-silent}
+-- "N - 4 is the whole octets in the smaller I-field length asked; none asked keeps N; an N below 78 is answered 78": N - 4 is
+-- max 74 (min 256 (bits / 8)), exactly, so never above what was asked but for that floor, and N is 78 to 260
+pub use Rattle.negotiation.proofs.Exactly.{limit-kept, limit-agreed, limit-sent, limit-received, limit-smaller}
+pub use Rattle.negotiation.proofs.Exactly.{never-above, agreed-least}
+pub use Rattle.negotiation.proofs.Examples.{computed}
+-- "the device answers": a negotiation changes N alone; written as a line it is heard, and answered with what was asked, the
+-- limit agreed on and windows of 1, octet by octet; and who reads that answer reads that limit
+pub use Rattle.conduct.proofs.Limits.{negotiation-comes, negotiation-alone}
+pub use Rattle.bus.proofs.Longer.{negotiation-heard}
+pub use Rattle.xid_answer.proofs.Agreement.{negotiation-formed, asked-again, answer-read, answer-keeps}
+-- "78 again after an assignment or a session's end" (`limit-assigned` and `limit-ended` of `changes`, on the page Two); a
+-- first SNRM and whatever gets DM keep it; and N changes by an assignment, a session's end or a negotiation that gives a
+-- length, and by nothing else
+pub use Rattle.conduct.proofs.Limits.{first-keeps, declined-keeps, limit-changes}
+-- "Decoder .. and writer take N": `decode-numbers`, `write-numbers` on the page One, `written-reads-back`, `line-longest` on
+-- the page Two; a line of 2N + 2 octets is reached, at 78 and at 260
+pub use Rattle.frame.proofs.Longest.{line-reached-78, line-reached-260}
+-- on the cable: what the master writes with the N of the link is heard as it was put in, so after a negotiation up to the
+-- limit agreed on; what has no room in it gets 2
+pub use Rattle.bus.proofs.Hears.{hears-with}
+pub use Rattle.bus.proofs.Longer.{longer-heard, longer-refused}
 -- ---- (iii) a smaller check table: "Its answer for every input stays the same."
 -- of the two routines of the code, by what each promises: whatever the one by the table of 16 and the one by that of 256 may
 -- give for one register and the same octets is one number; `go_on` is one of them, by a constant

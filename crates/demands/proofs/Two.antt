@@ -4,12 +4,12 @@
 -- are the sentences of 01, each beside its words (specs/ of `frame`, `record`, `session`, `station`, `xid`,
 -- `message`, `poll`, `inform`, `states`, `link`, `speech`, `device`). Here stand the other two, and what shuts out a device that is always silent and a decoder that
 -- refuses everything. Proved by citation. Assumes nothing.
-use mathlib.Core.Path.{_≡_, refl, ap, _∙_}
+use mathlib.Core.Path.{_≡_, refl, ap, ap₂, _∙_}
 use mathlib.Core.Bool.{true, false}
 use mathlib.Core.List.{List, [], _∷_}
 use mathlib.Core.Logic.{_↔_}
 use mathlib.Core.Option.{some}
-use Prim.Native.Nat.{ℕ, _+_, _≤_}
+use Prim.Native.Nat.{ℕ, _+_, _-_, _*_, _≤_}
 use native.Mathlib.Omega.{arith}
 use lib.ListN.{length, take, drop}
 use Rattle.octets.specs.Octets.{Octets, _atStartOf_}
@@ -33,7 +33,10 @@ use Rattle.record.specs.declared.Session.{Session}
 use Rattle.record.specs.declared.Link.the-variants.{Connected}
 use Rattle.record.specs.declared.Device.{Device}
 use Rattle.record.specs.declared.Event.{Event}
-use Rattle.record.specs.Allowed.{allowedDevice}
+use Rattle.limits.specs.Limits.{isLimit}
+use Rattle.limits.proofs.Exactly.{limit-exactly, limit-least}
+use Rattle.record.specs.Allowed.{limitOf, allowedDevice}
+use Rattle.record.proofs.Stays.{limit-allowed}
 use Rattle.session.specs.Session.{goodNumber, accepts}
 use Rattle.session.proofs.Numbers.{accepts-exactly}
 use Rattle.acknowledge.specs.Acknowledge.{sessionAfter, acknowledged}
@@ -72,44 +75,51 @@ use Rattle.device.proofs.Fits.{address-fits}
 
 -- ---- "A frame that we write reads back as what was put in"
 
--- of the code: whatever `write` hands out for an address, a control and a payload, `decode` gives those for what lies
--- between its flags, into any output that has room for them. Of both, all that is used is what their callers learn.
+-- of the code, for every frame limit: whatever `write` hands out for an address, a control and a payload, `decode` with the
+-- same limit gives those for what lies between its flags, into any output that has room for them. Of both, all that is
+-- used is what their callers learn.
 pub written-reads-back : (κs : _) (a : _) (n : ℕ) (s : _) (κs' : _) (a' : _) (r : _) (s' : _)
-    → write-reads.Learnt κs a (Handed.Octets n) s → decode-reads.Learnt κs' a' r s'
-    → Octets (a .0 ∷ a .1 .0 ∷ now (a .1 .1 .0)) → now (a' .0) ≡ inside (take n (now (s .1 .1 .1 .0)))
-    → length (now (a .1 .1 .0)) + 2 ≤ length (now (a' .1 .0))
-    → (r ≡ Handed.Octets (length (now (a .1 .1 .0)) + 2))
-    × (now (s' .1 .0) ≡ (a .0 ∷ a .1 .0 ∷ now (a .1 .1 .0)) atStartOf now (a' .1 .0))
+    → write-reads.Learnt κs a (Handed.Octets n) s → decode-reads.Learnt κs' a' r s' → a' .0 ≡ a .0
+    → let b = a .1 .0 ∷ a .1 .1 .0 ∷ now (a .1 .1 .1 .0) in Octets b
+    → now (a' .1 .0) ≡ inside (take n (now (s .1 .1 .1 .1 .0))) → length b ≤ length (now (a' .1 .1 .0))
+    → (r ≡ Handed.Octets (length b)) × (now (s' .1 .1 .0) ≡ b atStartOf now (a' .1 .1 .0))
 unfolding outAfter
-written-reads-back κs a n s κs' a' r s' w v os e h =
-    let fits = write-line 78 (a .0) (a .1 .0) (now (a .1 .1 .0)) _ _ .0 (octets-told _ w .0) .0 in
-    let u = now (a' .1 .0) in
+written-reads-back κs a n s κs' a' r s' w v same os e h =
+    let p = now (a .1 .1 .1 .0) in
+    let line = write-line (a .0) (a .1 .0) (a .1 .1 .0) p _ _ .0 (octets-told _ w .0) in
+    let u = now (a' .1 .1 .0) in
     let back =
-    round-trip 78 (a .0) (a .1 .0) (now (a .1 .1 .0)) _ _ _ _ os (omega arith) fits h w
-    (hands-is (ap (λ (l : List ℕ). decoded 78 l (length u)) e) v) in
-    let out = hands-only back (handed (a .0 ∷ a .1 .0 ∷ now (a .1 .1 .0)) refl (omega arith) refl) in
-    (out .0 ∙ ap Handed.Octets (omega arith), back .octets)
+    round-trip (a .0) (line .0) (a .1 .0) (a .1 .1 .0) p _ _ _ _ os (line .1) (omega (arith, h)) w
+    (hands-is (ap₂ (λ (N : ℕ) (l : List ℕ). decoded N l (length u)) same e) v) in
+    let out = hands-only back (handed (a .1 .0 ∷ a .1 .1 .0 ∷ p) refl (omega arith) refl) in
+    (out .0, back .octets)
 
 -- another line may decode alike, but only by needless escapes
-pub one-line : (room : ℕ) (s b : List ℕ) → Octets s → Needed s → decoded 78 s room ≡ gives b → s ≡ inside (lineOf b)
-one-line = unique 78
+pub one-line : (N room : ℕ) (s b : List ℕ) → Octets s → Needed s → decoded N s room ≡ gives b → s ≡ inside (lineOf b)
+one-line = unique
 
 -- what is put in is written, where the line has room for it
-pub payload-written : (a c : ℕ) (p : List ℕ) (room : ℕ) → length p ≤ 74 → length (lineOf (a ∷ c ∷ p)) ≤ room
-    → written 78 a c p room ≡ gives (lineOf (a ∷ c ∷ p))
-payload-written a c p room h = write-fits 78 a c p room h
+pub payload-written : (N : ℕ) → isLimit N ≡ true → (a c : ℕ) (p : List ℕ) (room : ℕ) → length p ≤ N - 4
+    → length (lineOf (a ∷ c ∷ p)) ≤ room → written N a c p room ≡ gives (lineOf (a ∷ c ∷ p))
+payload-written = write-fits
 
--- "A line is at most 158 octets"
+-- "It needs exactly the octets it writes, at most 158", which is 2N + 2
+pub line-longest : (N a c : ℕ) (p : List ℕ) → isLimit N ≡ true → length p ≤ N - 4
+    → length (lineOf (a ∷ c ∷ p)) ≤ 2 * N + 2
+line-longest N a c p ok h = line-most N a c p (omega (arith, limit-exactly N .0 ok .0)) h
+
 pub line-158 : (a c : ℕ) (p : List ℕ) → length p ≤ 74 → length (lineOf (a ∷ c ∷ p)) ≤ 158
-line-158 a c p h = line-most 78 a c p (omega arith) h
+line-158 a c p h = line-longest 78 a c p limit-least h
 
--- a device that hears the line judges what was put in: no number of the decoder
-pub written-heard : (d : Device) (a c : ℕ) (p : List ℕ) (room : ℕ) → Octets (a ∷ c ∷ p) → length p ≤ 74
-    → heard d (inside (lineOf (a ∷ c ∷ p))) room ≡ judged d (a ∷ c ∷ p) room
+-- a device that hears the line judges what was put in, up to the frame limit of its link: no number of the decoder
+pub written-heard : (d : Device) (a c : ℕ) (p : List ℕ) (room : ℕ) → isLimit (limitOf d) ≡ true → Octets (a ∷ c ∷ p)
+    → length p ≤ limitOf d - 4 → heard d (inside (lineOf (a ∷ c ∷ p))) room ≡ judged d (a ∷ c ∷ p) room
 unfolding heard heardBy
-written-heard d a c p room os h =
+written-heard d a c p room ok os h =
+    let size = limit-exactly (limitOf d) .0 ok in
     ap (heardBy d room)
-    (trip (a ∷ c ∷ p) os 78 76 (omega arith) (omega arith) ∙ in-room (a ∷ c ∷ p) 76 (omega arith))
+    (trip (a ∷ c ∷ p) os (limitOf d) ok 258 (omega arith) (omega (arith, size .0))
+    ∙ in-room (a ∷ c ∷ p) 258 (omega (arith, size .0, size .1)))
 
 -- ---- "A tilt command is carried out only when its number is the next one due"
 
@@ -169,7 +179,7 @@ module _ (d : Device) (f : List ℕ) where
   pub each-octet : (c : Comes d f) → frameBy (left d f c) (says d f c) ≡ octetsSaid d f c
   each-octet = says-octets d f
 
-  -- part by part: when exactly address, link state, R and S, alarms, subscription, motion and what is pending change
+  -- part by part: when exactly address, frame limit, link state, R and S, alarms, subscription, motion and what is pending change
   pub changes : Account d f
   changes = account d f
 
@@ -177,10 +187,10 @@ module _ (d : Device) (f : List ℕ) where
   pub silent-same : judgedFrame d f .say ≡ Say.Silence → after d f ≡ d
   silent-same = silence-keeps d f
 
--- and so does whatever `judge` gives for an allowed device and a buffer of 76 octets or more: the device, what is said, and
--- every octet of the buffer are those of the case
+-- and so does whatever `judge` gives for an allowed device and a buffer of N - 2 octets or more (76 with 01's limit): the
+-- device, what is said, and every octet of the buffer are those of the case
 pub judge-case : (κs : _) (a : _) (r : _) (s : _) → judge-reads.Learnt κs a r s → allowedDevice (a .0) ≡ true
-    → 76 ≤ length (now (a .1 .1 .0)) → (c : Comes (a .0) (now (a .1 .0)))
+    → limitOf (a .0) - 2 ≤ length (now (a .1 .1 .0)) → (c : Comes (a .0) (now (a .1 .0)))
     → let g = octetsSaid (a .0) (now (a .1 .0)) c in (r .device ≡ left (a .0) (now (a .1 .0)) c)
     × (saidOf (r .said) ≡ gives (sizeOf g)) × (now (s .1 .1 .0) ≡ frameAt g (now (a .1 .1 .0)))
 unfolding toldOf deviceAfter bufferAfter
@@ -205,14 +215,15 @@ matching i m a = (scan-exactly i m, assignment-exactly i m a)
 
 module _ (d : Device) (allowed : allowedDevice d ≡ true) (assigned : hasAddress (d .station .link) ≡ true) where
   -- SNRM, written on the line to an assigned device, gets UA from its address
-  pub snrm-heard : (room : ℕ) → 76 ≤ room
+  pub snrm-heard : (room : ℕ) → limitOf d - 2 ≤ room
       → heard d (inside (lineOf (d .station .desk .address ∷ 0x93 ∷ []))) room
       ≡ gives
       (record { device = onSnrm d (d .station .link); frame = some (d .station .desk .address ∷ 0x73 ∷ []) })
   unfolding reacts saying frameBy controlBy payloadBy
   snrm-heard room h =
       let a = d .station .desk .address in
-      written-heard d a 0x93 [] room (omega (arith, address-fits d allowed), (omega arith, tt)) (omega arith)
+      written-heard d a 0x93 [] room (limit-allowed d allowed)
+      (omega (arith, address-fits d allowed), (omega arith, tt)) (omega arith)
       ∙ judge-answer d (a ∷ 0x93 ∷ []) room _ .1 (
         allowed,
         h,
