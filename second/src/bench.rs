@@ -39,7 +39,8 @@ impl Bench {
 
     /// "every probe goes, as a written line, to each device"; "any reply ...
     /// is 'heard'". All devices would decode the one line to the same frame,
-    /// so it is decoded once.
+    /// whatever their N, so it is decoded once. "A scan lends each device an
+    /// answer buffer of 258 octets": room for every N.
     fn heard_by_someone(&mut self, scan: &Scan) -> Result<bool, Refusal> {
         let mut probe = [0; PROBE];
         scan.probe(&mut probe)?;
@@ -58,9 +59,10 @@ impl Bench {
 }
 
 /// "the octets between two flags, as they come from the line: decoded, then
-/// judged". "`hear` decodes first."
+/// judged". "`hear` decodes with that N; a record whose N is outside gets 6
+/// from the decoder at once, before its other numbers."
 pub fn hear(record: &mut Record, line: &[u8], answer: &mut [u8]) -> Result<Option<usize>, Refusal> {
     let mut decoded = [0; MOST_FRAME];
-    let length = frame::decode(line, &mut decoded)?;
+    let length = frame::decode_n(record.limit, line, &mut decoded)?;
     device::judge(record, &decoded[..length], answer)
 }

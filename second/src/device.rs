@@ -1,7 +1,8 @@
 //! The tilt device: frames judged and events taken ("The link", "Messages").
 
-use crate::frame::{self, MOST_FRAME};
+use crate::frame;
 use crate::message;
+use crate::negotiation;
 use crate::record::{after, Answer, Drive, Link, Make, Record, Session, Unit, ALARMS};
 use crate::refusal::Refusal;
 use crate::xid;
@@ -87,15 +88,17 @@ pub fn judge(
     if !record.is_allowed() {
         return Err(Refusal::NotAllowed);
     }
-    // "an answer buffer shorter than 76 gives refusal 5 first"
-    if answer.len() < MOST_FRAME {
+    // "Refusal 5 of a judged frame is 'an answer buffer shorter than N - 2',
+    // silence 'more than N - 2 octets', with the N of the record handed in."
+    let longest = frame::longest_frame(record.limit);
+    if answer.len() < longest {
         return Err(Refusal::OutputTooShort);
     }
-    // "fewer than 2 or more than 76 octets, silence"
+    // "fewer than 2 ... octets, silence"
     let [address, control, payload @ ..] = frame else {
         return Ok(None);
     };
-    if frame.len() > MOST_FRAME {
+    if frame.len() > longest {
         return Ok(None);
     }
     match reply(record, *address, *control, payload) {
@@ -126,8 +129,11 @@ fn reply(record: &mut Record, address: u8, control: u8, payload: &[u8]) -> Optio
         return None;
     }
     let read = Control::read(control);
-    // "Own address, XID: silence. SNRM, DISC, RR or RNR with payload: silence."
-    if read == Control::Xid || read.bears_no_payload() && !payload.is_empty() {
+    if read == Control::Xid {
+        return reply_to_negotiation(record, payload);
+    }
+    // "SNRM, DISC, RR or RNR with payload: silence."
+    if read.bears_no_payload() && !payload.is_empty() {
         return None;
     }
     match record.link {
@@ -145,8 +151,16 @@ fn reply_to_everyone(record: &mut Record, control: u8, payload: &[u8]) -> Option
     Some(Reply { control: XID, payload })
 }
 
+/// "XID, poll bit set, to the device's own nonzero address, in AddressAssigned
+/// and in Connected": a device without an address has none of its own.
+fn reply_to_negotiation(record: &mut Record, payload: &[u8]) -> Option<Reply> {
+    let payload = negotiation::answer(record, payload)?;
+    Some(Reply { control: XID, payload })
+}
+
 /// "AddressAssigned: SNRM 0x93 gets UA 0x73 and Connected; anything else gets
-/// DM 0x1F."
+/// DM 0x1F." "An SNRM in AddressAssigned ends nothing and keeps N, and so does
+/// a DISC there."
 fn reply_when_assigned(record: &mut Record, read: Control) -> Reply {
     if read == Control::Snrm {
         record.link = Link::Connected(Session::default());
@@ -157,7 +171,8 @@ fn reply_when_assigned(record: &mut Record, read: Control) -> Reply {
 }
 
 /// "Connected: SNRM gets UA and starts a new session; DISC 0x53 gets UA and
-/// AddressAssigned." The rest goes to the session.
+/// AddressAssigned." The rest goes to the session. N is 78 "after a DISC, a
+/// frame reject or an SNRM in Connected".
 fn reply_when_connected(record: &mut Record, read: Control, control: u8, payload: &[u8]) -> Reply {
     match (read, &mut record.link) {
         (Control::Snrm, _) => {

@@ -14,6 +14,7 @@ pub mod generator;
 pub mod identity;
 pub mod lines;
 pub mod message;
+pub mod negotiation;
 pub mod record;
 pub mod refusal;
 pub mod scan;

@@ -3,7 +3,7 @@
 
 use std::collections::BTreeSet;
 
-use crate::frame::MOST_PAYLOAD;
+use crate::frame::{is_limit, LEAST_LIMIT};
 use crate::identity::Identity;
 use crate::refusal::Refusal;
 
@@ -17,6 +17,9 @@ pub const DEVICE_TYPE: u8 = 0x01;
 pub const MOST_PRODUCT: usize = 20;
 pub const MOST_HARDWARE: usize = 14;
 pub const MOST_SOFTWARE: usize = 14;
+
+/// "A pending answer stays at most 74 octets: no answer of ours is longer."
+pub const MOST_PENDING: usize = 74;
 
 /// What a device is made with, besides its present tilt.
 #[derive(Clone, Debug, PartialEq, Eq)]
@@ -85,6 +88,8 @@ pub struct Unit {
 pub struct Record {
     pub make: Make,
     pub address: u8,
+    /// The frame limit N: "a number of the link, beside the address".
+    pub limit: usize,
     pub link: Link,
     pub unit: Unit,
 }
@@ -119,7 +124,7 @@ impl Answer {
     /// something to tell".
     fn is_allowed(&self) -> bool {
         match self {
-            Answer::Message(payload) => payload.len() <= MOST_PAYLOAD,
+            Answer::Message(payload) => payload.len() <= MOST_PENDING,
             Answer::Indication(pairs) => {
                 !pairs.is_empty()
                     && pairs.iter().all(|(alarm, _)| ALARMS.contains(alarm))
@@ -196,7 +201,8 @@ impl Unit {
 }
 
 impl Record {
-    /// "A fresh device has address 0 and no alarms, subscription or movement."
+    /// "A fresh device has address 0 and no alarms, subscription or movement";
+    /// its N is "78 in a fresh device".
     pub fn fresh(make: Make, present: i16) -> Result<Record, Refusal> {
         let unit = Unit {
             tilt: present,
@@ -205,7 +211,7 @@ impl Record {
             told: BTreeSet::new(),
             subscribed: false,
         };
-        let record = Record { make, address: 0, link: Link::NoAddress, unit };
+        let record = Record { make, address: 0, limit: LEAST_LIMIT, link: Link::NoAddress, unit };
         if record.is_allowed() {
             Ok(record)
         } else {
@@ -219,6 +225,7 @@ impl Record {
         self.make.is_allowed()
             && self.in_range(self.unit.tilt)
             && self.address <= 254
+            && is_limit(self.limit)
             && (self.address == 0) == (self.link == Link::NoAddress)
             && self.session().is_none_or(Session::is_allowed)
             && (self.session().is_some() || !self.unit.drive.owes_result())
@@ -239,9 +246,11 @@ impl Record {
     }
 
     /// "Ending a session drops the pending answer and any tilt result owed;
-    /// alarms, subscription and a running movement stay."
+    /// alarms, subscription and a running movement stay." N is "78 again after
+    /// an assignment or a session's end".
     pub fn end_session(&mut self, then: Link) {
         self.link = then;
+        self.limit = LEAST_LIMIT;
         self.unit.drive.drop_result();
     }
 }
@@ -308,6 +317,12 @@ mod tests {
         assert!(spoilt(|record| record.address = 0));
         assert!(spoilt(|record| record.link = Link::NoAddress));
         assert!(spoilt(|record| record.unit.tilt = 101));
+        for limit in [0, 77, 261, 65_535, usize::MAX] {
+            assert!(spoilt(|record| record.limit = limit));
+        }
+        for limit in [78, 79, 259, 260] {
+            assert!(!spoilt(|record| record.limit = limit));
+        }
         assert!(spoilt(|record| {
             record.unit.raised.insert(0x04);
         }));
@@ -325,6 +340,16 @@ mod tests {
     fn pending_answers_not_allowed() {
         assert!(!spoilt(|record| record.link = pending(Answer::Message(vec![0; 74]))));
         assert!(spoilt(|record| record.link = pending(Answer::Message(vec![0; 75]))));
+        // With a larger N too.
+        for (length, refused) in [(74, false), (75, true), (256, true)] {
+            assert_eq!(
+                spoilt(|record| {
+                    record.limit = 260;
+                    record.link = pending(Answer::Message(vec![0; length]));
+                }),
+                refused
+            );
+        }
         assert!(!spoilt(
             |record| record.link = pending(Answer::Indication(vec![(2, true), (3, false)]))
         ));

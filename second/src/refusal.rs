@@ -5,7 +5,7 @@
 pub enum Refusal {
     /// 1: "decoded octets fewer than 4"
     TooFew,
-    /// 2: "decoded octets more than 78"
+    /// 2: "decoded octets more than 78"; from (iv) on "more than N"
     TooMany,
     /// 3: "frame check wrong"
     CheckWrong,
@@ -13,13 +13,15 @@ pub enum Refusal {
     BadLine,
     /// 5: "the lent output is too short"
     OutputTooShort,
-    /// 6: "device data, or a device record handed in, not allowed"
+    /// 6: "device data, or a device record handed in, not allowed"; from (iv)
+    /// on a frame limit N "outside 78 to 260" too
     NotAllowed,
     /// 7: "a probe asked of, or an answer reported to, a scan that has ended ..."
     ScanEnded,
     /// 8: "a device event that can't be"
     EventCannotBe,
-    /// 9: "payload to be written longer than 74 octets"
+    /// 9: "payload to be written longer than 74 octets"; from (iv) on "more
+    /// than N - 4"
     PayloadTooLong,
 }
 

@@ -136,7 +136,8 @@ impl Scan {
     pub fn probe(&self, output: &mut [u8]) -> Result<usize, Refusal> {
         let next = self.next()?;
         let mut octets = vec![EVERYONE, XID];
-        octets.extend(xid::written(&[(xid::IDENTITY, &next.octets), (xid::MASK, &next.mask())]));
+        let triples: [(u8, &[u8]); 2] = [(xid::IDENTITY, &next.octets), (xid::MASK, &next.mask())];
+        octets.extend(xid::written(xid::BUS_GROUP, &triples));
         frame::put(&octets, output)
     }
 

@@ -2,7 +2,7 @@
 
 use crate::bench::{self, Bench, MOST_DEVICES};
 use crate::device;
-use crate::frame;
+use crate::frame::{self, LEAST_LIMIT};
 use crate::identity::Identity;
 use crate::lines::LONGEST;
 use crate::record::{Answer, Drive, Link, Make, Record};
@@ -34,8 +34,10 @@ fn obey(bench: &mut Bench, line: &[u8]) -> Result<String, Fault> {
     // "Words are parted by one space each." Two in a row make an empty word.
     let words: Vec<&[u8]> = line.split(|&octet| octet == b' ').collect();
     match words[..] {
-        [b"decode", line, room] => decode(line, room),
-        [b"write", address, control, payload, room] => write(address, control, payload, room),
+        [b"decode", line, room] => decode(LEAST_LIMIT, line, room),
+        [b"decode-n", n, line, room] => decode(words::frame_limit(n)?, line, room),
+        [b"write", ref words @ ..] if words.len() == 4 => write(LEAST_LIMIT, words),
+        [b"write-n", n, ref words @ ..] if words.len() == 4 => write(words::frame_limit(n)?, words),
         [b"device", ref words @ ..] if words.len() == 7 => make_device(bench, words),
         [b"frame", k, frame, room] => give(bench, k, frame, room, device::judge),
         [b"hear", k, line, room] => give(bench, k, line, room, bench::hear),
@@ -43,6 +45,7 @@ fn obey(bench: &mut Bench, line: &[u8]) -> Result<String, Fault> {
         [b"raise", k, alarm] => alarm_event(bench, k, alarm, device::raise),
         [b"clear", k, alarm] => alarm_event(bench, k, alarm, device::clear),
         [b"show", k] => show(bench, k),
+        [b"limit", k] => limit(bench, k),
         [b"scan", limit] => scan(bench, limit),
         [b"begin", limit] => begin(bench, limit),
         [b"probe", room] => probe(bench, room),
@@ -54,28 +57,46 @@ fn obey(bench: &mut Bench, line: &[u8]) -> Result<String, Fault> {
 }
 
 fn is_command(word: &[u8]) -> bool {
-    const COMMANDS: [&[u8]; 13] = [
-        b"decode", b"write", b"device", b"frame", b"hear", b"stopped", b"raise", b"clear", b"show",
-        b"scan", b"begin", b"probe", b"report",
+    const COMMANDS: [&[u8]; 16] = [
+        b"decode",
+        b"decode-n",
+        b"write",
+        b"write-n",
+        b"device",
+        b"frame",
+        b"hear",
+        b"stopped",
+        b"raise",
+        b"clear",
+        b"show",
+        b"limit",
+        b"scan",
+        b"begin",
+        b"probe",
+        b"report",
     ];
     COMMANDS.contains(&word)
 }
 
-/// `decode HEX ROOM`
-fn decode(line: &[u8], room: &[u8]) -> Result<String, Fault> {
+/// `decode HEX ROOM`, the case 78 of `decode-n N HEX ROOM`
+fn decode(limit: usize, line: &[u8], room: &[u8]) -> Result<String, Fault> {
     let line = words::hex(line)?;
     let mut output = vec![FILL; words::room(room)?];
-    let result = frame::decode(&line, &mut output);
+    let result = frame::decode_n(limit, &line, &mut output);
     Ok(length_answer("frame", result, &output))
 }
 
-/// `write ADDRESS CONTROL HEX ROOM`
-fn write(address: &[u8], control: &[u8], payload: &[u8], room: &[u8]) -> Result<String, Fault> {
+/// `write ADDRESS CONTROL HEX ROOM`, the case 78 of `write-n N ADDRESS CONTROL
+/// HEX ROOM`
+fn write(limit: usize, words: &[&[u8]]) -> Result<String, Fault> {
+    let &[address, control, payload, room] = words else {
+        return Err(Fault::Words);
+    };
     let address = words::octet(address)?;
     let control = words::octet(control)?;
     let payload = words::hex(payload)?;
     let mut output = vec![FILL; words::room(room)?];
-    let result = frame::write(address, control, &payload, &mut output);
+    let result = frame::write_n(limit, address, control, &payload, &mut output);
     Ok(length_answer("line", result, &output))
 }
 
@@ -164,6 +185,13 @@ fn show(bench: &Bench, k: &[u8]) -> Result<String, Fault> {
         alarms(&record.unit.told),
         u8::from(record.unit.subscribed),
     ))
+}
+
+/// `limit K`: "the frame limit of the link of device K"
+fn limit(bench: &Bench, k: &[u8]) -> Result<String, Fault> {
+    let place = words::device(k, bench.devices.len())?;
+    let record = bench.devices.get(place).ok_or(Fault::Device)?;
+    Ok(format!("limit {}", record.limit))
 }
 
 /// "LINK is `none`, `assigned` or `connected:R:S`"

@@ -99,6 +99,12 @@ pub fn limit(word: &[u8]) -> Result<u16, Fault> {
     u16::try_from(number(word)?).map_err(|_| Fault::Number)
 }
 
+/// "N is a frame limit as it is given, any number from 0 to 65,535 (else
+/// `error number`)." Whether it is one of 78 to 260 is not asked here.
+pub fn frame_limit(word: &[u8]) -> Result<usize, Fault> {
+    limit(word).map(usize::from)
+}
+
 /// "A K that is a number but no device of the bench, negative ones too, is
 /// `error device`." Gives the device's place from 0.
 pub fn device(word: &[u8], devices: usize) -> Result<usize, Fault> {
@@ -157,6 +163,11 @@ mod tests {
         assert_eq!(
             (limit(b"65535"), limit(b"65536"), limit(b"-1")),
             (Ok(65535), Err(Fault::Number), Err(Fault::Number))
+        );
+        assert_eq!((frame_limit(b"65535"), frame_limit(b"-0")), (Ok(65535), Ok(0)));
+        assert_eq!(
+            (frame_limit(b"65536"), frame_limit(b"-1"), frame_limit(b"")),
+            (Err(Fault::Number), Err(Fault::Number), Err(Fault::Number))
         );
         assert_eq!((device(b"1", 1), device(b"2", 1)), (Ok(0), Err(Fault::Device)));
         assert_eq!((device(b"0", 1), device(b"-1", 1)), (Err(Fault::Device), Err(Fault::Device)));

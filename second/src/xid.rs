@@ -1,11 +1,16 @@
-//! XID from address 0xFF: the parameters, the scan and the assignment.
+//! XID: the payload's form, which both groups share; and XID from address
+//! 0xFF, the scan and the assignment. What is sent to the own address is in
+//! `negotiation.rs`.
 
 use crate::identity::{Identity, PADDED, VENDOR};
 use crate::record::{Link, Record, DEVICE_TYPE};
 
 /// "Payload: 0x81, 0xF0, ..."
 const FORMAT: u8 = 0x81;
-const GROUP: u8 = 0xF0;
+/// The group of scan and assignment.
+pub const BUS_GROUP: u8 = 0xF0;
+/// The group of "the HDLC parameters of ISO/IEC 13239".
+pub const HDLC_GROUP: u8 = 0x80;
 
 pub const IDENTITY: u8 = 1;
 pub const ADDRESS: u8 = 2;
@@ -39,25 +44,36 @@ pub fn answer(record: &mut Record, payload: &[u8]) -> Option<Vec<u8>> {
     }
 }
 
-impl<'frame> Parameters<'frame> {
-    /// "0x81, 0xF0, a length equal to all that follows, then triples of
-    /// identifier, length, value that fill it exactly."
-    fn read(payload: &'frame [u8]) -> Option<Parameters<'frame>> {
-        let [FORMAT, GROUP, length, field @ ..] = payload else {
+/// The triples of a payload of this group: "a length equal to all that
+/// follows, then triples of identifier, length, value that fill it exactly".
+/// Nothing where the payload isn't of that form, or of another group.
+pub fn triples(group: u8, payload: &[u8]) -> Option<Vec<(u8, &[u8])>> {
+    let [FORMAT, of_group, length, field @ ..] = payload else {
+        return None;
+    };
+    if *of_group != group || usize::from(*length) != field.len() {
+        return None;
+    }
+    let mut triples = Vec::new();
+    let mut rest = field;
+    while !rest.is_empty() {
+        let [identifier, length, following @ ..] = rest else {
             return None;
         };
-        if usize::from(*length) != field.len() {
-            return None;
-        }
+        let (value, next) = following.split_at_checked(usize::from(*length))?;
+        triples.push((*identifier, value));
+        rest = next;
+    }
+    Some(triples)
+}
+
+impl<'frame> Parameters<'frame> {
+    /// The payload's triples, each kept where it belongs. "At 0xFF the group
+    /// 0x80 is malformed, as before."
+    fn read(payload: &'frame [u8]) -> Option<Parameters<'frame>> {
         let mut parameters = Parameters::default();
-        let mut rest = field;
-        while !rest.is_empty() {
-            let [identifier, length, following @ ..] = rest else {
-                return None;
-            };
-            let (value, next) = following.split_at_checked(usize::from(*length))?;
-            parameters.keep(*identifier, value)?;
-            rest = next;
+        for (identifier, value) in triples(BUS_GROUP, payload)? {
+            parameters.keep(identifier, value)?;
         }
         Some(parameters)
     }
@@ -97,11 +113,9 @@ impl<'frame> Parameters<'frame> {
         if !identity.left_matches(self.identity?, self.mask?) {
             return None;
         }
-        Some(written(&[
-            (IDENTITY, identity.unpadded()),
-            (ADDRESS, &[record.address]),
-            (TYPE, &[DEVICE_TYPE]),
-        ]))
+        let triples: [(u8, &[u8]); 3] =
+            [(IDENTITY, identity.unpadded()), (ADDRESS, &[record.address]), (TYPE, &[DEVICE_TYPE])];
+        Some(written(BUS_GROUP, &triples))
     }
 
     /// "Then any session ends, the address is taken, the state is
@@ -110,7 +124,8 @@ impl<'frame> Parameters<'frame> {
         let address = self.address_for(record)?;
         record.end_session(Link::AddressAssigned);
         record.address = address;
-        Some(written(&[(IDENTITY, record.make.identity.unpadded()), (TYPE, &[DEVICE_TYPE])]))
+        let identity = record.make.identity.unpadded();
+        Some(written(BUS_GROUP, &[(IDENTITY, identity), (TYPE, &[DEVICE_TYPE])]))
     }
 
     /// "Assignment: 2 present, 3 absent, value 1 to 254." What is given of 1,
@@ -138,15 +153,15 @@ fn vendor_matches(identity: &Identity, value: &[u8]) -> bool {
     value == identity.vendor() || value == ANY_VENDOR
 }
 
-/// A payload of 0x81, 0xF0, length and triples. What passes the length octet
+/// A payload of 0x81, group, length and triples. What passes the length octet
 /// can't be said; no caller's triples do.
-pub fn written(triples: &[(u8, &[u8])]) -> Vec<u8> {
+pub fn written(group: u8, triples: &[(u8, &[u8])]) -> Vec<u8> {
     let mut field = Vec::new();
     for (identifier, value) in triples {
         field.extend([*identifier, value.len() as u8]);
         field.extend(*value);
     }
-    let mut payload = vec![FORMAT, GROUP, field.len() as u8];
+    let mut payload = vec![FORMAT, group, field.len() as u8];
     payload.extend(field);
     payload
 }
@@ -167,6 +182,8 @@ mod tests {
         assert_eq!(Parameters::read(&[0x81, 0xF0, 7, 1, 1, 0, 3, 1, 0, 4]), None);
         assert_eq!(Parameters::read(&[0x80, 0xF0, 6, 1, 1, 0, 3, 1, 0]), None);
         assert_eq!(Parameters::read(&[0x81, 0xF1, 6, 1, 1, 0, 3, 1, 0]), None);
+        assert_eq!(Parameters::read(&[0x81, 0x80, 6, 1, 1, 0, 3, 1, 0]), None);
+        assert_eq!(Parameters::read(&[0x81, 0x80, 0]), None);
         assert_eq!(Parameters::read(&[0x81, 0xF0, 0]), Some(Parameters::default()));
     }
 
@@ -176,23 +193,21 @@ mod tests {
         {
             for length in 0..=25 {
                 let value = vec![0x55; length];
-                let read = written(&[(identifier, &value)]);
+                let read = written(BUS_GROUP, &[(identifier, &value)]);
                 assert_eq!(Parameters::read(&read).is_some(), lengths.contains(&length));
             }
         }
         for identifier in [0, 5, 7, 0xFF] {
-            assert_eq!(Parameters::read(&written(&[(identifier, &[1])])), None);
+            assert_eq!(Parameters::read(&written(BUS_GROUP, &[(identifier, &[1])])), None);
         }
     }
 
     #[test]
     fn a_repeat_is_silence() {
         for (identifier, value) in [(1, &[1][..]), (2, &[1]), (3, &[1]), (4, &[1]), (6, &[1, 1])] {
-            assert!(Parameters::read(&written(&[(identifier, value)])).is_some());
-            assert_eq!(
-                Parameters::read(&written(&[(identifier, value), (identifier, value)])),
-                None
-            );
+            let triple = (identifier, value);
+            assert!(Parameters::read(&written(BUS_GROUP, &[triple])).is_some());
+            assert_eq!(Parameters::read(&written(BUS_GROUP, &[triple, triple])), None);
         }
     }
 

@@ -31,6 +31,48 @@ fn the_order_of_faults() {
         ("write - 00 00 1", "hex"),
         ("write 000 00 00 1", "hex"),
         ("write 01 02 00 601", "room"),
+        ("decode-n", "words"),
+        ("decode-n 78 00", "words"),
+        ("decode-n 78 00 1 1", "words"),
+        ("decode-n 013febdf 2", "words"),
+        ("decode-n 78 013febdf 2 ", "words"),
+        ("decode-n  00 1", "number"),
+        ("decode-n x zz x", "number"),
+        ("decode-n 65536 zz x", "number"),
+        ("decode-n -1 00 1", "number"),
+        ("decode-n 7e 00 1", "number"),
+        ("decode-n 99999999999999999999 00 1", "number"),
+        ("decode-n 77 zz x", "hex"),
+        ("decode-n 0 000 601", "hex"),
+        ("decode-n 78  1", "hex"),
+        ("decode-n 65535 00 x", "number"),
+        ("decode-n 261 00 601", "room"),
+        ("decode-n 260 - -1", "room"),
+        ("write-n", "words"),
+        ("write-n 05 10 00 80", "words"),
+        ("write-n 78 05 10 00 80 80", "words"),
+        ("write-n x zz zz zz x", "number"),
+        ("write-n 65536 zz zz zz x", "number"),
+        ("write-n 0 zz zz zz x", "hex"),
+        ("write-n 0 05 1 zz x", "hex"),
+        ("write-n 0 05 10 0 x", "hex"),
+        ("write-n 0 05 10 00 x", "number"),
+        ("write-n 0 05 10 00 601", "room"),
+        ("limit", "words"),
+        ("limit 1 1", "words"),
+        ("limit 1 ", "words"),
+        ("limit ", "number"),
+        ("limit x", "number"),
+        ("limit 0", "device"),
+        ("limit -0", "device"),
+        ("limit 2", "device"),
+        ("limit -1", "device"),
+        ("decode-N 78 00 1", "command"),
+        ("decode_n 78 00 1", "command"),
+        ("decoden 78 00 1", "command"),
+        ("write- 05 10 00 80", "command"),
+        ("limits 1", "command"),
+        ("Limit 1", "command"),
         ("frame 2 zz x", "device"),
         ("frame x zz x", "number"),
         ("frame 1 zz x", "hex"),
@@ -79,6 +121,11 @@ fn what_is_read_all_the_same() {
     assert_eq!(table.ask("raise 1 002"), "done");
     assert_eq!(table.ask("raise 1 -0"), "refused 8");
     assert_eq!(table.ask("write 7E 7d - 0"), "refused 5 -");
+    assert_eq!(table.ask("decode-n 00078 013FEBDF 0002"), "frame 2 013f");
+    assert_eq!(table.ask("decode-n -0 013FEBDF 2"), "refused 6 a5a5");
+    assert_eq!(table.ask("decode-n 65535 - -0"), "refused 6 -");
+    assert_eq!(table.ask("write-n 0000000000000000000260 01 3f - 6"), "line 6 7e013febdf7e");
+    assert_eq!(table.ask("limit 0000000000000000000001"), "limit 78");
 }
 
 #[test]
@@ -122,6 +169,15 @@ fn a_scan_by_hand() {
     assert_eq!(table.ask("report silent"), "complete 1 -");
 }
 
+#[test]
+fn commands_of_other_requests() {
+    // "Each comes with its request, not before."
+    let mut table = fresh(0);
+    for line in ["listen", "octets 78 - 76", "why 1 0593", "under - 1", "row -", "book"] {
+        assert_eq!(table.ask(line), "error command");
+    }
+}
+
 /// The binary's answer to a whole script.
 fn whole(script: &[u8]) -> String {
     let mut child = Command::new(env!("CARGO_BIN_EXE_second"))
@@ -160,6 +216,12 @@ fn lines_about_the_greatest_length() {
     assert_eq!(whole(line(1_999, "\n").as_bytes()), "error hex\n");
     assert_eq!(whole(line(2_001, "\n").as_bytes()), "error long\n");
     assert_eq!(whole(line(2_000, "\r\r\n").as_bytes()), "error long\n");
+    // Octets far past the largest limit still fit a line.
+    let digits = "0".repeat(2_000 - "decode-n 260  0".len() - 1);
+    assert_eq!(whole(format!("decode-n 260 {digits} 0").as_bytes()), "refused 2 -\n");
+    assert_eq!(whole(format!("decode-n 261 {digits} 0").as_bytes()), "refused 6 -\n");
+    assert_eq!(whole(format!("write-n 260 0 {digits} 0").as_bytes()), "error words\n");
+    assert_eq!(whole(format!("decode-n 260 {digits} 000").as_bytes()), "error long\n");
     assert_eq!(whole("x".repeat(2_001).as_bytes()), "error long\n");
     assert_eq!(whole("x".repeat(2_000).as_bytes()), "error command\n");
     assert_eq!(whole(format!("#{}\n", "x".repeat(100_000)).as_bytes()), "");

@@ -77,6 +77,9 @@ impl Tally {
         let line = String::from_utf8_lossy(line);
         let asked: Vec<&str> = line.split(' ').collect();
         let given: Vec<&str> = answer.split(' ').collect();
+        if given[0] != "error" {
+            self.about_limits(before, bench, &asked, &given);
+        }
         match (asked[0], given[0], before, now) {
             (_, "error", _, _) => self.count(answer),
             (command, "refused", _, _) => self.count(format!("{command} refused {}", given[1])),
@@ -87,6 +90,72 @@ impl Tally {
             ("stopped", "done", Some(before), _) => self.stopped(before),
             ("raise" | "clear", "done", Some(before), Some(now)) => self.alarm(before, now),
             (command, word, _, _) => self.count(format!("{command} {word}")),
+        }
+    }
+
+    /// What the frame limit has to do with a line without a fault.
+    fn about_limits(
+        &mut self,
+        before: Option<&Record>,
+        bench: &Bench,
+        asked: &[&str],
+        given: &[&str],
+    ) {
+        let word =
+            if given[0] == "refused" { format!("refused {}", given[1]) } else { given[0].into() };
+        match (asked[0], before) {
+            ("limit", _) => self.count(format!("limit, {}", size(given[1].parse().unwrap()))),
+            ("decode-n", _) => self.with_limit(asked, &word, decoded_octets(asked[2])),
+            ("write-n", _) => self.with_limit(asked, &word, octets_of(asked[4]) + 4),
+            ("frame" | "hear", Some(before)) => self.room(before, asked, &word),
+            ("scan", _) if bench.devices.iter().any(|record| record.limit > 78) => {
+                let some = bench.devices.iter().any(|record| record.limit == 78);
+                self.count(format!("scan with N larger, N 78 too {some}, {}", given[0]));
+            }
+            _ => (),
+        }
+        if asked[0] == "write-n" && word == "line" {
+            let length: usize = given[1].parse().unwrap();
+            let written = match length {
+                0..=158 => "up to 158 octets",
+                159..=400 => "more than 158 octets",
+                _ => "more than 400 octets",
+            };
+            self.count(format!("write-n {written}"));
+        }
+    }
+
+    /// A line for the codec with a limit: how the decoded octets lie to it.
+    fn with_limit(&mut self, asked: &[&str], word: &str, octets: usize) {
+        let limit: usize = asked[1].parse::<i64>().unwrap() as usize;
+        let command = asked[0];
+        self.count(format!("{command} {word}, {}", size(limit)));
+        if [0, 77, 78, 79, 259, 260, 261, 65_535].contains(&limit) {
+            self.count(format!("{command} at {limit}"));
+        }
+        if octets == limit {
+            self.count(format!("{command} {word}, N octets, {}", size(limit)));
+        }
+        if octets == limit + 1 {
+            self.count(format!("{command} {word}, N + 1 octets, {}", size(limit)));
+        }
+    }
+
+    /// A frame for a device: how the room lies to N - 2.
+    fn room(&mut self, before: &Record, asked: &[&str], word: &str) {
+        let room: usize = asked[3].parse::<i64>().unwrap() as usize;
+        let least = before.limit - 2;
+        let lies = match room {
+            _ if room == least => "N - 2",
+            _ if room + 1 == least => "N - 3",
+            _ if room < 76 => "under 76",
+            _ if room < least => "76 to N - 4",
+            _ => "more",
+        };
+        if matches!(word, "answer" | "silence" | "refused 5") {
+            self.count(format!("{word}, room {lies}, {}", size(before.limit)));
+        } else {
+            self.count(format!("hear {word}, {}", size(before.limit)));
         }
     }
 
@@ -129,10 +198,10 @@ impl Tally {
 
     fn frame(&mut self, before: &Record, now: &Record, asked: &[&str], given: &[&str]) {
         let octets = words::hex(asked[2].as_bytes()).unwrap();
-        let mut output = [0; 76];
+        let mut output = [0; 258];
         let octets = match asked[0] {
             "hear" => {
-                let length = frame::decode(&octets, &mut output).unwrap();
+                let length = frame::decode_n(before.limit, &octets, &mut output).unwrap();
                 &output[..length]
             }
             _ => &octets[..],
@@ -144,6 +213,8 @@ impl Tally {
             _ => &[],
         };
         self.answered(before, answered);
+        self.frame_size(before, octets, answered);
+        self.limit_after(before, now, octets, answered);
         if answered.is_empty() {
             let reason = reason(before, octets);
             if has_wild_card(octets) {
@@ -155,6 +226,13 @@ impl Tally {
             [0xFF, 0xBF, payload @ ..] if !answered.is_empty() => {
                 self.assigned(before, asked[1], octets, payload)
             }
+            [_, 0xBF, payload @ ..] if !answered.is_empty() => {
+                self.negotiated(before, now, payload)
+            }
+            _ => (),
+        }
+        match octets {
+            [0xFF, ..] => (),
             [address, _, ..] if *address == before.address && self.shared.holds(asked[1]) => {
                 self.count(format!("address shared, {}", kind(answered)))
             }
@@ -162,8 +240,11 @@ impl Tally {
         }
         self.ended(before, now, answered);
         if let (Some(session), [address, control, payload @ ..]) = (before.session(), octets) {
-            if *address == before.address && octets.len() <= 76 {
+            if *address == before.address && octets.len() <= before.limit - 2 {
                 self.controls.insert(*control);
+                if *control == 0xBF {
+                    return;
+                }
                 self.in_session(session, now, before, *control, payload, answered);
             }
         }
@@ -177,11 +258,104 @@ impl Tally {
             [_, 0x73] => self.count(format!("UA in {link}")),
             [_, 0x1F] => self.count(format!("DM in {link}")),
             [_, 0x97, _, _, cause] => self.count(format!("FRMR {cause} pending {pending}")),
+            [_, 0xBF, 0x81, 0x80, ..] => self.count(format!("XID negotiation in {link}")),
             [_, 0xBF, .., 2, 1, _, 4, 1, 1] => self.count(format!("XID scan in {link}")),
             [_, 0xBF, ..] => self.count(format!("XID assignment in {link}")),
             [_, control] if control & 0x1F == 0x11 => self.count("RR"),
             [_, control, ..] if control & 1 == 0 => self.count("I"),
             _ => panic!("{answer:?}"),
+        }
+    }
+
+    /// Frames about the longest that are read.
+    fn frame_size(&mut self, before: &Record, octets: &[u8], answer: &[u8]) {
+        let longest = before.limit - 2;
+        let lies = match octets.len() {
+            length if length == longest => "N - 2 octets",
+            length if length == longest + 1 => "N - 1 octets",
+            length if length > longest => "more octets",
+            length if length > 76 => "77 to N - 3 octets",
+            _ => return,
+        };
+        self.count(format!("{}, {lies}, {}", kind(answer), size(before.limit)));
+    }
+
+    /// What became of a limit that was larger than 78.
+    fn limit_after(&mut self, before: &Record, now: &Record, octets: &[u8], answer: &[u8]) {
+        if before.limit == 78 || octets.len() < 2 || kind(answer) == "negotiation" {
+            return;
+        }
+        let control = octets[1];
+        let by = match (control, kind(answer)) {
+            (_, "silence") => "silence",
+            (0xBF, _) if now.address == before.address && now == before => "a scan",
+            (0xBF, _) => "an assignment",
+            (0x93, "UA") => "SNRM",
+            (0x53, _) => "DISC",
+            (_, "DM") => "another that gets DM",
+            (_, "FRMR") => "a frame reject",
+            _ => "a frame of the session",
+        };
+        let what = if now.limit == 78 { "N back to 78 by" } else { "N kept by" };
+        self.count(format!("{what} {by} in {}", link(before)));
+        assert!(now.limit == 78 || now.limit == before.limit);
+    }
+
+    /// What a negotiation asked and what it changed.
+    fn negotiated(&mut self, before: &Record, now: &Record, payload: &[u8]) {
+        let order = walked(payload, 0x80).unwrap();
+        let values: BTreeMap<u8, &[u8]> = order.iter().copied().collect();
+        let identifiers: Vec<u8> = values.keys().copied().collect();
+        self.count(format!("negotiated {identifiers:?}"));
+        if !order.is_sorted() {
+            self.count("negotiated in another order");
+        }
+        let pending = before.session().and_then(|session| session.pending.as_ref());
+        match pending {
+            Some(Answer::Indication(_)) => self.count("negotiated with an indication pending"),
+            Some(Answer::Message(_)) => self.count("negotiated with a message pending"),
+            None => self.count("negotiated with nothing pending"),
+        }
+        match before.unit.drive {
+            Drive::MovingTo(_) => self.count("negotiated moving, a result owed"),
+            Drive::Moving => self.count("negotiated moving, nothing owed"),
+            Drive::Stopped { .. } => self.count("negotiated with a result waiting"),
+            Drive::Still => (),
+        }
+        let number = |identifier: u8| {
+            values.get(&identifier).map(|value| {
+                value.iter().fold(0_u64, |number, &octet| 256 * number + u64::from(octet))
+            })
+        };
+        for identifier in [5, 6] {
+            if let Some(value) = values.get(&identifier) {
+                self.count(format!("negotiated {identifier} in {} octets", value.len()));
+            }
+        }
+        let (sent, received) = (number(5), number(6));
+        if let (Some(sent), Some(received)) = (sent, received) {
+            self.count(format!("negotiated, 5 to 6 {:?}", sent.cmp(&received)));
+        }
+        let change = format!("{:?}", now.limit.cmp(&before.limit));
+        match sent.into_iter().chain(received).min() {
+            None => {
+                assert_eq!(now.limit, before.limit);
+                self.count(format!("negotiated nothing, {}", size(before.limit)));
+            }
+            Some(bits) => {
+                let kind = match bits {
+                    0..=591 => "under 592 bits",
+                    592..=599 => "592 to 599 bits",
+                    600..=2_039 => "600 to 2039 bits",
+                    2_040..=2_047 => "2040 to 2047 bits",
+                    2_048..=2_055 => "2048 to 2055 bits",
+                    _ => "more than 2055 bits",
+                };
+                self.count(format!("negotiated {kind}, N {change} from {}", size(before.limit)));
+                if [0, 591, 592, 599, 600, 2_047, 2_048].contains(&bits) {
+                    self.count(format!("negotiated exactly {bits} bits"));
+                }
+            }
         }
     }
 
@@ -319,10 +493,42 @@ fn link(record: &Record) -> &'static str {
     }
 }
 
-/// The kind of an answer from an address of the device's own.
+/// Where a frame limit lies.
+fn size(limit: usize) -> &'static str {
+    match limit {
+        0..=77 => "N under 78",
+        78 => "N 78",
+        79..=259 => "N between",
+        260 => "N 260",
+        _ => "N past 260",
+    }
+}
+
+/// How many octets a word of HEX has.
+fn octets_of(word: &str) -> usize {
+    words::hex(word.as_bytes()).unwrap().len()
+}
+
+/// How many octets remain of a line without its escapes.
+fn decoded_octets(word: &str) -> usize {
+    let line = words::hex(word.as_bytes()).unwrap();
+    let mut octets = line.iter();
+    let mut count = 0;
+    while let Some(&octet) = octets.next() {
+        if octet == 0x7D {
+            octets.next();
+        }
+        count += 1;
+    }
+    count
+}
+
+/// The kind of an answer.
 fn kind(answer: &[u8]) -> &'static str {
     match answer {
         [] => "silence",
+        [_, 0xBF, 0x81, 0x80, ..] => "negotiation",
+        [_, 0xBF, ..] => "XID",
         [_, 0x73] => "UA",
         [_, 0x1F] => "DM",
         [_, 0x97, ..] => "FRMR",
@@ -338,13 +544,17 @@ fn reason(before: &Record, octets: &[u8]) -> String {
     };
     let number_r = control >> 5;
     match (address, control) {
-        _ if octets.len() > 76 => "longer than 76".into(),
+        _ if octets.len() > before.limit - 2 => "longer than N - 2".into(),
+        (_, 0xAF) if negotiates(payload) => "poll bit clear, a negotiation".into(),
         (_, control) if control & 0x10 == 0 => "poll bit clear".into(),
         (0xFF, 0xBF) => xid_reason(before, payload),
         (0xFF, _) => "no XID to everyone".into(),
+        (address, 0xBF) if *address != before.address && negotiates(payload) => {
+            "another address, a negotiation".into()
+        }
         (0, _) => "address 0".into(),
         (address, _) if *address != before.address => "another address".into(),
-        (_, 0xBF) => "XID to the own address".into(),
+        (_, 0xBF) => negotiation_reason(payload),
         (_, 0x93) => "SNRM with payload".into(),
         (_, 0x53) => "DISC with payload".into(),
         _ => match before.session() {
@@ -358,15 +568,18 @@ fn reason(before: &Record, octets: &[u8]) -> String {
     }
 }
 
-/// The triples of an XID payload, or what is wrong with it.
-fn triples(payload: &[u8]) -> Result<BTreeMap<u8, &[u8]>, String> {
-    let [0x81, 0xF0, length, field @ ..] = payload else {
-        return Err("XID head".into());
+/// Identifiers and values of a payload of this group, in their order, or what
+/// is wrong with it.
+fn walked(payload: &[u8], group: u8) -> Result<Vec<(u8, &[u8])>, String> {
+    let (field, length) = match payload {
+        [0x81, of_group, length, field @ ..] if *of_group == group => (field, *length),
+        [0x81, 0x80 | 0xF0, ..] => return Err("XID of the other group".into()),
+        _ => return Err("XID head".into()),
     };
-    if usize::from(*length) != field.len() {
+    if usize::from(length) != field.len() {
         return Err("XID outer length".into());
     }
-    let mut values: BTreeMap<u8, &[u8]> = BTreeMap::new();
+    let mut triples = Vec::new();
     let mut rest = field;
     while !rest.is_empty() {
         let [identifier, length, more @ ..] = rest else {
@@ -375,6 +588,16 @@ fn triples(payload: &[u8]) -> Result<BTreeMap<u8, &[u8]>, String> {
         let Some((value, next)) = more.split_at_checked(usize::from(*length)) else {
             return Err("XID triple cut short".into());
         };
+        triples.push((*identifier, value));
+        rest = next;
+    }
+    Ok(triples)
+}
+
+/// The triples of an XID payload to everyone, or what is wrong with it.
+fn triples(payload: &[u8]) -> Result<BTreeMap<u8, &[u8]>, String> {
+    let mut values: BTreeMap<u8, &[u8]> = BTreeMap::new();
+    for (identifier, value) in walked(payload, 0xF0)? {
         let lengths = match (identifier, value) {
             (4, [0xFF, 0xFF]) => return Err("XID type FF FF".into()),
             (6, [0xFF]) => return Err("XID vendor FF".into()),
@@ -386,12 +609,39 @@ fn triples(payload: &[u8]) -> Result<BTreeMap<u8, &[u8]>, String> {
         if !lengths.contains(&value.len()) {
             return Err(format!("XID length of {identifier}"));
         }
-        if values.insert(*identifier, value).is_some() {
+        if values.insert(identifier, value).is_some() {
             return Err(format!("XID repeat of {identifier}"));
         }
-        rest = next;
     }
     Ok(values)
+}
+
+/// Why an XID frame to the own address gets silence.
+fn negotiation_reason(payload: &[u8]) -> String {
+    let mut seen = BTreeSet::new();
+    let triples = match walked(payload, 0x80) {
+        Ok(triples) => triples,
+        Err(reason) => {
+            // What would be answered by everyone.
+            let would = if self::triples(payload).is_ok() { ", well formed" } else { "" };
+            return format!("own {reason}{would}");
+        }
+    };
+    for (identifier, value) in triples {
+        let most = match identifier {
+            5 | 6 => 4,
+            7 | 8 => 1,
+            1..=4 => return "own XID identifier of the other group".into(),
+            _ => return "own XID identifier".into(),
+        };
+        match value.len() {
+            0 => return format!("own XID {identifier} empty"),
+            length if length > most => return format!("own XID {identifier} too long"),
+            _ if !seen.insert(identifier) => return format!("own XID repeat of {identifier}"),
+            _ => (),
+        }
+    }
+    panic!("{payload:02x?} is answered");
 }
 
 /// An XID frame to everyone, well formed, that names a wild card.
@@ -403,10 +653,24 @@ fn has_wild_card(octets: &[u8]) -> bool {
     values.get(&4) == Some(&&[0xFF][..]) || values.get(&6) == Some(&&[0xFF, 0xFF][..])
 }
 
+/// The payload of a negotiation that is well formed, whatever its address.
+fn negotiates(payload: &[u8]) -> bool {
+    let mut seen = BTreeSet::new();
+    walked(payload, 0x80).is_ok_and(|triples| {
+        triples.iter().all(|(identifier, value)| {
+            let most = if *identifier < 7 { 4 } else { 1 };
+            (5..=8).contains(identifier)
+                && (1..=most).contains(&value.len())
+                && seen.insert(*identifier)
+        })
+    })
+}
+
 /// The same for an XID frame to everyone.
 fn xid_reason(before: &Record, payload: &[u8]) -> String {
     let values = match triples(payload) {
         Ok(values) => values,
+        Err(reason) if negotiates(payload) => return format!("{reason}, a negotiation"),
         Err(reason) => return reason,
     };
     let identity = &before.make.identity;
@@ -456,7 +720,7 @@ fn device_of<'bench>(bench: &'bench Bench, line: &[u8]) -> Option<&'bench Record
 }
 
 /// Kinds that must come at least so often in all the scripts together.
-const OFTEN: [(&str, usize); 189] = [
+const OFTEN: [(&str, usize); 188] = [
     ("no answer", 1_000),
     ("devices 0", 1),
     ("devices 1", 1),
@@ -524,12 +788,11 @@ const OFTEN: [(&str, usize); 189] = [
     ("silence in assigned", 500),
     ("silence in connected", 1_000),
     ("silence, shorter than 2", 200),
-    ("silence, longer than 76", 200),
+    ("silence, longer than N - 2", 1_000),
     ("silence, poll bit clear", 1_000),
     ("silence, address 0", 50),
     ("silence, another address", 1_000),
     ("silence, no XID to everyone", 500),
-    ("silence, XID to the own address", 500),
     ("silence, SNRM with payload", 500),
     ("silence, DISC with payload", 500),
     ("silence, RR or RNR with payload, assigned", 50),
@@ -648,6 +911,194 @@ const OFTEN: [(&str, usize); 189] = [
     ("message shorter than 3", 200),
 ];
 
+/// The same for what request (iv) added.
+const OFTEN_WITH_LIMITS: [(&str, usize); 184] = [
+    ("silence, poll bit clear, a negotiation", 50),
+    ("silence, another address, a negotiation", 50),
+    ("silence, XID of the other group", 50),
+    ("silence, XID of the other group, a negotiation", 200),
+    ("silence, own XID of the other group", 100),
+    ("silence, own XID of the other group, well formed", 500),
+    ("silence, own XID head", 50),
+    ("silence, own XID outer length", 50),
+    ("silence, own XID triple cut short", 20),
+    ("silence, own XID identifier", 50),
+    ("silence, own XID identifier of the other group", 50),
+    ("silence, own XID 5 empty", 20),
+    ("silence, own XID 6 empty", 20),
+    ("silence, own XID 7 empty", 20),
+    ("silence, own XID 8 empty", 20),
+    ("silence, own XID 5 too long", 20),
+    ("silence, own XID 6 too long", 20),
+    ("silence, own XID 7 too long", 20),
+    ("silence, own XID 8 too long", 20),
+    ("silence, own XID repeat of 5", 20),
+    ("silence, own XID repeat of 6", 20),
+    ("silence, own XID repeat of 7", 20),
+    ("silence, own XID repeat of 8", 20),
+    ("XID negotiation in assigned", 200),
+    ("XID negotiation in connected", 2_000),
+    ("address shared, negotiation", 200),
+    ("negotiated []", 100),
+    ("negotiated [5]", 100),
+    ("negotiated [6]", 100),
+    ("negotiated [7]", 100),
+    ("negotiated [8]", 100),
+    ("negotiated [5, 6]", 100),
+    ("negotiated [5, 7]", 100),
+    ("negotiated [5, 8]", 100),
+    ("negotiated [6, 7]", 100),
+    ("negotiated [6, 8]", 100),
+    ("negotiated [7, 8]", 100),
+    ("negotiated [5, 6, 7]", 100),
+    ("negotiated [5, 6, 8]", 100),
+    ("negotiated [5, 7, 8]", 100),
+    ("negotiated [6, 7, 8]", 100),
+    ("negotiated [5, 6, 7, 8]", 100),
+    ("negotiated in another order", 500),
+    ("negotiated 5 in 1 octets", 20),
+    ("negotiated 5 in 2 octets", 500),
+    ("negotiated 5 in 3 octets", 100),
+    ("negotiated 5 in 4 octets", 100),
+    ("negotiated 6 in 1 octets", 20),
+    ("negotiated 6 in 2 octets", 500),
+    ("negotiated 6 in 3 octets", 100),
+    ("negotiated 6 in 4 octets", 100),
+    ("negotiated, 5 to 6 Less", 200),
+    ("negotiated, 5 to 6 Equal", 50),
+    ("negotiated, 5 to 6 Greater", 200),
+    ("negotiated exactly 0 bits", 20),
+    ("negotiated exactly 591 bits", 20),
+    ("negotiated exactly 592 bits", 20),
+    ("negotiated exactly 599 bits", 20),
+    ("negotiated exactly 600 bits", 20),
+    ("negotiated exactly 2047 bits", 20),
+    ("negotiated exactly 2048 bits", 20),
+    ("negotiated nothing, N 78", 200),
+    ("negotiated nothing, N between", 100),
+    ("negotiated nothing, N 260", 50),
+    ("negotiated under 592 bits, N Equal from N 78", 100),
+    ("negotiated under 592 bits, N Less from N between", 50),
+    ("negotiated under 592 bits, N Less from N 260", 20),
+    ("negotiated 592 to 599 bits, N Equal from N 78", 20),
+    ("negotiated 592 to 599 bits, N Less from N between", 10),
+    ("negotiated 592 to 599 bits, N Less from N 260", 5),
+    ("negotiated 600 to 2039 bits, N Greater from N 78", 500),
+    ("negotiated 600 to 2039 bits, N Greater from N between", 100),
+    ("negotiated 600 to 2039 bits, N Equal from N between", 20),
+    ("negotiated 600 to 2039 bits, N Less from N between", 100),
+    ("negotiated 600 to 2039 bits, N Less from N 260", 100),
+    ("negotiated 2040 to 2047 bits, N Greater from N 78", 50),
+    ("negotiated 2040 to 2047 bits, N Less from N 260", 5),
+    ("negotiated 2048 to 2055 bits, N Greater from N 78", 50),
+    ("negotiated 2048 to 2055 bits, N Equal from N 260", 10),
+    ("negotiated more than 2055 bits, N Greater from N 78", 100),
+    ("negotiated more than 2055 bits, N Greater from N between", 50),
+    ("negotiated more than 2055 bits, N Equal from N 260", 20),
+    ("negotiated with nothing pending", 500),
+    ("negotiated with a message pending", 500),
+    ("negotiated with an indication pending", 100),
+    ("negotiated moving, a result owed", 200),
+    ("negotiated moving, nothing owed", 100),
+    ("negotiated with a result waiting", 200),
+    ("N back to 78 by SNRM in connected", 100),
+    ("N back to 78 by DISC in connected", 50),
+    ("N back to 78 by a frame reject in connected", 200),
+    ("N back to 78 by an assignment in connected", 100),
+    ("N back to 78 by an assignment in assigned", 20),
+    ("N kept by SNRM in assigned", 100),
+    ("N kept by DISC in assigned", 50),
+    ("N kept by another that gets DM in assigned", 100),
+    ("N kept by silence in assigned", 100),
+    ("N kept by silence in connected", 1_000),
+    ("N kept by a scan in connected", 500),
+    ("N kept by a scan in assigned", 5),
+    ("N kept by a frame of the session in connected", 10_000),
+    ("I, N - 2 octets, N 78", 100),
+    ("I, N - 2 octets, N between", 200),
+    ("I, N - 2 octets, N 260", 100),
+    ("I, 77 to N - 3 octets, N between", 100),
+    ("I, 77 to N - 3 octets, N 260", 50),
+    ("FRMR, N - 2 octets, N 78", 10),
+    ("FRMR, N - 2 octets, N between", 10),
+    ("FRMR, N - 2 octets, N 260", 5),
+    ("DM, N - 2 octets, N 78", 10),
+    ("DM, N - 2 octets, N between", 10),
+    ("DM, N - 2 octets, N 260", 5),
+    ("silence, N - 2 octets, N between", 50),
+    ("silence, N - 1 octets, N 78", 100),
+    ("silence, N - 1 octets, N between", 200),
+    ("silence, N - 1 octets, N 260", 100),
+    ("silence, more octets, N between", 100),
+    ("silence, more octets, N 260", 50),
+    ("answer, room N - 2, N 78", 10_000),
+    ("answer, room N - 2, N between", 10_000),
+    ("answer, room N - 2, N 260", 2_000),
+    ("answer, room more, N between", 1_000),
+    ("answer, room more, N 260", 500),
+    ("silence, room N - 2, N between", 1_000),
+    ("silence, room N - 2, N 260", 500),
+    ("refused 5, room N - 3, N 78", 500),
+    ("refused 5, room N - 3, N between", 200),
+    ("refused 5, room N - 3, N 260", 100),
+    ("refused 5, room 76 to N - 4, N between", 200),
+    ("refused 5, room 76 to N - 4, N 260", 100),
+    ("refused 5, room under 76, N 260", 50),
+    ("hear refused 1, N 260", 20),
+    ("hear refused 2, N 78", 100),
+    ("hear refused 2, N between", 100),
+    ("hear refused 2, N 260", 50),
+    ("hear refused 3, N 260", 50),
+    ("hear refused 4, N 260", 20),
+    ("limit, N 78", 1_000),
+    ("limit, N between", 500),
+    ("limit, N 260", 200),
+    ("scan with N larger, N 78 too false, complete", 20),
+    ("scan with N larger, N 78 too false, limit", 20),
+    ("scan with N larger, N 78 too true, complete", 50),
+    ("scan with N larger, N 78 too true, limit", 50),
+    ("decode-n at 0", 10),
+    ("decode-n at 77", 100),
+    ("decode-n at 78", 500),
+    ("decode-n at 79", 200),
+    ("decode-n at 259", 200),
+    ("decode-n at 260", 500),
+    ("decode-n at 261", 100),
+    ("decode-n at 65535", 10),
+    ("decode-n frame, N octets, N 78", 10),
+    ("decode-n frame, N octets, N between", 20),
+    ("decode-n frame, N octets, N 260", 10),
+    ("decode-n refused 1, N 260", 20),
+    ("decode-n refused 2, N + 1 octets, N 78", 20),
+    ("decode-n refused 2, N + 1 octets, N between", 50),
+    ("decode-n refused 2, N + 1 octets, N 260", 20),
+    ("decode-n refused 3, N 260", 50),
+    ("decode-n refused 4, N 260", 50),
+    ("decode-n refused 5, N 260", 50),
+    ("decode-n refused 6, N under 78", 100),
+    ("decode-n refused 6, N past 260", 100),
+    ("write-n at 0", 10),
+    ("write-n at 77", 50),
+    ("write-n at 78", 200),
+    ("write-n at 79", 100),
+    ("write-n at 259", 100),
+    ("write-n at 260", 200),
+    ("write-n at 261", 50),
+    ("write-n at 65535", 5),
+    ("write-n line, N octets, N 78", 10),
+    ("write-n line, N octets, N between", 20),
+    ("write-n line, N octets, N 260", 10),
+    ("write-n refused 5, N 260", 50),
+    ("write-n refused 9, N + 1 octets, N 78", 20),
+    ("write-n refused 9, N + 1 octets, N between", 50),
+    ("write-n refused 9, N + 1 octets, N 260", 20),
+    ("write-n refused 6, N under 78", 100),
+    ("write-n refused 6, N past 260", 100),
+    ("write-n up to 158 octets", 500),
+    ("write-n more than 158 octets", 100),
+    ("write-n more than 400 octets", 10),
+];
+
 /// The messages' outcomes that must come at least a hundred times.
 const OUTCOMES: [&str; 17] = [
     "04 success",
@@ -699,7 +1150,7 @@ fn everything_is_reached() {
     println!("{:8} controls to a connected device", tally.controls.len());
     println!("{:8} pairs of R and S", tally.numbers.len());
     let mut rare = Vec::new();
-    for (kind, least) in OFTEN {
+    for (kind, least) in OFTEN.into_iter().chain(OFTEN_WITH_LIMITS) {
         if tally.counts.get(kind).copied().unwrap_or(0) < least {
             rare.push(kind.to_string());
         }

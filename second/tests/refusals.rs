@@ -39,6 +39,36 @@ fn each_number_from_the_script() {
 }
 
 #[test]
+fn each_number_with_a_frame_limit() {
+    let mut table = Table::default();
+    let a5 = "a5".repeat(80);
+    for limit in [78, 79, 200, 259, 260] {
+        let long = "00".repeat(limit + 1);
+        let whole = "00".repeat(limit);
+        assert_eq!(table.ask(&format!("decode-n {limit} 013feb 80")), format!("refused 1 {a5}"));
+        assert_eq!(table.ask(&format!("decode-n {limit} {long} 80")), format!("refused 2 {a5}"));
+        assert_eq!(table.ask(&format!("decode-n {limit} {whole} 80")), format!("refused 3 {a5}"));
+        assert_eq!(table.ask(&format!("decode-n {limit} {long}7e 80")), format!("refused 4 {a5}"));
+        assert_eq!(table.ask(&format!("decode-n {limit} {long}7d 80")), format!("refused 4 {a5}"));
+        assert_eq!(table.ask(&format!("decode-n {limit} 013febdf 1")), "refused 5 a5");
+        let payload = "00".repeat(limit - 3);
+        assert_eq!(
+            table.ask(&format!("write-n {limit} 01 3f {payload} 80")),
+            format!("refused 9 {a5}")
+        );
+        assert_eq!(table.ask(&format!("write-n {limit} 01 3f {payload} 0")), "refused 9 -");
+        assert_eq!(table.ask(&format!("write-n {limit} 01 3f - 5")), "refused 5 a5a5a5a5a5");
+    }
+    for limit in ["77", "261", "0", "65535"] {
+        for line in ["7e", "7d", "-", "013feb", "013febde", "013febdf"] {
+            let refused = format!("refused 6 {a5}");
+            assert_eq!(table.ask(&format!("decode-n {limit} {line} 80")), refused);
+            assert_eq!(table.ask(&format!("write-n {limit} 01 3f {line} 80")), refused);
+        }
+    }
+}
+
+#[test]
 fn device_data() {
     let mut table = Table::default();
     let mut data =

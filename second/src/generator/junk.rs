@@ -6,7 +6,7 @@ use std::io;
 use super::Generator;
 
 /// Words that are no numbers, or numbers outside some range.
-const BAD_NUMBERS: [&str; 22] = [
+const BAD_NUMBERS: [&str; 26] = [
     "",
     "-",
     "--1",
@@ -26,6 +26,10 @@ const BAD_NUMBERS: [&str; 22] = [
     "-32769",
     "65536",
     "65535",
+    "77",
+    "78",
+    "260",
+    "261",
     "33",
     "007",
     "99999999999999999999999999",
@@ -108,7 +112,7 @@ impl Generator<'_> {
             2 => "4000000000",
             _ => &next,
         };
-        let line = match self.dice.below(8) {
+        let line = match self.dice.below(9) {
             0 => format!("show {k}"),
             1 => format!("frame {k} - 76"),
             2 => format!("hear {k} zz 76"),
@@ -116,6 +120,7 @@ impl Generator<'_> {
             4 => format!("raise {k} 2"),
             5 => format!("clear {k} 256"),
             6 => format!("frame {k} 0 601"),
+            7 => format!("limit {k}"),
             _ => format!("hear {k} 013febdf 0"),
         };
         self.emit(line.as_bytes())
@@ -128,6 +133,19 @@ impl Generator<'_> {
             "decod",
             "Show 1",
             "shows 1",
+            "limit",
+            "limits 1",
+            "limit 1 1",
+            "limit x",
+            "decode-N 78 00 1",
+            "decode-n 00 1",
+            "decode-n 65536 zz x",
+            "decode-n 77 zz x",
+            "decode-n 78 00 601",
+            "write-n 05 10 00 80",
+            "write-n 65536 zz zz zz x",
+            "write-n -1 05 10 - 80",
+            "write-n 0 5 10 - 80",
             "quit",
             "help",
             " ",
@@ -171,6 +189,8 @@ impl Generator<'_> {
             "hear 1 ",
             "show 1",
             "write 01 93 ",
+            "decode-n 260 ",
+            "write-n 261 01 93 ",
         ]);
         let end = if start.contains("code") { " 80" } else { " 76" };
         let fill = length - start.len() - end.len();
@@ -195,7 +215,7 @@ impl Generator<'_> {
     fn bare_words(&mut self) -> io::Result<()> {
         let commands = [
             "decode", "write", "device", "frame", "hear", "stopped", "raise", "clear", "show",
-            "scan", "begin", "probe", "report",
+            "scan", "begin", "probe", "report", "decode-n", "write-n", "limit",
         ];
         let mut line = self.dice.pick(&commands).to_string();
         for _ in 0..self.dice.below(9) {

@@ -2,6 +2,7 @@
 //! out of its range.
 
 use super::Generator;
+use crate::frame::longest_payload;
 use crate::message::{KNOWN, UNSUPPORTED};
 
 impl Generator<'_> {
@@ -17,7 +18,13 @@ impl Generator<'_> {
                 data.pop();
             }
             4 => {
-                let length = self.dice.between(66, 76) as usize;
+                // About the most that the link takes.
+                let most = longest_payload(self.record(device).limit) - 3;
+                let length = self.dice.between(most as i64 - 5, most as i64 + 5) as usize;
+                data = self.dice.octets(length);
+            }
+            5 => {
+                let length = self.dice.below(longest_payload(self.record(device).limit));
                 data = self.dice.octets(length);
             }
             _ => (),

@@ -10,6 +10,7 @@ pub mod devices;
 pub mod hand;
 pub mod junk;
 pub mod messages;
+pub mod negotiation;
 pub mod random;
 pub mod talk;
 pub mod xid;
@@ -123,7 +124,7 @@ impl Generator<'_> {
             6..=14 => 45,
             _ => 20,
         };
-        match self.dice.weighed(&[420, 700, scans, 22, 500, 100, 70]) {
+        match self.dice.weighed(&[420, 700, scans, 25, 500, 100, 70]) {
             0 => self.talk(),
             1 => self.codec(),
             2 => self.scan_bench(),

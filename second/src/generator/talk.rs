@@ -5,6 +5,7 @@ use std::io;
 
 use super::Generator;
 use crate::device::{DISC, EVERYONE, I, POLL, RNR, RR, SNRM, XID};
+use crate::frame::{longest_frame, longest_payload, LEAST_LIMIT};
 use crate::record::{after, Drive, Link, Record, Session, ALARMS};
 
 /// What the generator looks at in a Connected device.
@@ -66,8 +67,12 @@ impl Generator<'_> {
     }
 
     fn step(&mut self, device: usize) -> io::Result<()> {
-        let moving = if self.record(device).unit.drive.is_moving() { 120 } else { 15 };
-        match self.dice.weighed(&[60, 90, moving, 30, 25, 25, 15, 760]) {
+        let record = self.record(device);
+        let moving = if record.unit.drive.is_moving() { 120 } else { 15 };
+        let negotiating = if record.address == 0 { 4 } else { 55 };
+        let long = if record.limit == LEAST_LIMIT { 10 } else { 45 };
+        let weights = [60, 90, moving, 30, 25, 25, 15, 760, negotiating, long, 25];
+        match self.dice.weighed(&weights) {
             0 => self.say(format!("show {}", device + 1)),
             1 => self.alarm_event(device),
             2 => self.stop_event(device),
@@ -82,7 +87,10 @@ impl Generator<'_> {
             }
             5 => self.say_again(device),
             6 => self.any_frame(device),
-            _ => self.frame_for_state(device),
+            7 => self.frame_for_state(device),
+            8 => self.negotiate(device),
+            9 => self.at_the_edge(device),
+            _ => self.say(format!("limit {}", device + 1)),
         }
     }
 
@@ -119,12 +127,18 @@ impl Generator<'_> {
 
     fn say_when_assigned(&mut self, device: usize) -> io::Result<()> {
         let own = self.record(device).address;
-        match self.dice.weighed(&[600, 60, 120, 40, 60, 60]) {
+        // With a negotiated limit the session is put off a little.
+        let weights = if self.record(device).limit == LEAST_LIMIT {
+            [600, 60, 120, 40, 60, 60, 110, 0]
+        } else {
+            [300, 100, 120, 40, 90, 60, 80, 80]
+        };
+        match self.dice.weighed(&weights) {
             0 => self.give(device, own, SNRM, &[]),
             1 => self.give(device, own, DISC, &[]),
             2 => {
                 let control = self.control();
-                let payload = self.payload_now_and_then();
+                let payload = self.payload_now_and_then(device);
                 self.give(device, own, control, &payload)
             }
             3 => self.give(device, own, SNRM, &[0]),
@@ -132,10 +146,12 @@ impl Generator<'_> {
                 let payload = self.assignment(device, 400);
                 self.give(device, EVERYONE, XID, &payload)
             }
-            _ => {
+            5 => {
                 let message = self.message(device);
                 self.give(device, own, I, &message)
             }
+            6 => self.negotiate(device),
+            _ => self.at_the_edge(device),
         }
     }
 
@@ -168,20 +184,22 @@ impl Generator<'_> {
     /// to everyone.
     fn unanswered(&mut self, device: usize, numbers: &Numbers, number_r: u8) -> io::Result<()> {
         let own = self.record(device).address;
-        let (address, control, payload) = match self.dice.weighed(&[25, 20, 15, 15, 10]) {
+        let (address, control, payload) = match self.dice.weighed(&[25, 20, 15, 12, 6, 10]) {
             0 => {
                 let any = self.dice.below(8) as u8;
                 let numbered = self.dice.pick(&[RR, RNR]) + 32 * self.dice.pick(&[number_r, any]);
                 let control = self.dice.pick(&[SNRM, DISC, numbered, numbered]);
                 (own, control, self.octets_up_to(4))
             }
-            1 => (own, self.control() & !POLL, self.payload_now_and_then()),
+            1 => (own, self.control() & !POLL, self.payload_now_and_then(device)),
             2 => {
                 let control = I + 2 * numbers.due + 32 * number_r;
                 (self.dice.octet(), control, self.message(device))
             }
+            // The group of scan and assignment, at the own address.
             3 => (own, XID, self.xid_scan(device)),
-            _ => (EVERYONE, self.control(), self.payload_now_and_then()),
+            4 => (own, XID, self.assignment(device, 300)),
+            _ => (EVERYONE, self.control(), self.payload_now_and_then(device)),
         };
         self.give(device, address, control, &payload)
     }
@@ -213,7 +231,7 @@ impl Generator<'_> {
             }
             1 => {
                 let control = self.unknown_control();
-                let payload = self.payload_now_and_then();
+                let payload = self.payload_now_and_then(device);
                 self.give(device, own, control, &payload)
             }
             2 => self.give(device, own, SNRM, &[]),
@@ -232,8 +250,17 @@ impl Generator<'_> {
         }
     }
 
+    /// An unknown control so many times of a thousand, else RR's first.
+    pub(super) fn unknown_control_if(&mut self, rudeness: usize) -> u8 {
+        if self.dice.chance(rudeness) {
+            self.unknown_control()
+        } else {
+            RR
+        }
+    }
+
     /// Any control: the named ones, and each of the 256.
-    fn control(&mut self) -> u8 {
+    pub(super) fn control(&mut self) -> u8 {
         match self.dice.below(4) {
             0 => self.dice.pick(&[SNRM, DISC, XID, RR, RNR, I, 0x73, 0x1F, 0x97]),
             1 => self.dice.pick(&[I, RR, RNR]) + 32 * self.dice.below(8) as u8,
@@ -241,8 +268,12 @@ impl Generator<'_> {
         }
     }
 
-    fn payload_now_and_then(&mut self) -> Vec<u8> {
-        if self.dice.chance(400) {
+    /// Some octets; seldom as many as the link takes, or one more.
+    fn payload_now_and_then(&mut self, device: usize) -> Vec<u8> {
+        if self.dice.chance(40) {
+            let length = longest_payload(self.record(device).limit) + self.dice.below(2);
+            self.dice.octets(length)
+        } else if self.dice.chance(400) {
             self.octets_up_to(8)
         } else {
             Vec::new()
@@ -291,49 +322,61 @@ impl Generator<'_> {
     /// A frame of any octets and any length.
     fn any_frame(&mut self, device: usize) -> io::Result<()> {
         let own = self.record(device).address;
-        let length = match self.dice.below(4) {
+        let longest = longest_frame(self.record(device).limit);
+        let length = match self.dice.below(5) {
             0 => self.dice.below(3),
-            1 => self.dice.between(74, 80) as usize,
+            1 => longest - 2 + self.dice.below(7),
             2 => self.dice.below(20),
-            _ => self.dice.below(120),
+            3 => self.dice.below(longest + 44),
+            _ => self.dice.pick(&[76, 77, 256, 258, 259, 300]),
         };
         let mut frame = self.dice.octets(length);
         if let Some(address) = frame.first_mut() {
             *address = self.dice.pick(&[own, own, EVERYONE, *address]);
         }
-        let room = self.room();
+        let room = self.room(device);
         let word = self.hex(&frame);
         self.say(format!("frame {} {word} {room}", device + 1))
     }
 
-    /// A frame to a device, decoded or over the line.
-    fn give(&mut self, device: usize, address: u8, control: u8, payload: &[u8]) -> io::Result<()> {
+    /// A frame to a device, decoded or over the line; a question for its limit
+    /// where that has changed.
+    pub(super) fn give(
+        &mut self,
+        device: usize,
+        address: u8,
+        control: u8,
+        payload: &[u8],
+    ) -> io::Result<()> {
         let mut frame = vec![address, control];
         frame.extend(payload);
         if self.last_frames.len() <= device {
             self.last_frames.resize(device + 1, Vec::new());
         }
         self.last_frames[device] = frame.clone();
-        let room = self.room();
+        let limit = self.record(device).limit;
+        let room = self.room(device);
         if self.dice.chance(600) {
             let word = self.hex(&frame);
-            self.say(format!("frame {} {word} {room}", device + 1))
+            self.say(format!("frame {} {word} {room}", device + 1))?;
         } else {
             let line = self.line_for(&frame, 50);
             let word = self.hex(&line);
-            self.say(format!("hear {} {word} {room}", device + 1))
+            self.say(format!("hear {} {word} {room}", device + 1))?;
         }
+        self.ask_limit(device, limit)
     }
 
-    /// A room for the device's answer: 76 is the least.
-    fn room(&mut self) -> usize {
+    /// A room for the device's answer: N - 2 is the least.
+    fn room(&mut self, device: usize) -> usize {
+        let least = longest_frame(self.record(device).limit);
         match self.dice.below(60) {
-            0 => 75,
-            1 => self.dice.below(76),
+            0 => least - 1,
+            1 => self.dice.below(least),
             2 => self.dice.below(601),
-            3 => self.dice.pick(&[0, 600, 78]),
-            4..=8 => 77,
-            _ => 76,
+            3 => self.dice.pick(&[0, 600, 75, 76, 77, 78, 257, 258, 260]),
+            4..=8 => least + 1,
+            _ => least,
         }
     }
 }

@@ -4,10 +4,13 @@
 use super::Generator;
 use crate::identity::PADDED;
 use crate::record::DEVICE_TYPE;
-use crate::xid::{written, ADDRESS, ANY_TYPE, ANY_VENDOR, IDENTITY, MASK, TYPE, VENDOR_CODE};
+use crate::xid::{
+    written, ADDRESS, ANY_TYPE, ANY_VENDOR, BUS_GROUP, HDLC_GROUP, IDENTITY, MASK, TYPE,
+    VENDOR_CODE,
+};
 
 /// Identifier and value.
-type Triple = (u8, Vec<u8>);
+pub(super) type Triple = (u8, Vec<u8>);
 
 /// How a payload names a device's type, or its vendor, rightly.
 #[derive(Clone, Copy)]
@@ -62,7 +65,7 @@ impl Generator<'_> {
             triples.extend(self.type_and_vendor(device, kind, vendor));
         }
         self.spoil_triples(&mut triples, 120);
-        self.payload_of(triples)
+        self.payload_of(BUS_GROUP, &triples)
     }
 
     fn mask(&mut self, length: usize) -> Vec<u8> {
@@ -90,7 +93,7 @@ impl Generator<'_> {
             self.wrong_value(&mut triples, identity.unpadded());
         }
         self.spoil_triples(&mut triples, wrong / 2);
-        self.payload_of(triples)
+        self.payload_of(BUS_GROUP, &triples)
     }
 
     /// An assignment that several devices may take: by a wild card or both,
@@ -106,7 +109,7 @@ impl Generator<'_> {
         ]);
         let mut triples = self.right_triples(device, kind, vendor, 150);
         self.dice.shuffle(&mut triples);
-        self.payload_of(triples)
+        self.payload_of(BUS_GROUP, &triples)
     }
 
     /// What an assignment must hold for a device to take it; so many times of
@@ -214,12 +217,12 @@ impl Generator<'_> {
     }
 
     /// The payload, its head and outer length wrong now and then.
-    fn payload_of(&mut self, triples: Vec<Triple>) -> Vec<u8> {
+    pub(super) fn payload_of(&mut self, group: u8, triples: &[Triple]) -> Vec<u8> {
         let triples: Vec<(u8, &[u8])> =
             triples.iter().map(|(identifier, value)| (*identifier, &value[..])).collect();
-        let mut payload = written(&triples);
+        let mut payload = written(group, &triples);
         if self.dice.chance(50) {
-            match self.dice.below(8) {
+            match self.dice.below(9) {
                 0 => payload[0] ^= 1,
                 1 => payload[1] ^= 1,
                 2 => payload[2] = payload[2].wrapping_add(1),
@@ -231,9 +234,11 @@ impl Generator<'_> {
                     payload[2] = payload[2].wrapping_add(1);
                 }
                 6 => payload.truncate(self.dice.below(6)),
-                _ => {
+                7 => {
                     payload.pop();
                 }
+                // The group of the other address.
+                _ => payload[1] = if group == BUS_GROUP { HDLC_GROUP } else { BUS_GROUP },
             }
         }
         payload

@@ -4,6 +4,9 @@
 use second::bench::Bench;
 use second::{script, words};
 
+/// Room for an answer, whatever the frame limit.
+const ROOM: usize = 260;
+
 /// A bench at a table.
 #[derive(Default)]
 pub struct Table {
@@ -24,7 +27,7 @@ impl Table {
 
     /// The same for device K.
     pub fn give_to(&mut self, k: usize, frame: &str) -> String {
-        let answer = self.ask(&format!("frame {k} {frame} 80"));
+        let answer = self.ask(&format!("frame {k} {frame} {ROOM}"));
         let words: Vec<&str> = answer.split(' ').collect();
         match words[..] {
             ["answer", length, buffer] => {
@@ -33,17 +36,50 @@ impl Table {
                 octets.to_string()
             }
             ["silence", buffer] => {
-                assert_eq!(buffer, "a5".repeat(80));
+                assert_eq!(buffer, "a5".repeat(ROOM));
                 "silence".to_string()
             }
             _ => panic!("{answer}"),
         }
     }
 
+    /// A negotiation with device 1, which has address 5: the triples of its
+    /// answer, or silence.
+    pub fn negotiate(&mut self, triples: &str) -> String {
+        let answer = self.give(&negotiation("05", triples));
+        match answer.strip_prefix("05bf8180") {
+            Some(rest) => {
+                let (length, field) = rest.split_at(2);
+                assert_eq!(length, format!("{:02x}", field.len() / 2));
+                field.to_string()
+            }
+            None => answer,
+        }
+    }
+
+    /// The frame limit of device 1.
+    pub fn limit(&mut self) -> usize {
+        let answer = self.ask("limit 1");
+        answer.strip_prefix("limit ").unwrap().parse().unwrap()
+    }
+
+    /// Negotiates this frame limit with device 1.
+    pub fn agree(&mut self, limit: usize) {
+        let bits = format!("{:04x}", 8 * (limit - 4));
+        assert_eq!(self.negotiate(&format!("0602{bits}")), format!("0602{bits}"));
+        assert_eq!(self.limit(), limit);
+    }
+
     /// All the lines; their answers together.
     pub fn run(&mut self, lines: &[&str]) -> Vec<String> {
         lines.iter().map(|line| self.ask(line)).collect()
     }
+}
+
+/// An XID frame with these triples in the group 0x80.
+pub fn negotiation(address: &str, triples: &str) -> String {
+    let field = triples.replace(' ', "");
+    format!("{address}bf8180{:02x}{field}", field.len() / 2)
 }
 
 /// HEX of text.
