@@ -1,10 +1,10 @@
-/* The codec in C: a pass for the escapes and one for the check, by a table of 256 and by one of 16; the same in one pass; and
- * the loops that ours has. Assumes that baseline_tables has been called. */
+/* The codec in C: a pass for the escapes and one for the check, by a table of 256 and by one of 16; the same in one pass; with
+ * the frame limit as a parameter; and the loops that ours has. Assumes that baseline_tables has been called. */
 #include "baseline.h"
 #include <stdbool.h>
 #include <string.h>
 
-enum { FLAG = 0x7E, ESCAPE = 0x7D, LIMIT = 78, REFUSED = 0x10000, RESIDUE = 0xF0B8 };
+enum { FLAG = 0x7E, ESCAPE = 0x7D, LIMIT = 78, LIMIT_MOST = 260, REFUSED = 0x10000, RESIDUE = 0xF0B8 };
 
 typedef uint16_t checker(const uint8_t *, size_t);
 
@@ -74,11 +74,11 @@ static size_t handed(const uint8_t *b, size_t n, uint8_t *out, size_t room)
     return n;
 }
 
-static inline size_t delivered(checker *check, const uint8_t *d, size_t n, uint8_t *out, size_t room)
+static inline size_t delivered(checker *check, size_t limit, const uint8_t *d, size_t n, uint8_t *out, size_t room)
 {
     if (n < 4)
         return REFUSED + 1;
-    if (n > LIMIT)
+    if (n > limit)
         return REFUSED + 2;
     if (check(d, n - 2) != (d[n - 2] | d[n - 1] << 8))
         return REFUSED + 3;
@@ -95,9 +95,9 @@ static inline void assemble(checker *check, uint8_t address, uint8_t control, co
     d[len + 3] = sum >> 8;
 }
 
-INLINED size_t decode(checker *check, const uint8_t *src, size_t len, uint8_t *out, size_t room)
+/* d has room for as many octets as the limit says */
+INLINED size_t decode(checker *check, size_t limit, uint8_t *d, const uint8_t *src, size_t len, uint8_t *out, size_t room)
 {
-    uint8_t d[LIMIT];
     size_t n = 0;
     if (len && src[len - 1] == ESCAPE)
         return REFUSED + 4;
@@ -111,28 +111,39 @@ INLINED size_t decode(checker *check, const uint8_t *src, size_t len, uint8_t *o
                 return REFUSED + 4;
             b ^= 0x20;
         }
-        if (n < LIMIT)
+        if (n < limit)
             d[n] = b;
         n++;
     }
-    return delivered(check, d, n, out, room);
+    return delivered(check, limit, d, n, out, room);
 }
 
 size_t baseline_decode(const uint8_t *src, size_t len, uint8_t *out, size_t room)
 {
-    return decode(baseline_check, src, len, out, room);
+    uint8_t d[LIMIT];
+    return decode(baseline_check, LIMIT, d, src, len, out, room);
 }
 
 size_t baseline_decode16(const uint8_t *src, size_t len, uint8_t *out, size_t room)
 {
-    return decode(baseline_check16, src, len, out, room);
+    uint8_t d[LIMIT];
+    return decode(baseline_check16, LIMIT, d, src, len, out, room);
 }
 
-INLINED size_t write(checker *check, uint8_t address, uint8_t control, const uint8_t *payload, size_t len, uint8_t *out, size_t room)
+size_t baseline_decode_n(size_t limit, const uint8_t *src, size_t len, uint8_t *out, size_t room)
 {
-    uint8_t d[LIMIT], line[2 * LIMIT + 2];
+    uint8_t d[LIMIT_MOST];
+    if (limit < LIMIT || limit > LIMIT_MOST)
+        return REFUSED + 6;
+    return decode(baseline_check, limit, d, src, len, out, room);
+}
+
+INLINED size_t write(checker *check, size_t limit, uint8_t address, uint8_t control, const uint8_t *payload, size_t len,
+                     uint8_t *out, size_t room)
+{
+    uint8_t d[LIMIT_MOST], line[2 * LIMIT_MOST + 2];
     size_t n = 0;
-    if (len > LIMIT - 4)
+    if (len > limit - 4)
         return REFUSED + 9;
     assemble(check, address, control, payload, len, d);
     line[n++] = FLAG;
@@ -150,12 +161,20 @@ INLINED size_t write(checker *check, uint8_t address, uint8_t control, const uin
 
 size_t baseline_write(uint8_t address, uint8_t control, const uint8_t *payload, size_t len, uint8_t *out, size_t room)
 {
-    return write(baseline_check, address, control, payload, len, out, room);
+    return write(baseline_check, LIMIT, address, control, payload, len, out, room);
 }
 
 size_t baseline_write16(uint8_t address, uint8_t control, const uint8_t *payload, size_t len, uint8_t *out, size_t room)
 {
-    return write(baseline_check16, address, control, payload, len, out, room);
+    return write(baseline_check16, LIMIT, address, control, payload, len, out, room);
+}
+
+size_t baseline_write_n(size_t limit, uint8_t address, uint8_t control, const uint8_t *payload, size_t len, uint8_t *out,
+                        size_t room)
+{
+    if (limit < LIMIT || limit > LIMIT_MOST)
+        return REFUSED + 6;
+    return write(baseline_check, limit, address, control, payload, len, out, room);
 }
 
 size_t baseline_decode1(const uint8_t *src, size_t len, uint8_t *out, size_t room)
@@ -271,7 +290,7 @@ size_t baseline_decode_as(const uint8_t *src, size_t len, uint8_t *out, size_t r
         return REFUSED + 2;
     for (size_t i = 0; i < len; i++)
         d[n++] = src[i] == ESCAPE ? src[++i] ^ 0x20 : src[i];
-    return delivered(baseline_check_as, d, n, out, room);
+    return delivered(baseline_check_as, LIMIT, d, n, out, room);
 }
 
 size_t baseline_write_as(uint8_t address, uint8_t control, const uint8_t *payload, size_t len, uint8_t *out, size_t room)

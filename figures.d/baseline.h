@@ -15,6 +15,9 @@ size_t baseline_decode16(const uint8_t *src, size_t len, uint8_t *out, size_t ro
 size_t baseline_write16(uint8_t address, uint8_t control, const uint8_t *payload, size_t len, uint8_t *out, size_t room);
 size_t baseline_decode1(const uint8_t *src, size_t len, uint8_t *out, size_t room);     /* the check in the same pass */
 size_t baseline_write1(uint8_t address, uint8_t control, const uint8_t *payload, size_t len, uint8_t *out, size_t room);
+size_t baseline_decode_n(size_t limit, const uint8_t *src, size_t len, uint8_t *out, size_t room);  /* the limit a parameter */
+size_t baseline_write_n(size_t limit, uint8_t address, uint8_t control, const uint8_t *payload, size_t len, uint8_t *out,
+                        size_t room);
 uint16_t baseline_check16_as(const uint8_t *s, size_t len);     /* these four with the loops that ours has */
 uint16_t baseline_check_as(const uint8_t *s, size_t len);
 size_t baseline_decode_as(const uint8_t *src, size_t len, uint8_t *out, size_t room);

@@ -10,7 +10,11 @@
  * An answer is one number:
  *   below GORITTAEM_REFUSED   how many octets now stand at the start of the lent output; its rest is unchanged
  *   any other                 GORITTAEM_REFUSED + the refusal's number (below); no octet of the output has changed
- * No frame and no line comes near GORITTAEM_REFUSED (0x10000), also where a later version takes longer frames.
+ * No frame and no line comes near GORITTAEM_REFUSED (0x10000).
+ *
+ * The frame limit N is the most octets of address, control, payload and check: 78, or what was negotiated, up to 260. The
+ * functions whose names end in _n take it, and refuse any other number with 6 before they look at anything else; the others
+ * work with 78.
  */
 #ifndef GORITTAEM_H
 #define GORITTAEM_H
@@ -28,19 +32,28 @@ extern "C" {
 #define GORITTAEM_IS_REFUSED(answer) ((answer) >= GORITTAEM_REFUSED)
 #define GORITTAEM_NUMBER(answer) ((answer) - GORITTAEM_REFUSED)
 
-/* the refusals' numbers */
+/* the refusals' numbers; with a frame limit N, 78 reads N and 74 reads N - 4 */
 enum gorittaem_refusal {
     GORITTAEM_TOO_SHORT = 1,        /* decoded octets fewer than 4 */
     GORITTAEM_TOO_LONG = 2,         /* decoded octets more than 78 */
     GORITTAEM_WRONG_CHECK = 3,      /* frame check wrong */
     GORITTAEM_BROKEN = 4,           /* 0x7E inside, or 0x7D as the last octet */
     GORITTAEM_NO_ROOM = 5,          /* the lent output is too short */
+    GORITTAEM_NOT_ALLOWED = 6,      /* frame limit outside 78 to 260 */
     GORITTAEM_PAYLOAD_TOO_LONG = 9  /* payload to be written longer than 74 octets */
 };
+
+/* the frame limit where none was negotiated, which is the least one, and the largest */
+#define GORITTAEM_LIMIT 78
+#define GORITTAEM_LIMIT_MOST 260
 
 /* room that is always enough: address, control and payload of a frame; a line with its two flags */
 #define GORITTAEM_FRAME_ROOM 76
 #define GORITTAEM_LINE_ROOM 158
+
+/* the same for a frame limit */
+#define GORITTAEM_FRAME_ROOM_N(limit) ((limit) - 2)
+#define GORITTAEM_LINE_ROOM_N(limit) (2 * (limit) + 2)
 
 /* The check of `len` octets: the 16-bit one of ISO/IEC 13239 and RFC 1662. On the line its low octet comes first. */
 uint16_t gorittaem_check(const uint8_t *octets, size_t len);
@@ -52,6 +65,12 @@ size_t gorittaem_decode(const uint8_t *line, size_t len, uint8_t *out, size_t ro
 /* Writes flag, frame, flag: address, control, payload and their check, 0x7E and 0x7D escaped. Needs exactly the octets
  * that it writes, at most 158. Refuses with 9, then 5. What lies between the two flags decodes to what was written. */
 size_t gorittaem_write(uint8_t address, uint8_t control, const uint8_t *payload, size_t len, uint8_t *out, size_t room);
+
+/* The same two with the frame limit N in `limit`: address, control and payload are 2 to N - 2 octets, a line has at most
+ * 2N + 2. Both refuse with 6 first, then as above. What was written with one N decodes with that N and with any larger one. */
+size_t gorittaem_decode_n(size_t limit, const uint8_t *line, size_t len, uint8_t *out, size_t room);
+size_t gorittaem_write_n(size_t limit, uint8_t address, uint8_t control, const uint8_t *payload, size_t len, uint8_t *out,
+                         size_t room);
 
 #ifdef __cplusplus
 }

@@ -12,8 +12,10 @@ static void show(const char *what, size_t answer, const uint8_t *out)
     if (GORITTAEM_IS_REFUSED(answer))
         printf(" refused %u", (unsigned)GORITTAEM_NUMBER(answer));
     else
-        for (size_t i = 0; i < answer; i++)
+        for (size_t i = 0; i < answer && i < 16; i++)
             printf(" %02x", out[i]);
+    if (!GORITTAEM_IS_REFUSED(answer) && answer > 16)
+        printf(" .. %zu octets", answer);
     printf("\n");
 }
 
@@ -24,6 +26,28 @@ static void expect(const char *what, size_t answer, size_t right, const uint8_t 
         printf("    and %#zx was expected\n", right);
         wrong = 1;
     }
+}
+
+/* a link on which the largest limit was negotiated: a frame of 200 octets, 196 of them payload */
+static void longer_frames(void)
+{
+    enum { LIMIT = GORITTAEM_LIMIT_MOST };
+    uint8_t payload[196], line[GORITTAEM_LINE_ROOM_N(LIMIT)], frame[GORITTAEM_FRAME_ROOM_N(LIMIT)];
+    memset(payload, 0x33, sizeof payload);
+
+    size_t len = gorittaem_write_n(LIMIT, 0x01, 0x10, payload, sizeof payload, line, sizeof line);
+    expect("200 octets with the limit 260", len, 202, line);
+    if (GORITTAEM_IS_REFUSED(len))
+        return;
+    expect("with the limit 78", gorittaem_write_n(GORITTAEM_LIMIT, 0x01, 0x10, payload, sizeof payload, line, sizeof line),
+           GORITTAEM_REFUSED + GORITTAEM_PAYLOAD_TOO_LONG, line);
+    expect("with 77, which is no limit", gorittaem_write_n(77, 0x01, 0x10, payload, sizeof payload, line, sizeof line),
+           GORITTAEM_REFUSED + GORITTAEM_NOT_ALLOWED, line);
+    expect("read back with 260", gorittaem_decode_n(LIMIT, line + 1, len - 2, frame, sizeof frame), 198, frame);
+    wrong |= frame[0] != 0x01 || frame[1] != 0x10 || memcmp(frame + 2, payload, sizeof payload) != 0;
+    expect("with 78", gorittaem_decode(line + 1, len - 2, frame, sizeof frame), GORITTAEM_REFUSED + GORITTAEM_TOO_LONG, frame);
+    expect("with 261", gorittaem_decode_n(261, line + 1, len - 2, frame, sizeof frame),
+           GORITTAEM_REFUSED + GORITTAEM_NOT_ALLOWED, frame);
 }
 
 int main(void)
@@ -75,6 +99,7 @@ int main(void)
     expect("neither octets nor output", gorittaem_decode(NULL, 0, NULL, 0), GORITTAEM_REFUSED + GORITTAEM_TOO_SHORT, NULL);
     wrong |= gorittaem_check(NULL, 0) != 0;
 
+    longer_frames();
     puts(wrong ? "NOT as expected" : "as expected");
     return wrong;
 }

@@ -40,7 +40,8 @@ pub extern "C" fn gorittaem_decode(src: &[u8], out: &mut [u8]) -> usize
     ensures { λ r. ⌜ Crosses (decoded frameLimit (now (src .entry)) (length (now (out .entry))))
         (now (out .entry)) r (now (out .exit)) ⌝ }
 {
-    gorittaem_decode_n(LIMIT, src, out)
+    let answer = frame::decode(LIMIT, src, out);
+    crossing(answer)
 }
 
 // The same, with the frame limit `limit`.
@@ -59,7 +60,8 @@ pub extern "C" fn gorittaem_write(address: u8, control: u8, payload: &[u8], out:
     ensures { λ r. ⌜ Crosses (written frameLimit address control (now (payload .entry)) (length (now (out .entry))))
         (now (out .entry)) r (now (out .exit)) ⌝ }
 {
-    gorittaem_write_n(LIMIT, address, control, payload, out)
+    let answer = writer::write(LIMIT, address, control, payload, out);
+    crossing(answer)
 }
 
 // The same, with the frame limit `limit`.
