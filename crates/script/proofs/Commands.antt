@@ -36,7 +36,7 @@ abbrev pub commandNames : List (List ℕ)
 commandNames =
     spelled "frame" ∷ spelled "hear" ∷ spelled "show" ∷ spelled "stopped" ∷ spelled "raise" ∷ spelled "clear"
     ∷ spelled "device" ∷ spelled "scan" ∷ spelled "begin" ∷ spelled "probe" ∷ spelled "report" ∷ spelled "decode"
-    ∷ spelled "write" ∷ []
+    ∷ spelled "write" ∷ spelled "decode-n" ∷ spelled "write-n" ∷ spelled "limit" ∷ []
 
 -- ---- no word behind the command has that fault
 

@@ -1,18 +1,18 @@
 -- The commands of the bench script: each is known by its place among the names.
 --   names        == their names, in the order of their places; kinds == at each place a letter for each word behind it
---   frame .. write == the place of each
+--   frame .. limit == the place of each
 --   commands     == how many there are
--- The first of them are for one device of the row, up to `clear`, then those for the row; a new one goes behind the last.
+-- The first of them are for one device of the row, up to `clear`, and so is `limit`; a new one goes behind the last.
 -- Assumes nothing.
 use Prim.Native.Nat.{ℕ}
 use Prim.Native.String.{String}
 
 abbrev pub names : String
-names = "frame hear show stopped raise clear device scan begin probe report decode write"
+names = "frame hear show stopped raise clear device scan begin probe report decode write decode-n write-n limit"
 
 -- x HEX, and the letters of `valueOf`
 abbrev pub kinds : String
-kinds = "dxr dxr d dt da da xxxxttt l l r h xr ooxr"
+kinds = "dxr dxr d dt da da xxxxttt l l r h xr ooxr lxr looxr d"
 
 abbrev pub frame : ℕ
 frame = 0
@@ -53,5 +53,14 @@ decode = 11
 abbrev pub write : ℕ
 write = 12
 
+abbrev pub decodeN : ℕ
+decodeN = 13
+
+abbrev pub writeN : ℕ
+writeN = 14
+
+abbrev pub limit : ℕ
+limit = 15
+
 abbrev pub commands : ℕ
-commands = 13
+commands = 16

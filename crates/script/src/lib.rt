@@ -67,8 +67,16 @@ pub const DECODE: usize = 11;
 
 pub const WRITE: usize = 12;
 
+// To the codec, with a frame limit.
+pub const DECODE_N: usize = 13;
+
+pub const WRITE_N: usize = 14;
+
+// To one device of the row.
+pub const LIMIT: usize = 15;
+
 // How many there are.
-pub const COMMANDS: usize = 13;
+pub const COMMANDS: usize = 16;
 
 // ---- a line
 
@@ -485,7 +493,8 @@ fn is_unanswered(line: &[u8]) -> bool
 fn command_of(line: &[u8]) -> usize
     ensures { λ r. ⌜ r ≡ commandOf (now (line .entry)) ⌝ }
 {
-    let names = b"frame hear show stopped raise clear device scan begin probe report decode write";
+    let names =
+        b"frame hear show stopped raise clear device scan begin probe report decode write decode-n write-n limit";
     place_in(names, COMMANDS, word(line, 0))
 }
 
@@ -501,7 +510,10 @@ pub fn read_line(line: &[u8], devices: u8) -> Asked
         return wordless(Line::Faulty(Fault::Long));
     }
     let command = command_of(line);
-    let kinds = word(b"dxr dxr d dt da da xxxxttt l l r h xr ooxr", command);
+    let kinds = word(
+        b"dxr dxr d dt da da xxxxttt l l r h xr ooxr lxr looxr d",
+        command,
+    );
     if kinds.len() == 0 {
         return wordless(Line::Faulty(Fault::Command));
     }
