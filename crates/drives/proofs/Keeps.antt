@@ -1,5 +1,5 @@
 -- A "no" changes nothing: no device, no number of devices, no octet of the lent output. 01: "The caller gets the number
--- alone; the device, the scan and every octet lent stay as they were." Assumes nothing.
+-- alone; the device, the scan and every octet lent stay as they were." Nor does `limit`. Assumes nothing.
 use mathlib.Core.Path.{_≡_, refl, ap}
 use mathlib.Core.Bool.{Bool, true, false, cond, false≢true}
 use mathlib.Core.List.{List, [], _∷_}
@@ -12,9 +12,10 @@ use Rattle.device.specs.Judge.{Reaction, toldOf, deviceAfter, bufferAfter}
 use Rattle.bus.specs.declared.Row.{Row}
 use Rattle.bus.specs.Cable.{rowMost}
 use Rattle.script.specs.Commands as command
-use Rattle.drives.specs.Drives.{ScriptAnswer, noCommand, noDevice, full, device, outcome, answer, state, After, Came}
+use Rattle.drives.specs.Drives.{ScriptAnswer, noCommand, noDevice, full, device, outcome, answer, state, limit}
+use Rattle.drives.specs.Drives.{After, Came}
 use Rattle.drives.specs.Drives.{_saying_, _leaving_, withDevice, deviceAt, isDevice, listens, tells, happens, befalls}
-use Rattle.drives.specs.Drives.{freshBy, added, adds, drives, toDevice, obeyed}
+use Rattle.drives.specs.Drives.{freshBy, added, adds, tellsLimit, drives, toDevice, forDevice, obeyed}
 
 -- `error` and a word, or `refused N`
 pub isNo : ScriptAnswer → Bool
@@ -27,6 +28,7 @@ isNo (outcome (refuses k)) = true
 isNo (answer (gives x)) = false
 isNo (answer (refuses k)) = true
 isNo (state place) = false
+isNo (limit n) = false
 
 -- where the answer is a "no", the row is as it was
 record RowIf (row : Row) (x : After) : Type 0 where
@@ -62,6 +64,10 @@ module _ (row : Row) where
   befalls-keeps place (gives d) = record { kept = λ e. absurd (false≢true e) }
   befalls-keeps place (refuses k) = record { kept = λ e. back-again place }
 
+  tells-limit-keeps : (place : ℕ) → RowIf row (tellsLimit row place)
+  unfolding tellsLimit
+  tells-limit-keeps place = record { kept = λ e. refl }
+
   module _ (o : List ℕ) where
     either : (b : Bool) {x y : Came} → KeepsIf row o x → KeepsIf row o y → KeepsIf row o (cond b x y)
     either true p q = p
@@ -83,7 +89,8 @@ module _ (row : Row) where
     drives-keeps c place v os =
         either (leb c command.hear) (tells-keeps place (listens c (deviceAt row place) os (length o)))
         (either (eqb c command.show) unchanged
-        (leaving-keeps (befalls-keeps place (happens (deviceAt row place) c v))))
+        (either (eqb c command.limit) (leaving-keeps (tells-limit-keeps place))
+        (leaving-keeps (befalls-keeps place (happens (deviceAt row place) c v)))))
 
     device-keeps : (c k v : ℕ) (os : List ℕ) → KeepsIf row o (toDevice c row k v os o)
     unfolding toDevice
@@ -98,6 +105,17 @@ module _ (row : Row) where
         → (obeyed c row v os o .after .row ≡ row) × (obeyed c row v os o .lent ≡ o)
     unfolding obeyed
     no-keeps c v os =
-        let kept = either (leb c command.clear) (device-keeps c (getD v 1 0) (getD v 2 0) os)
+        let kept = either (forDevice c) (device-keeps c (getD v 1 0) (getD v 2 0) os)
         (either (eqb c command.device) (leaving-keeps (adds-keeps v os)) unchanged) in
         kept .kept
+
+    -- `limit` changes nothing, whatever K is
+    pub limit-keeps : (v os : List ℕ) → (obeyed command.limit row v os o .after .row ≡ row)
+        × (obeyed command.limit row v os o .lent ≡ o)
+    unfolding obeyed forDevice toDevice drives tellsLimit
+    limit-keeps v os = go (isDevice (row .count) (getD v 1 0)) _ _
+      where
+        go : (b : Bool) (x y : ScriptAnswer) → (cond b ((row saying x) leaving o) ((row saying y) leaving o) .after .row ≡ row)
+            × (cond b ((row saying x) leaving o) ((row saying y) leaving o) .lent ≡ o)
+        go true x y = (refl, refl)
+        go false x y = (refl, refl)

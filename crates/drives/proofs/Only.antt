@@ -13,8 +13,8 @@ use Rattle.bus.specs.declared.Row.{Row}
 use Rattle.drives.specs.declared.Response as the-response
 use Rattle.drives.specs.declared.Response.the-variants as code
 use Rattle.drives.specs.declared.Obeyed.{Obeyed}
-use Rattle.drives.specs.Drives.{ScriptAnswer, noCommand, noDevice, full, device, outcome, answer, state, After, replyOf}
-use Rattle.drives.specs.Drives.{Obeys, Came}
+use Rattle.drives.specs.Drives.{ScriptAnswer, noCommand, noDevice, full, device, outcome, answer, state, limit}
+use Rattle.drives.specs.Drives.{After, replyOf, Obeys, Came}
 use denote.Ref.{now}
 use Rattle.octets.proofs.Only.{AsksNothing, SettlesAll}
 use Rattle.drives.proofs.obey.Reads as obey-reads
@@ -28,6 +28,7 @@ Means (device k) x = x ≡ code.Device k
 Means (outcome a) x = (u : Outcome) × (x ≡ code.Outcome u) × (outcomeOf u ≡ a)
 Means (answer a) x = (s : Said) × (x ≡ code.Said s) × (saidOf s ≡ a)
 Means (state place) x = x ≡ code.State place
+Means (limit n) x = x ≡ code.Limit n
 
 means-it : (x : the-response.Response) → Means (replyOf x) x
 unfolding Means replyOf
@@ -38,6 +39,7 @@ means-it (code.Device k) = refl
 means-it (code.Outcome u) = (u, refl, refl)
 means-it (code.Said s) = (s, refl, refl)
 means-it (code.State place) = refl
+means-it (code.Limit n) = refl
 
 means-one : (y : ScriptAnswer) {x z : the-response.Response} → Means y x → Means y z → x ≡ z
 unfolding Means
@@ -48,6 +50,7 @@ means-one (device k) e f = e ∙ sym f
 means-one (outcome a) (u, e, p) (w, f, q) = e ∙ ap code.Outcome (outcome-apart u w (p ∙ sym q)) ∙ sym f
 means-one (answer a) (s, e, p) (t, f, q) = e ∙ ap code.Said (said-apart s t (p ∙ sym q)) ∙ sym f
 means-one (state place) e f = e ∙ sym f
+means-one (limit n) e f = e ∙ sym f
 
 -- no two of the code's answers stand for one
 pub reply-apart : (x z : the-response.Response) → replyOf x ≡ replyOf z → x ≡ z

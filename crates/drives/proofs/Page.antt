@@ -4,7 +4,7 @@ use mathlib.Core.Path.{_≡_, refl, sym, ap, _∙_}
 use mathlib.Core.Bool.{Bool, true, false, cond, not, _&&_, false≢true}
 use mathlib.Core.List.{List, [], _∷_, _++_}
 use mathlib.Core.Logic.{_↔_}
-use Prim.Native.Nat.{ℕ, _+_, _≤_, _<_}
+use Prim.Native.Nat.{ℕ, _+_, _-_, _≤_, _<_}
 use native.Mathlib.Omega.{arith}
 use lib.Dec.{leb, eqb}
 use lib.ListN.{length}
@@ -19,13 +19,15 @@ use Rattle.antenna.specs.declared.Angle.{Angle}
 use Rattle.tilt.specs.Tilts.{angleOf}
 use Rattle.record.specs.declared.Device.{Device}
 use Rattle.record.specs.declared.Event.the-variants.{Stopped, Raised, Cleared}
+use Rattle.record.specs.Allowed.{limitOf}
 use Rattle.record.specs.Fresh.{freshOf}
 use Rattle.record.specs.Accounts.{FreshAccount}
 use Rattle.record.proofs.Accounts.{fresh-is}
 use Rattle.bus.specs.declared.Row.{Row}
 use Rattle.script.specs.Commands as command
-use Rattle.drives.specs.Drives.{ScriptAnswer, noCommand, noDevice, full, device, outcome, answer, state}
-use Rattle.drives.specs.Drives.{_saying_, tiltOf, freshWith, freshBy, added, adds, isDevice, eventOf}
+use Rattle.drives.specs.Drives.{ScriptAnswer, noCommand, noDevice, full, device, outcome, answer, state, limit}
+use Rattle.drives.specs.Drives.{_saying_, _leaving_, value, tiltOf, freshWith, freshBy, added, adds, isDevice}
+use Rattle.drives.specs.Drives.{deviceAt, eventOf, tellsLimit, drives, toDevice, forDevice, obeyed}
 
 -- ---- tilts
 
@@ -64,6 +66,7 @@ isFull (device k) = false
 isFull (outcome x) = false
 isFull (answer x) = false
 isFull (state place) = false
+isFull (limit n) = false
 
 added-not-full : (row : Row) (x : Answer Device) → isFull (added row x .reply) ≡ false
 unfolding added isFull
@@ -94,6 +97,14 @@ device-exactly n k few = (
       (omega (arith, some), most),
   λ w. rw (ne-eqb k 0 (λ e. omega (arith, e, w .0)), le-leb k 32 (omega (arith, few, w .1)), le-leb k n (w .1)),
 )
+
+-- ---- `limit`
+
+-- "`limit K` the frame limit of the link of device K", and neither the row nor the lent output changes
+pub limit-says : (row : Row) (v os o : List ℕ) → row .count ≤ 32 → 1 ≤ value v 1 → value v 1 ≤ row .count
+    → obeyed command.limit row v os o ≡ (row saying limit (limitOf (deviceAt row (value v 1 - 1)))) leaving o
+unfolding obeyed forDevice toDevice drives tellsLimit
+limit-says row v os o few least most = rw (device-exactly (row .count) (value v 1) few .1 (least, most))
 
 -- ---- `device`
 

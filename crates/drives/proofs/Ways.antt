@@ -15,7 +15,7 @@ use Rattle.refusal.proofs.Answers.{gives-not-refuses}
 use Rattle.antenna.specs.declared.Angle.{Angle}
 use Rattle.record.specs.declared.Device.{Device}
 use Rattle.record.specs.Fresh.{freshOf, blankDevice}
-use Rattle.record.specs.Allowed.{allowedDevice}
+use Rattle.record.specs.Allowed.{allowedDevice, limitOf}
 use Rattle.record.specs.Changes.{eventRows, happened}
 use Rattle.device.specs.declared.Said.{Said}
 use Rattle.device.specs.declared.Judged.{Judged}
@@ -26,10 +26,10 @@ use Rattle.octets.specs.Octets.{partOf}
 use Rattle.script.specs.Commands as command
 use Rattle.drives.specs.declared.Response.the-variants as code
 use Rattle.drives.specs.declared.Obeyed.{Obeyed}
-use Rattle.drives.specs.Drives.{After, Came, Obeys, noDevice, device, outcome, answer, state}
+use Rattle.drives.specs.Drives.{After, Came, Obeys, noDevice, device, outcome, answer, state, limit}
 use Rattle.drives.specs.Drives.{_saying_, _leaving_, replyOf, afterOf, isDevice, deviceAt, withDevice, value}
 use Rattle.drives.specs.Drives.{tiltOf, listens, tells, isValue, eventOf, happens, befalls, areTilts, freshWith}
-use Rattle.drives.specs.Drives.{freshBy, added, adds, drives, toDevice, obeyed}
+use Rattle.drives.specs.Drives.{freshBy, added, adds, tellsLimit, drives, toDevice, forDevice, obeyed}
 use Rattle.drives.specs.Steps.{putBack}
 
 -- ---- a place
@@ -93,6 +93,11 @@ pub befalls-at : (row : Row) (place c v : ℕ) {d d' : Device} {u : Outcome} {r 
     → d ≡ deviceAt row place → Changes (happens d c v) d u d' → r ≡ putBack row place d' (code.Outcome u)
     → afterOf r ≡ befalls row place (happens (deviceAt row place) c v)
 befalls-at row place c v e h p = befalls-is row place (happens (deviceAt row place) c v) (rw e at h) p
+
+pub limit-at : (row : Row) (place : ℕ) {d : Device} {n : ℕ} → d ≡ deviceAt row place → n ≡ limitOf d
+    → row saying limit n ≡ tellsLimit row place
+unfolding tellsLimit
+limit-at row place e f = ap (λ (n : ℕ). row saying limit n) (f ∙ ap limitOf e)
 
 -- an alarm that is a value is an octet
 pub alarm-octet : (c v : ℕ) → isValue c v ≡ true → (c ≡ command.stopped → ⊥) → v < 256
@@ -179,14 +184,23 @@ module _ (c : ℕ) (row : Row) (os o : List ℕ) where
     unfolding drives
     drives-state h = rw (lt-leb c command.hear (omega arith), eq-eqb c command.show h)
 
-    pub drives-event : command.hear < c → (c ≡ command.show → ⊥)
-        → befalls row place (happens (deviceAt row place) c v) leaving o ≡ drives c row place v os o
+    pub drives-limit : c ≡ command.limit → tellsLimit row place leaving o ≡ drives c row place v os o
     unfolding drives
-    drives-event h e = rw (lt-leb c command.hear h, ne-eqb c command.show e)
+    drives-limit h =
+        rw (lt-leb c command.hear (omega arith), ne-eqb c command.show (λ e. omega arith), eq-eqb c command.limit h)
 
-    pub event-obeys : {r : Obeyed} → command.hear < c → (c ≡ command.show → ⊥)
-        → afterOf r ≡ befalls row place (happens (deviceAt row place) c v) → Obeys (drives c row place v os o) r o
-    event-obeys h n a = obeys-by (drives-event h n) (record { after = a; lent = refl })
+    pub limit-obeys : {r : Obeyed} → c ≡ command.limit → afterOf r ≡ tellsLimit row place
+        → Obeys (drives c row place v os o) r o
+    limit-obeys h a = obeys-by (drives-limit h) (record { after = a; lent = refl })
+
+    module _ (h : command.hear < c) (n : c ≡ command.show → ⊥) (m : c ≡ command.limit → ⊥) where
+      drives-event : befalls row place (happens (deviceAt row place) c v) leaving o ≡ drives c row place v os o
+      unfolding drives
+      drives-event = rw (lt-leb c command.hear h, ne-eqb c command.show n, ne-eqb c command.limit m)
+
+      pub event-obeys : {r : Obeyed} → afterOf r ≡ befalls row place (happens (deviceAt row place) c v)
+          → Obeys (drives c row place v os o) r o
+      event-obeys a = obeys-by drives-event (record { after = a; lent = refl })
 
   module _ (k v : ℕ) {b : Bool} (e : b ≡ isDevice (row .count) k) where
     pub at-device : b ≡ true → drives c row (k - 1) v os o ≡ toDevice c row k v os o
@@ -197,16 +211,19 @@ module _ (c : ℕ) (row : Row) (os o : List ℕ) where
     unfolding toDevice
     no-device t = let y : isDevice (row .count) k ≡ false = sym e ∙ t in rw y
 
-  module _ (v : List ℕ) where
-    pub obeyed-device : c ≤ command.clear → toDevice c row (value v 1) (value v 2) os o ≡ obeyed c row v os o
+  module _ (v : List ℕ) {b : Bool} (e : b ≡ forDevice c) where
+    pub obeyed-device : b ≡ true → toDevice c row (value v 1) (value v 2) os o ≡ obeyed c row v os o
     unfolding obeyed
-    obeyed-device h = rw (le-leb c command.clear h)
+    obeyed-device t = let y : forDevice c ≡ true = sym e ∙ t in rw y
 
-    pub obeyed-adds : c ≡ command.device → adds row v os leaving o ≡ obeyed c row v os o
-    unfolding obeyed
-    obeyed-adds h = rw (lt-leb c command.clear (omega arith), eq-eqb c command.device h)
+    module _ (t : b ≡ false) where
+      pub obeyed-adds : c ≡ command.device → adds row v os leaving o ≡ obeyed c row v os o
+      unfolding obeyed
+      obeyed-adds h = let y : forDevice c ≡ false = sym e ∙ t in rw (y, eq-eqb c command.device h)
 
-    pub obeys-none : command.clear < c → (c ≡ command.device → ⊥)
-        → Obeys (obeyed c row v os o) (record { row = row; answer = code.NoCommand }) o
-    unfolding obeyed replyOf
-    obeys-none h e = rw (lt-leb c command.clear h, ne-eqb c command.device e) (record { after = refl; lent = refl })
+      pub obeys-none : (c ≡ command.device → ⊥)
+          → Obeys (obeyed c row v os o) (record { row = row; answer = code.NoCommand }) o
+      unfolding obeyed replyOf
+      obeys-none n =
+          let y : forDevice c ≡ false = sym e ∙ t in
+          rw (y, ne-eqb c command.device n) (record { after = refl; lent = refl })

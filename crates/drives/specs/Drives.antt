@@ -1,4 +1,4 @@
--- The bench's row of drives. docs/BENCH.md: its table, from `device` to `show`.
+-- The bench's row of drives. docs/BENCH.md: its tables, the commands for one device, and `device`.
 --   ScriptAnswer             == an answer, in the script's words
 --   After             == the row after a command, and the answer to it; Came == that, and the lent output, BUFFER
 --   value v n         == what the word n stands for
@@ -8,13 +8,15 @@
 --   isDevice n k      == K is a device of a row with n of them; deviceAt row place == the one at a place
 --   isValue c v       == the number v is a value of the event c; eventOf c v == that event
 --   happens d c v     == the event c of the value v, of the device d
+--   tellsLimit row place == `limit`: the frame limit of the device at a place
 --   toDevice c row k v os o == the command c to the device K, with the value v of an event, or with octets
+--   forDevice c       == the command c is for one device
 --   obeyed c row v os o     == the command c with the values v and the octets os, and the lent output o
 --   replyOf x         == the answer that the code's answer x is
 --   Obeys right r o'  == the code's result r, and the lent output o' after it, are what is right
 -- Assumes nothing.
 use mathlib.Core.Path.{_≡_}
-use mathlib.Core.Bool.{Bool, cond, not, _&&_}
+use mathlib.Core.Bool.{Bool, cond, not, _&&_, _||_}
 use mathlib.Core.List.{List, [], _∷_}
 use mathlib.Core.Option.{Option}
 use Prim.Native.Nat.{ℕ, _+_, _-_}
@@ -28,7 +30,7 @@ use Rattle.record.specs.declared.Device.{Device}
 use Rattle.record.specs.declared.Event.{Event}
 use Rattle.record.specs.declared.Event.the-variants.{Stopped, Raised, Cleared}
 use Rattle.record.specs.Fresh.{freshOf, blankDevice}
-use Rattle.record.specs.Allowed.{allowedDevice}
+use Rattle.record.specs.Allowed.{allowedDevice, limitOf}
 use Rattle.record.specs.Changes.{canBe, afterEvent, withAntenna}
 use Rattle.device.specs.Judge.{Reaction, judged, heard, saidOf, toldOf, deviceAfter, bufferAfter}
 use Rattle.bus.specs.declared.Row.{Row}
@@ -53,6 +55,8 @@ pub data ScriptAnswer : Type 0 where
   answer : Answer (Option ℕ) → ScriptAnswer
   -- "`state LINK ADDRESS PENDING DRIVE TILT RAISED TOLD SUBSCRIBED`", of the device at this place
   state : ℕ → ScriptAnswer
+  -- "`limit N`"
+  limit : ℕ → ScriptAnswer
 
 pub record After : Type 0 where
   pub row : Row
@@ -148,23 +152,32 @@ happens d c v =
 unfoldable pub befalls : Row → ℕ → Answer Device → After
 befalls row place x = withDevice row place (stateAfter x (deviceAt row place)) saying outcome (settled x)
 
--- `frame` and `hear`, `show`, and the events
+-- "`limit K` the frame limit of the link of device K"
+unfoldable pub tellsLimit : Row → ℕ → After
+tellsLimit row place = row saying limit (limitOf (deviceAt row place))
+
+-- `frame` and `hear`, `show`, `limit`, and the events
 unfoldable pub drives : ℕ → Row → ℕ → ℕ → List ℕ → List ℕ → Came
 drives c row place v os o =
     cond (leb c command.hear) (tells row place (listens c (deviceAt row place) os (length o)) o)
     (cond (eqb c command.show) ((row saying state place) leaving o)
-    (befalls row place (happens (deviceAt row place) c v) leaving o))
+    (cond (eqb c command.limit) (tellsLimit row place leaving o)
+    (befalls row place (happens (deviceAt row place) c v) leaving o)))
 
 -- "A K that is a number but no device of the bench .. is `error device`"
 unfoldable pub toDevice : ℕ → Row → ℕ → ℕ → List ℕ → List ℕ → Came
 toDevice c row k v os o =
     cond (isDevice (row .count) k) (drives c row (k - 1) v os o) ((row saying noDevice) leaving o)
 
--- ---- a command: to a device, up to `clear`, or `device`
+-- ---- a command: to a device, or `device`
+
+-- the first of them, up to `clear`, and `limit`
+unfoldable pub forDevice : ℕ → Bool
+forDevice c = leb c command.clear || eqb c command.limit
 
 unfoldable pub obeyed : ℕ → Row → List ℕ → List ℕ → List ℕ → Came
 obeyed c row v os o =
-    cond (leb c command.clear) (toDevice c row (value v 1) (value v 2) os o)
+    cond (forDevice c) (toDevice c row (value v 1) (value v 2) os o)
     (cond (eqb c command.device) (adds row v os leaving o) ((row saying noCommand) leaving o))
 
 -- ---- the code's answers
@@ -177,6 +190,7 @@ replyOf (code.Device k) = device k
 replyOf (code.Outcome x) = outcome (outcomeOf x)
 replyOf (code.Said x) = answer (saidOf x)
 replyOf (code.State place) = state place
+replyOf (code.Limit n) = limit n
 
 abbrev pub afterOf : Obeyed → After
 afterOf r = r .row saying replyOf (r .answer)

@@ -7,12 +7,13 @@ ghost use mathlib.Core.Bool.{true};
 ghost use Prim.Native.Nat.{_<_};
 ghost use lib.ListN.{length, getD};
 ghost use Rattle.refusal.specs.Answer.{Changes};
+ghost use Rattle.record.specs.Allowed.{limitOf};
 ghost use Rattle.record.specs.Fresh.{blankDevice};
 ghost use Rattle.device.specs.Judge.{Judges};
 ghost use Rattle.bus.specs.Cable.{rowMost};
 ghost use Rattle.drives.specs.Drives.{Obeys, afterOf, isTilt, tiltOf, areTilts, freshWith, added, adds};
 ghost use Rattle.drives.specs.Drives.{isDevice, deviceAt, listens, tells, isValue, eventOf, happens, befalls};
-ghost use Rattle.drives.specs.Drives.{toDevice, obeyed};
+ghost use Rattle.drives.specs.Drives.{tellsLimit, toDevice, forDevice, obeyed};
 ghost use Rattle.drives.specs.Steps.{putBack};
 use antenna::Angle;
 use bus::MOST;
@@ -30,7 +31,7 @@ use refusal::Refusal;
 pub type Values = [usize; 8];
 
 // An answer: `error command`, `error device`, `error full`; `device K`; `done` or `refused N`; `answer`, `silence` or
-// `refused N`; `state`, of the device at this place of the row.
+// `refused N`; `state`, of the device at this place of the row; `limit N`.
 pub enum Response {
     NoCommand,
     NoDevice,
@@ -39,6 +40,7 @@ pub enum Response {
     Outcome(Outcome),
     Said(Said),
     State(usize),
+    Limit(usize),
 }
 
 // The row after a command, and the answer to it.
@@ -246,7 +248,28 @@ fn befall(row: Row, place: usize, command: usize, value: usize) -> Obeyed
     put_back(row, place, device, Response::Outcome(outcome))
 }
 
-// `frame` and `hear`, `show`, else an event. The words of a command to a device: K, and for an event its value.
+fn limit_of(device: Device) -> usize
+    ensures { λ r. ⌜ r ≡ limitOf device ⌝ }
+{
+    let station = device.station;
+    let desk = station.desk;
+    desk.limit
+}
+
+// `limit`: the device stays as it is, and so does the row.
+fn tell_limit(row: Row, place: usize) -> Obeyed
+    requires { ⌜ place < rowMost ⌝ }
+    ensures { λ r. ⌜ afterOf r ≡ tellsLimit row place ⌝ }
+{
+    let devices = row.devices;
+    let limit = limit_of(device_at(devices, place));
+    Obeyed {
+        row,
+        answer: Response::Limit(limit),
+    }
+}
+
+// `frame` and `hear`, `show`, `limit`, else an event. The words of a command to a device: K, and the value of an event.
 fn to_device(
     row: Row,
     command: usize,
@@ -268,6 +291,9 @@ fn to_device(
                 answer: Response::State(k - 1),
             };
         }
+        if command == script::LIMIT {
+            return tell_limit(row, k - 1);
+        }
         return befall(row, k - 1, command, value);
     }
     Obeyed {
@@ -276,12 +302,22 @@ fn to_device(
     }
 }
 
-// The commands to a device stand first among the names, and `device` behind them; no other is for the row.
+// The commands to a device stand first among the names, but for `limit`.
+fn is_for_device(command: usize) -> bool
+    ensures { λ r. ⌜ r ≡ forDevice command ⌝ }
+{
+    if command <= script::CLEAR {
+        return true;
+    }
+    command == script::LIMIT
+}
+
+// The commands to a device, and `device`; no other is for the row.
 pub fn obey(row: Row, command: usize, values: Values, octets: &[u8], lent: &mut [u8]) -> Obeyed
     ensures { λ r. ⌜ Obeys (obeyed command row values (now (octets .entry)) (now (lent .entry)))
         r (now (lent .exit)) ⌝ }
 {
-    if command <= script::CLEAR {
+    if is_for_device(command) {
         return to_device(row, command, values[1], values[2], octets, lent);
     }
     if command == script::DEVICE {

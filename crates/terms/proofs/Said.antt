@@ -68,6 +68,7 @@ reply-said (reply.Device k) = refl
 reply-said (reply.Outcome x) = outcome-said x
 reply-said (reply.Said x) = said-said x
 reply-said (reply.State place) = refl
+reply-said (reply.Limit n) = refl
 
 either-said : (b : Bool) {v w : List ℕ} → Spoken v → Spoken w → Spoken (cond b v w)
 either-said true p q = p
@@ -75,7 +76,9 @@ either-said false p q = q
 
 handed-said : (c : ℕ) (x : Handed) → Spoken (handedWord c x)
 unfolding nameOf lettersOf handedWord givenWord spelled placeOf _atStartOf_
-handed-said c (Octets n) = either-said (eqb c command.probe) refl (either-said (eqb c command.decode) refl refl)
+handed-said c (Octets n) =
+    either-said (eqb c command.probe) refl
+    (either-said (eqb c command.decode) refl (either-said (eqb c command.decodeN) refl refl))
 handed-said c (Handed.Refused k) = refl
 
 end-said : (s : State) → Spoken (endWord s)

@@ -2,8 +2,8 @@
 --   nameOf w         == the word w with full stops behind it; lettersOf x == what the name x has before its first
 --   faultWord f      == a line with the fault f
 --   replyWord x      == the answer x of the row of devices; outcomeWord x, saidWord x == its parts
---   handedWord c x   == the command c, of `probe`, `decode` and `write`, that was to hand out octets and answers x;
---                       givenWord c == where it did
+--   handedWord c x   == the command c, of `probe`, `decode`, `write`, `decode-n` and `write-n`, that was to hand out octets
+--                       and answers x; givenWord c == where it did
 --   endWord s        == a scan that stands at s; behindOf s == how many words stand behind its count
 --   linkWord, pendingWord, driveWord == LINK, PENDING and DRIVE of `show`, up to a number or octets
 --   wordOf t         == the word for t
@@ -65,7 +65,7 @@ saidWord Silence = spelled "silence"
 saidWord (Frame n) = spelled "answer"
 saidWord (Said.Refused k) = spelled "refused"
 
--- "`device K` ..; or `refused 6`; a 33rd gets `error full`"; "`state LINK .."
+-- "`device K` ..; or `refused 6`; a 33rd gets `error full`"; "`state LINK .."; "`limit N`"
 unfoldable pub replyWord : Response → List ℕ
 replyWord reply.NoCommand = spelled "error command"
 replyWord reply.NoDevice = spelled "error device"
@@ -74,11 +74,13 @@ replyWord (reply.Device k) = spelled "device"
 replyWord (reply.Outcome x) = outcomeWord x
 replyWord (reply.Said x) = saidWord x
 replyWord (reply.State place) = spelled "state"
+replyWord (reply.Limit n) = spelled "limit"
 
--- "`probe LEN BUFFER`", "`frame LEN BUFFER`", "`line LEN BUFFER` or `refused N BUFFER`"
+-- "`probe LEN BUFFER`", "`frame LEN BUFFER`", "`line LEN BUFFER` or `refused N BUFFER`"; "as `decode` and `write`"
 unfoldable pub givenWord : ℕ → List ℕ
 givenWord c =
-    cond (eqb c command.probe) (spelled "probe") (cond (eqb c command.decode) (spelled "frame") (spelled "line"))
+    cond (eqb c command.probe) (spelled "probe")
+    (cond (eqb c command.decode) (spelled "frame") (cond (eqb c command.decodeN) (spelled "frame") (spelled "line")))
 
 unfoldable pub handedWord : ℕ → Handed → List ℕ
 handedWord c (Octets n) = givenWord c

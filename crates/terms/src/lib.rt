@@ -70,7 +70,7 @@ const ERROR_DEVICE: Name = *b"error device..";
 
 const ERROR_FULL: Name = *b"error full....";
 
-// Where a scan stands.
+// Where a scan stands; the fourth is the word for a frame limit, too.
 const GOING: Name = *b"going.........";
 
 const COMPLETE: Name = *b"complete......";
@@ -148,10 +148,11 @@ fn reply_word(answer: Response) -> Name
         Response::Outcome(outcome) => outcome_word(outcome),
         Response::Said(said) => said_word(said),
         Response::State(_) => STATE,
+        Response::Limit(_) => LIMIT,
     }
 }
 
-// `probe`, `decode`, else `write`.
+// `probe`, `decode` and `decode-n`, else `write` and `write-n`.
 fn given_word(command: usize) -> Name
     ensures { λ r. ⌜ r ≡ nameOf (givenWord command) ⌝ }
 {
@@ -159,6 +160,9 @@ fn given_word(command: usize) -> Name
         return PROBE;
     }
     if command == script::DECODE {
+        return FRAME;
+    }
+    if command == script::DECODE_N {
         return FRAME;
     }
     LINE

@@ -18,5 +18,9 @@ returns-3 : tie.Need-returns-3
 unfolding nameOf givenWord spelled _atStartOf_
 returns-3 c = search tests
 
+returns-4 : tie.Need-returns-4
+unfolding nameOf givenWord spelled _atStartOf_
+returns-4 c = search tests
+
 pub given-word-spec : {M : Type 1} → statement M
-given-word-spec = tie.close (tie.spec returns returns-2 returns-3)
+given-word-spec = tie.close (tie.spec returns returns-2 returns-3 returns-4)

@@ -35,6 +35,9 @@ said-word-requires c κs = search needs
 enum-told-5 : tie.Need-enum-told-5
 enum-told-5 c = search needs
 
+enum-told-6 : tie.Need-enum-told-6
+enum-told-6 c = search needs
+
 returns : tie.Need-returns
 unfolding nameOf replyWord spelled _atStartOf_
 returns c = search (tests, c .enum-told .given .1)
@@ -63,6 +66,10 @@ returns-7 : tie.Need-returns-7
 unfolding nameOf replyWord spelled _atStartOf_
 returns-7 c = search (tests, c .enum-told5 .given .1)
 
+returns-8 : tie.Need-returns-8
+unfolding nameOf replyWord spelled _atStartOf_
+returns-8 c = search (tests, c .enum-told6 .given .1)
+
 pub reply-word-spec : {M : Type 1} → statement M
 reply-word-spec =
     tie.close
@@ -76,10 +83,12 @@ reply-word-spec =
     enum-known-answer-2
     said-word-requires
     enum-told-5
+    enum-told-6
     returns
     returns-2
     returns-3
     returns-4
     returns-5
     returns-6
-    returns-7)
+    returns-7
+    returns-8)
