@@ -4,6 +4,7 @@ pub mod Heard
 pub mod Scans
 pub mod Lines
 pub mod Longer
+pub mod Longest
 pub mod Assigns
 pub mod Shared
 pub mod Starts

@@ -37,7 +37,7 @@ pub use Rattle.xid_answer.proofs.Agreement.{negotiation-formed, asked-again, an
 pub use Rattle.conduct.proofs.Limits.{first-keeps, declined-keeps, limit-changes}
 -- "Decoder .. and writer take N": `decode-numbers`, `write-numbers` on the page One, `written-reads-back`, `line-longest` on
 -- the page Two; a line of 2N + 2 octets is reached, at 78 and at 260
-pub use Rattle.frame.proofs.Longest.{line-reached-78, line-reached-260}
+pub use Rattle.bus.proofs.Longest.{line-reached-78, line-reached-260}
 -- on the cable: what the master writes with the N of the link is heard as it was put in, so after a negotiation up to the
 -- limit agreed on; what has no room in it gets 2
 pub use Rattle.bus.proofs.Hears.{hears-with}

@@ -5,7 +5,6 @@ pub mod Escapes
 pub mod Exact
 pub mod Judge
 pub mod Lengths
-pub mod Longest
 pub mod Lines
 pub mod Only
 pub mod Trip
