@@ -41,7 +41,7 @@ line-written = line-with frameLimit limit-least
 
 -- a line whose frame has room in the frame limit of the link is judged as it was put in
 module _ (d : Device) (a c : ℕ) (p : List ℕ) (allowed : allowedDevice d ≡ true) (os : Octets (a ∷ c ∷ p)) where
-  hears-line : length p ≤ payloadMost (limitOf d)
+  pub hears-line : length p ≤ payloadMost (limitOf d)
       → hears d (lineOf (a ∷ c ∷ p)) ≡ gives (reactionOf (judgedFrame d (a ∷ c ∷ p)))
   unfolding hears heard heardBy
   hears-line h =

@@ -1,40 +1,50 @@
--- Longer frames on the cable: a negotiation, written as a line, is heard and answered; and a frame is heard as it was put
--- in exactly if it has room in the frame limit of the link, and gets 2 where it has not. Assumes nothing.
+-- Longer frames on the cable: a negotiation, written as a line, is heard and answered, both ends have the same limit then, and
+-- frames up to it are heard; a frame is heard as it was put in exactly if it has room in the frame limit of the link, and gets
+-- 2 where it has not. What a device answers is read back with any limit. Assumes nothing.
 use mathlib.Core.Path.{_≡_, refl, sym, ap, ap₂, _∙_}
-use mathlib.Core.Bool.{true, false}
+use mathlib.Core.Bool.{Bool, true, false}
+use mathlib.Core.Logic.{_↔_, _⊎_, inl, inr, ⊎-map, ⊎-elim}
 use mathlib.Core.List.{List, _∷_}
 use mathlib.Core.Option.{Option, some}
 use Prim.Native.Nat.{ℕ, _+_, _≤_, _<_}
 use native.Mathlib.Omega.{arith}
-use borrow.Author.Tests.{eq-eqb, ne-eqb}
-use lib.Dec.{eqb}
-use lib.ListN.{length}
+use borrow.Author.Tests.{eq-eqb, ne-eqb, leb-true, leb-false}
+use lib.Dec.{eqb, leb}
+use lib.ListN.{length, drop}
 use Rattle.octets.specs.Octets.{Octets}
-use Rattle.refusal.specs.Answer.{gives, refuses}
+use Rattle.refusal.specs.Answer.{Answer, gives, refuses}
+use Rattle.refusal.proofs.Answers.{gives-not-refuses, in-room}
 use Rattle.limits.specs.Limits.{isLimit, limitMost, frameMost, payloadMost}
+use Rattle.limits.proofs.Exactly.{limit-exactly}
 use Rattle.fcs.specs.Check.{withCheck}
 use Rattle.frame.specs.Line.{broken, plain, onLine, inside}
+use Rattle.frame.specs.Decode.{decoded}
 use Rattle.frame.specs.Write.{lineOf}
 use Rattle.frame.proofs.Assembled.{length-withCheck}
 use Rattle.frame.proofs.Exact.{decode-2}
-use Rattle.frame.proofs.Trip.{whole-line, plain-onLine, inside-between}
+use Rattle.frame.proofs.Trip.{whole-line, plain-onLine, inside-between, trip}
 use Rattle.record.specs.declared.Device.{Device}
 use Rattle.record.specs.Allowed.{limitOf, allowedDevice}
 use Rattle.record.specs.Changes.{deviceOf, limitedTo}
 use Rattle.record.proofs.Stays.{sound, limit-allowed, limited}
-use Rattle.params.specs.Field.{Param, WellFormed}
-use Rattle.negotiation.specs.Negotiation.{negotiating, agreedLimit}
+use Rattle.params.specs.Field.{Param, WellFormed, given}
+use Rattle.negotiation.specs.declared.Offer.the-variants.{Agreed}
+use Rattle.negotiation.specs.Negotiation.{negotiating, agreedLimit, askedIn, offerOf}
+use Rattle.negotiation.proofs.Exactly.{agreed-least}
+use Rattle.xid_answer.proofs.Agreement.{answer-read}
 use Rattle.link.specs.Link.{hasAddress, isOwn, judgedFrame}
 use Rattle.link.specs.Frames.{Negotiates}
 use Rattle.conduct.specs.Comes.{Comes, left}
 use Rattle.conduct.specs.Spelt.{negotiationSaid, octetsSaid}
 use Rattle.conduct.proofs.Addressed.{link-addressed, addressed-bounds}
 use Rattle.conduct.proofs.Comes.{comes-leaves}
-use Rattle.conduct.proofs.Says.{frame-octets}
+use Rattle.conduct.proofs.Says.{negotiation-is, frame-octets}
+use Rattle.conduct.proofs.Limits.{Lengthy}
 use Rattle.conduct.proofs.Stays.{limited-stays}
-use Rattle.device.specs.Judge.{Reaction, reacts, reactionOf, heardBy, decodedHere, heard}
-use Rattle.bus.specs.Cable.{lineWith, lineFor, hears}
-use Rattle.bus.proofs.Hears.{hears-written, hears-with}
+use Rattle.device.specs.Judge.{Reaction, reacts, reactionOf, heardBy, decodedHere, heard, deviceAfter}
+use Rattle.device.proofs.Fits.{answer-fits}
+use Rattle.bus.specs.Cable.{lineWith, lineFor, hears, afterLine}
+use Rattle.bus.proofs.Hears.{hears-line, hears-written, hears-with}
 
 -- ---- a negotiation
 
@@ -76,33 +86,85 @@ module _ (d : Device) (allowed : allowedDevice d ≡ true) (has : hasAddress (d 
       (ap₂ (λ (e : Device) (x : Option (List ℕ)). record { device = e; frame = x })
       (comes-leaves d asking c) (frame-octets d asking c))
 
--- ---- frames after it
+  -- after it
+  module _ (ps : List Param) (formed : WellFormed negotiating m ps) where
+    abbrev agreed : ℕ
+    agreed = agreedLimit (limitOf d) ps
 
--- a frame that has no room in the limit of the link gets 2, as it lies on the line
-pub longer-refused : (d : Device) (a c : ℕ) (p : List ℕ) → allowedDevice d ≡ true → payloadMost (limitOf d) < length p
-    → hears d (lineOf (a ∷ c ∷ p)) ≡ refuses 2
-unfolding hears heard heardBy lineOf
-longer-refused d a c p allowed h =
-    let b : List ℕ = a ∷ c ∷ p in
-    let long : length (plain (onLine (withCheck b))) ≡ length b + 2 =
-    ap length (plain-onLine (withCheck b)) ∙ length-withCheck b in
-    let said : decodedHere d (inside (lineOf b)) ≡ refuses 2 =
-    ap (decodedHere d) (inside-between (withCheck b))
-    ∙ decode-2 (limitOf d) (onLine (withCheck b)) (frameMost limitMost) .1 (
-      limit-allowed d allowed,
-      whole-line (withCheck b),
-      omega (arith, long),
-      omega (arith, long, limited d allowed .0),
-    ) in
-    ap (heardBy d (frameMost limitMost)) said
+    abbrev later : Device
+    later = afterLine d (lineFor asking)
 
--- a device with the frame limit n hears what the master writes with n, up to n - 4 octets of payload
-pub longer-heard : (d : Device) (n a c : ℕ) (p : List ℕ) → allowedDevice d ≡ true → isLimit n ≡ true
-    → Octets (a ∷ c ∷ p) → length p ≤ payloadMost n
-    → hears (limitedTo d n) (lineWith n (a ∷ c ∷ p)) ≡ gives (reactionOf (judgedFrame (limitedTo d n) (a ∷ c ∷ p)))
-unfolding limitedTo deviceOf
-longer-heard d n a c p allowed ok os h = go (limitedTo d n) refl (limited-stays d n allowed ok)
-  where
-    go : (e : Device) → limitOf e ≡ n → allowedDevice e ≡ true
-        → hears e (lineWith n (a ∷ c ∷ p)) ≡ gives (reactionOf (judgedFrame e (a ∷ c ∷ p)))
-    go e is good = rw (← is) (hears-with e a c p good os (rw is h))
+    later-is : later ≡ limitedTo d agreed
+    unfolding deviceAfter
+    later-is = ap (λ (x : Answer Reaction). deviceAfter x d) (negotiation-heard ps formed)
+
+    -- the limit that was agreed on is the device's
+    pub limit-later : limitOf later ≡ agreed
+    unfolding limitedTo deviceOf
+    limit-later = ap limitOf later-is
+
+    later-allowed : allowedDevice later ≡ true
+    later-allowed =
+        ap allowedDevice later-is
+        ∙ limited-stays d agreed allowed (agreed-least (limitOf d) ps (limit-allowed d allowed))
+
+    -- and the master's, whatever M was, where it asked a length
+    pub master-reads : (M : ℕ) → Lengthy ps
+        → offerOf M (drop 2 (negotiationSaid (d .station .desk .address) ps agreed)) ≡ Agreed agreed (askedIn ps)
+    unfolding askedIn given
+    master-reads M long =
+        ap (λ (g : List ℕ). offerOf M (drop 2 g)) (sym (negotiation-is (d .station .desk .address) ps agreed))
+        ∙ answer-read (askedIn ps) agreed M (agreed-least (limitOf d) ps (limit-allowed d allowed))
+        (⊎-map (λ w. rw (w .1)) (λ w. rw (w .1)) long)
+
+    -- so whatever the master writes with it is heard as it was put in, up to N - 4 octets of payload
+    pub heard-later : (a c : ℕ) (p : List ℕ) → Octets (a ∷ c ∷ p) → length p ≤ payloadMost agreed
+        → hears later (lineWith agreed (a ∷ c ∷ p)) ≡ gives (reactionOf (judgedFrame later (a ∷ c ∷ p)))
+    heard-later a c p os h = rw (← limit-later) (hears-with later a c p later-allowed os (rw limit-later h))
+
+-- ---- frames by the limit of the link
+
+module _ (d : Device) (a c : ℕ) (p : List ℕ) (allowed : allowedDevice d ≡ true) where
+  -- a frame that has no room in it gets 2, as it lies on the line
+  pub longer-refused : payloadMost (limitOf d) < length p → hears d (lineOf (a ∷ c ∷ p)) ≡ refuses 2
+  unfolding hears heard heardBy lineOf
+  longer-refused h =
+      let b : List ℕ = a ∷ c ∷ p in
+      let long : length (plain (onLine (withCheck b))) ≡ length b + 2 =
+      ap length (plain-onLine (withCheck b)) ∙ length-withCheck b in
+      let said : decodedHere d (inside (lineOf b)) ≡ refuses 2 =
+      ap (decodedHere d) (inside-between (withCheck b))
+      ∙ decode-2 (limitOf d) (onLine (withCheck b)) (frameMost limitMost) .1 (
+        limit-allowed d allowed,
+        whole-line (withCheck b),
+        omega (arith, long),
+        omega (arith, long, limited d allowed .0),
+      ) in
+      ap (heardBy d (frameMost limitMost)) said
+
+  -- and is heard as it was put in exactly if it has
+  pub room-exactly : Octets (a ∷ c ∷ p)
+      → hears d (lineOf (a ∷ c ∷ p)) ≡ gives (reactionOf (judgedFrame d (a ∷ c ∷ p))) ↔ length p ≤ payloadMost (limitOf d)
+  room-exactly os = (
+    λ e.
+        ⊎-elim (λ few. few) (λ many. absurd (gives-not-refuses (sym e ∙ longer-refused many)))
+        (few-or-many (length p) (payloadMost (limitOf d))),
+    λ h. hears-line d a c p allowed os h,
+  )
+    where
+      few-or-many : (k n : ℕ) → (k ≤ n) ⊎ (n < k)
+      few-or-many k n = go (leb k n) refl
+        where
+          go : (b : Bool) → leb k n ≡ b → (k ≤ n) ⊎ (n < k)
+          go true e = inl (leb-true k n e)
+          go false e = inr (leb-false k n e)
+
+-- "one for both ways": what an allowed device answers, written with any frame limit, is read back with it
+pub answer-reads-back : (d : Device) (f g : List ℕ) (M : ℕ) → allowedDevice d ≡ true → isLimit M ≡ true → Octets g
+    → reactionOf (judgedFrame d f) .frame ≡ some g → decoded M (inside (lineOf g)) (frameMost M) ≡ gives g
+unfolding reacts
+answer-reads-back d f g M allowed ok os e =
+    let (least, most, address) = answer-fits d f g allowed e in
+    let limit = limit-exactly M .0 ok in
+    trip g os M ok (frameMost M) least (omega (arith, most, limit .0))
+    ∙ in-room g (frameMost M) (omega (arith, most, limit .0))

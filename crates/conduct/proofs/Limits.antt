@@ -1,8 +1,9 @@
 -- The frame limit of a link over its frames: what a negotiation comes to, that it changes the limit and nothing else, and
--- all that changes it. This holds of any record, allowed or not. Assumes nothing.
+-- all that changes it; over a run in which no length is asked it stays 78, and so all is as in 01. This holds of any
+-- record, allowed or not. Assumes nothing.
 use mathlib.Core.Path.{_≡_, refl, ap, _∙_}
 use mathlib.Core.Bool.{false}
-use mathlib.Core.List.{List}
+use mathlib.Core.List.{List, [], _∷_}
 use mathlib.Core.Logic.{_⊎_, inl, inr, ⊎-elim}
 use mathlib.Core.Option.{Option, none, some}
 use Prim.Native.Nat.{ℕ}
@@ -11,6 +12,7 @@ use Rattle.control.specs.Control.{xidControl}
 use Rattle.control.specs.declared.Order.{Order}
 use Rattle.record.specs.declared.Link.the-variants.{AddressAssigned}
 use Rattle.record.specs.declared.Device.{Device}
+use Rattle.record.specs.declared.Event.{Event}
 use Rattle.record.specs.Allowed.{limitOf}
 use Rattle.record.specs.Changes.{unsaidAt, deviceOf, emptiedAs, limitedTo}
 use Rattle.params.specs.Field.{Param, WellFormed, valueFor}
@@ -22,11 +24,12 @@ use Rattle.states.specs.States.{begun, isSnrm}
 use Rattle.link.specs.Link.{allStations, judgedFrame}
 use Rattle.link.specs.Frames.{controlOf, Own, Negotiates, unagreed}
 use Rattle.link.proofs.Cases.{unread-silent}
-use Rattle.conduct.specs.Conduct.{after}
+use Rattle.conduct.specs.Conduct.{after, occurs, Meeting, frame, event, meets, run}
 use Rattle.conduct.specs.Endings.{Assigns, Begins, Ends}
 use Rattle.conduct.specs.Comes.{Comes, left, says}
 use Rattle.conduct.proofs.Comes.{comes-so, comes-leaves}
-use Rattle.conduct.proofs.Account.{limit-cases}
+use Rattle.conduct.proofs.Account.{limit-cases, account}
+use Rattle.conduct.proofs.Runs.{event-antenna}
 
 -- the device d but for its frame limit
 pub record ButLimit (d e : Device) : Type 0 where
@@ -52,6 +55,19 @@ but-limit d n =
       said = refl;
       reply = refl;
     }
+
+-- a length is given: 5, or 6
+abbrev pub Lengthy : List Param → Type 0
+Lengthy ps = ((v : List ℕ) × (valueFor 5 ps ≡ some v)) ⊎ ((v : List ℕ) × (valueFor 6 ps ≡ some v))
+
+lengthy-or-not : (ps : List Param) → Lengthy ps ⊎ ((valueFor 5 ps ≡ none) × (valueFor 6 ps ≡ none))
+lengthy-or-not ps = go (valueFor 5 ps) (valueFor 6 ps) refl refl
+  where
+    go : (x y : Option (List ℕ)) → valueFor 5 ps ≡ x → valueFor 6 ps ≡ y
+        → Lengthy ps ⊎ ((valueFor 5 ps ≡ none) × (valueFor 6 ps ≡ none))
+    go (some v) y p q = inl (inl (v, p))
+    go none (some v) p q = inl (inr (v, q))
+    go none none p q = inr (p, q)
 
 module _ (d : Device) (f : List ℕ) where
   -- a negotiation is answered by what it asked, with the limit that is agreed on
@@ -81,19 +97,6 @@ module _ (d : Device) (f : List ℕ) where
   unfolding left
   declined-keeps o w n l = comes-leaves d f (Comes.declines o w n l)
 
-  -- a length is given: 5, or 6
-  abbrev pub Lengthy : List Param → Type 0
-  Lengthy ps = ((v : List ℕ) × (valueFor 5 ps ≡ some v)) ⊎ ((v : List ℕ) × (valueFor 6 ps ≡ some v))
-
-  lengthy-or-not : (ps : List Param) → Lengthy ps ⊎ ((valueFor 5 ps ≡ none) × (valueFor 6 ps ≡ none))
-  lengthy-or-not ps = go (valueFor 5 ps) (valueFor 6 ps) refl refl
-    where
-      go : (x y : Option (List ℕ)) → valueFor 5 ps ≡ x → valueFor 6 ps ≡ y
-          → Lengthy ps ⊎ ((valueFor 5 ps ≡ none) × (valueFor 6 ps ≡ none))
-      go (some v) y p q = inl (inl (v, p))
-      go none (some v) p q = inl (inr (v, q))
-      go none none p q = inr (p, q)
-
   -- the limit changes by an assignment, a session's end, or a negotiation that gives a length, and by nothing else
   pub limit-changes : (limitOf (after d f) ≡ limitOf d → ⊥)
       → ((a : ℕ) × Assigns d f a)
@@ -110,3 +113,38 @@ module _ (d : Device) (f : List ℕ) where
       (lengthy-or-not ps))))
       (λ same. absurd (new same))
       (limit-cases d f)
+
+-- ---- over a run
+
+-- no frame has a payload that asks a length
+abbrev pub Unasked : List ℕ → Type 0
+Unasked f = (ps : List Param) → WellFormed negotiating (drop 2 f) ps → Lengthy ps → ⊥
+
+unfoldable pub NoneAsks : List Meeting → Type 0
+NoneAsks [] = Unit {0}
+NoneAsks (frame f ∷ ms) = Unasked f × NoneAsks ms
+NoneAsks (event e ∷ ms) = NoneAsks ms
+
+-- 78 stays 78 over such a frame, and over any event
+least-frame : (d : Device) (f : List ℕ) → Unasked f → limitOf d ≡ 78 → limitOf (after d f) ≡ 78
+least-frame d f unasked is =
+    ⊎-elim
+    (⊎-elim (λ (a, w). account d f .limit-assigned a w)
+    (⊎-elim (account d f .limit-ended)
+    (λ (ps, w, m).
+    ⊎-elim (λ long. absurd (unasked ps m long))
+    (λ (p, q). account d f .limit-agreed ps w m ∙ limit-kept (limitOf d) ps p q ∙ is)
+    (lengthy-or-not ps))))
+    (λ same. same ∙ is)
+    (limit-cases d f)
+
+least-event : (d : Device) (e : Event) → limitOf d ≡ 78 → limitOf (occurs d e) ≡ 78
+least-event d e is = ap limitOf (event-antenna d e) ∙ is
+
+-- where no length is asked, the limit is 78 throughout
+pub unasked-least : (d : Device) (ms : List Meeting) → NoneAsks ms → limitOf d ≡ 78 → limitOf (run d ms) ≡ 78
+unfolding run meets NoneAsks
+unasked-least d [] u is = is
+unasked-least d (frame f ∷ ms) (unasked, more) is =
+    unasked-least (after d f) ms more (least-frame d f unasked is)
+unasked-least d (event e ∷ ms) more is = unasked-least (occurs d e) ms more (least-event d e is)

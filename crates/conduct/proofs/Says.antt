@@ -193,7 +193,7 @@ field-is : (ps : List Param) (N : ℕ) → fieldOf (negotiationParams (askedIn p
 unfolding askedIn agreedSaid ifGiven lengthValue tripleOf
 field-is ps N = rw (negotiation-field (askedIn ps) N, append-nil (ifGiven 8 ps (8 ∷ 1 ∷ 1 ∷ [])))
 
-negotiation-is : (a : ℕ) (ps : List Param) (N : ℕ) → a ∷ 0xBF ∷ negotiationAnswer (askedIn ps) N ≡ negotiationSaid a ps N
+pub negotiation-is : (a : ℕ) (ps : List Param) (N : ℕ) → a ∷ 0xBF ∷ negotiationAnswer (askedIn ps) N ≡ negotiationSaid a ps N
 unfolding negotiationAnswer xidPayload negotiationSaid
 negotiation-is a ps N = ap (λ (t : List ℕ). a ∷ 0xBF ∷ 0x81 ∷ 0x80 ∷ length t ∷ t) (field-is ps N)
 

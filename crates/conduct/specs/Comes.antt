@@ -1,4 +1,4 @@
--- What comes of a frame, whole: 01, "The link", case by case. Every frame is one of these to a device, whatever the
+-- What comes of a frame, whole: 01, "The link", and 02 (iv), case by case. Every frame is one of these to a device, whatever the
 -- record (proofs/Comes.antt), and each says which device the frame leaves, and what is said.
 --   Comes d f    == what the frame f is to the device d
 --   unansweredAs d s r n told sub, answeredAs d s r n told sub b == d after a message that was accepted in its session s with

@@ -1,4 +1,4 @@
--- What is said of a frame, octet by octet: 01, "The link", "XID: scan and assignment" and "Messages". A row for each
+-- What is said of a frame, octet by octet: 01, "The link", "XID: scan and assignment" and "Messages", and 02 (iv). A row for each
 -- case of specs/Comes, in 01's octets; `says-octets` of proofs/Says says that this is what a device says. The row of a
 -- message that is answered at once and changes nothing has its answer b, whose octets are message's (message/proofs/Tells
 -- for 0x04, 0x05 and 0x34, message/proofs/Fails, Exact and Words for each failure).
@@ -100,7 +100,7 @@ agreedSaid ps N =
     ++ (ifGiven 6 ps (6 ∷ 2 ∷ (N - 4) * 8 / 256 % 256 ∷ (N - 4) * 8 % 256 ∷ [])
     ++ (ifGiven 7 ps (7 ∷ 1 ∷ 1 ∷ []) ++ ifGiven 8 ps (8 ∷ 1 ∷ 1 ∷ [])))
 
--- 02 (iv): "the device answers with its own limit where that is lower"; "windows are answered 1"
+-- 02 (iv): "the device answers"; "windows are answered 1"
 unfoldable pub negotiationSaid : ℕ → List Param → ℕ → List ℕ
 negotiationSaid a ps N = a ∷ 0xBF ∷ 0x81 ∷ 0x80 ∷ length (agreedSaid ps N) ∷ agreedSaid ps N
 

@@ -12,7 +12,7 @@ use Prim.Native.Nat.{ℕ}
 use lib.IntN.{ℤ, pos, negsuc}
 use lib.ListN.{replicate}
 use Rattle.octets.specs.Octets.{holds, placeOf, lastOf, _atStartOf_}
-use Rattle.refusal.specs.Answer.{gives, answered, stateAfter}
+use Rattle.refusal.specs.Answer.{gives, refuses, answered, stateAfter}
 use Rattle.identity.specs.Bits.{Bits, word, packed, masked}
 use Rattle.identity.specs.Identity.{printable, allPrintable, allowedIdentity, padded, octetsOf, maskOf, same}
 use Rattle.identity.specs.Identity.{answersScan}
@@ -103,6 +103,8 @@ pub data Row : Type 0 where
   silent : ℤ → List Meeting → List ℕ → Row
   -- .. is not carried out: the device is as it was, with its movement
   idle : ℤ → List Meeting → List ℕ → Row
+  -- .. gets this number
+  refused : ℤ → List Meeting → List ℕ → ℕ → Row
 
 -- an answer buffer of 76 octets
 abbrev pub buffer : List ℕ
@@ -121,6 +123,7 @@ Holds (gets t ms f x) = Answers (run (assigned t) ms) f (some x)
 Holds (silent t ms f) =
     Answers (run (assigned t) ms) f none × (after (run (assigned t) ms) f ≡ run (assigned t) ms)
 Holds (idle t ms f) = after (run (assigned t) ms) f ≡ run (assigned t) ms
+Holds (refused t ms f k) = toldOf (judged (run (assigned t) ms) f (frameMost frameLimit)) ≡ refuses k
 
 unfoldable pub All : List Row → Type 0
 All [] = Unit {0}
@@ -190,6 +193,14 @@ rose k = event (Raised k)
 abbrev pub longest : List ℕ
 longest = 7 ∷ 0xBF ∷ 0x81 ∷ 0x80 ∷ 4 ∷ 5 ∷ 2 ∷ 8 ∷ 0 ∷ []
 
+-- .. and of 10
+abbrev pub floor : List ℕ
+floor = 7 ∷ 0xBF ∷ 0x81 ∷ 0x80 ∷ 3 ∷ 5 ∷ 1 ∷ 80 ∷ []
+
+-- an I-frame, and in it: get tilt
+abbrev pub get-tilt : List ℕ
+get-tilt = 7 ∷ 0x10 ∷ 0x34 ∷ 0x00 ∷ 0x00 ∷ []
+
 abbrev pub further : List Row
 further =
     -- "S+1 where an answer is pending, which removes it and moves S on": the result collected, acknowledged, and then get
@@ -209,7 +220,7 @@ further =
     ∷ gets (pos 0) (snrm ∷ rose 0x11 ∷ rose 0x02 ∷ frame subscribe ∷ []) (7 ∷ 0x31 ∷ [])
     (7 ∷ 0x32 ∷ 0x07 ∷ 0x04 ∷ 0x00 ∷ 0x02 ∷ 0x01 ∷ 0x11 ∷ 0x01 ∷ [])
     -- "V(S) is S, or S+1 with an answer pending": "2·V(S) + 32·R"
-    ∷ gets (pos 0) (snrm ∷ frame (7 ∷ 0x10 ∷ 0x34 ∷ 0x00 ∷ 0x00 ∷ []) ∷ []) (7 ∷ 0x71 ∷ [])
+    ∷ gets (pos 0) (snrm ∷ frame get-tilt ∷ []) (7 ∷ 0x71 ∷ [])
     (7 ∷ 0x97 ∷ 0x71 ∷ 0x22 ∷ 0x08 ∷ [])
     -- "RNR gets RR."
     ∷ gets (pos 0) (snrm ∷ []) (7 ∷ 0x15 ∷ []) (7 ∷ 0x11 ∷ [])
@@ -228,11 +239,18 @@ further =
     ∷ gets (pos 0) []
     (7 ∷ 0xBF ∷ 0x81 ∷ 0x80 ∷ 0x0B ∷ 7 ∷ 1 ∷ 7 ∷ 6 ∷ 2 ∷ 0x0F ∷ 0xA0 ∷ 5 ∷ 2 ∷ 8 ∷ 0 ∷ [])
     (7 ∷ 0xBF ∷ 0x81 ∷ 0x80 ∷ 0x0B ∷ 5 ∷ 2 ∷ 8 ∷ 0 ∷ 6 ∷ 2 ∷ 8 ∷ 0 ∷ 7 ∷ 1 ∷ 1 ∷ [])
-    ∷ gets (pos 0) [] (7 ∷ 0xBF ∷ 0x81 ∷ 0x80 ∷ 3 ∷ 5 ∷ 1 ∷ 80 ∷ []) (7 ∷ 0xBF ∷ 0x81 ∷ 0x80 ∷ 4 ∷ 5 ∷ 2 ∷ 2 ∷ 0x50 ∷ [])
-    -- "and 78 again after .. a session's end": 76 octets are room again after DISC
+    ∷ gets (pos 0) [] floor (7 ∷ 0xBF ∷ 0x81 ∷ 0x80 ∷ 4 ∷ 5 ∷ 2 ∷ 2 ∷ 0x50 ∷ [])
+    -- "76 .. become N - 2": 76 octets are no room then, also in a session; "and 78 again after .. a session's end": they are
+    -- room again after DISC
+    ∷ refused (pos 0) (frame longest ∷ snrm ∷ []) (7 ∷ 0x53 ∷ []) 5
     ∷ gets (pos 0) (frame longest ∷ snrm ∷ frame (7 ∷ 0x53 ∷ []) ∷ []) (7 ∷ 0x53 ∷ []) (7 ∷ 0x1F ∷ [])
-    -- "'own address, XID: silence' now holds for other groups"
+    -- in a session: "the device answers", and what was pending is pending
+    ∷ gets (pos 0) (snrm ∷ frame get-tilt ∷ []) floor (7 ∷ 0xBF ∷ 0x81 ∷ 0x80 ∷ 4 ∷ 5 ∷ 2 ∷ 2 ∷ 0x50 ∷ [])
+    ∷ gets (pos 0) (snrm ∷ frame get-tilt ∷ frame floor ∷ []) (7 ∷ 0x11 ∷ [])
+    (7 ∷ 0x30 ∷ 0x34 ∷ 0x03 ∷ 0x00 ∷ 0x00 ∷ 0x00 ∷ 0x00 ∷ [])
+    -- "'own address, XID: silence' now holds for other groups"; and a negotiation to all stations is silence
     ∷ silent (pos 0) [] (7 ∷ 0xBF ∷ 0x81 ∷ 0xF0 ∷ 3 ∷ 2 ∷ 1 ∷ 9 ∷ [])
+    ∷ silent (pos 0) [] (0xFF ∷ 0xBF ∷ 0x81 ∷ 0x80 ∷ 4 ∷ 5 ∷ 2 ∷ 8 ∷ 0 ∷ [])
     ∷ []
 
 -- ---- the statement
@@ -269,8 +287,8 @@ computed = (
       also ((refl, refl), refl) also ((refl, refl), refl) also tt,
   (refl, refl) also (refl, refl) also (refl, refl) also (refl, refl) also (refl, refl) also (refl, refl)
       also (refl, refl) also (refl, refl) also (refl, refl) also (refl, refl) also (refl, refl) also (refl, refl)
-      also (refl, refl) also (refl, refl) also (refl, refl) also ((refl, refl), refl)
-      also tt,
+      also (refl, refl) also (refl, refl) also refl also (refl, refl) also (refl, refl) also (refl, refl)
+      also ((refl, refl), refl) also ((refl, refl), refl) also tt,
 )
 
 pub starred-hold : All starred

@@ -29,7 +29,7 @@ pub use Rattle.xid.proofs.Probe.{probe-scan, probe-read}
 -- ---- why a device does not answer an XID frame: each condition, both ways, each number, both ways, and the device by them
 pub use Rattle.link.proofs.Judged.{wrong-size-exactly}
 pub use Rattle.link.proofs.Xids.{negotiates-exactly, wrong-address-exactly, wrong-control-exactly, everyone-exactly}
-pub use Rattle.link.proofs.Xids.{negotiation-exactly}
+pub use Rattle.link.proofs.Xids.{negotiation-exactly, malformed-all, malformed-own}
 pub use Rattle.xid.proofs.Rows.{malformed-exactly, neither-exactly}
 pub use Rattle.xid.proofs.Exactly.{bad-address-exactly, other-identity-exactly, other-type-exactly}
 pub use Rattle.xid.proofs.Exactly.{other-vendor-exactly, other-scan-exactly}
@@ -77,7 +77,7 @@ pub use Rattle.conduct.proofs.Answers.{snrm-answered, scan-answered, assignment
 pub use Rattle.device.proofs.Only.{judge-only, hear-only}
 pub use Rattle.device.proofs.Exact.{judge-all, hear-all, refused-keeps, silence-keeps, frame-tells}
 pub use Rattle.device.proofs.Fits.{answer-fits}
-pub use Rattle.device.proofs.Says.{judged-octets, scan-octets, assignment-octets}
+pub use Rattle.device.proofs.Says.{judged-octets, scan-octets, assignment-octets, negotiation-octets}
 -- ---- the whole bus: hearing, demand 3 with no premise, the installer's job and when it can be done
 pub use Rattle.bus.proofs.Heard.{heard-exactly, heard-unchanged}
 pub use Rattle.bus.proofs.Scans.{scan-row, scan-any, scan-complete, scan-unchanged}
@@ -102,13 +102,14 @@ pub use Rattle.drives.proofs.Only.{obey-asks}
 pub use Rattle.states.proofs.Renews.{renewed-ends}
 pub use Rattle.demands.proofs.One.{hear-defined, judge-defined, decode-answers, write-answers, hand-out-answers}
 pub use Rattle.demands.proofs.One.{c-decode-n-answers, c-write-n-answers, limit-words}
+pub use Rattle.demands.proofs.One.{decode-numbers-78, write-numbers-78, judge-numbers-78, hear-numbers-78}
 pub use Rattle.demands.proofs.One.{c-decode-answers, c-write-answers, probe-answers, report-answers, fresh-answers}
 pub use Rattle.demands.proofs.One.{happen-answers, aim-answers}
 pub use Rattle.demands.proofs.One.{obey-answers, obey-keeps, broken-words}
 pub use Rattle.demands.proofs.Two.{written-reads-back, written-heard, tilt-exactly, tilt-owed, tilt-number, tilt-once}
 pub use Rattle.demands.proofs.Two.{not-accepted, some-case, each-case, each-octet, judge-case}
 pub use Rattle.demands.proofs.Two.{changes, silent-same}
-pub use Rattle.demands.proofs.Two.{snrm-heard, never-unallowed}
+pub use Rattle.demands.proofs.Two.{snrm-heard, snrm-heard-78, never-unallowed, never-longer}
 pub use Rattle.demands.proofs.Runs.{runs-exactly, runs-by-exactly, run-ended, runs-end, probe-gives}
 pub use Rattle.demands.proofs.Three.{complete-exactly, says-complete, complete-count, complete-lists, never-more, probes-sent}
 pub use Rattle.demands.proofs.Three.{complete-probes, count-probes, count-stays, probes-asked, probes-refused}

@@ -9,12 +9,13 @@
 use mathlib.Core.Path.{_≡_, refl, sym, ap, _∙_}
 use mathlib.Core.Bool.{Bool, true, false}
 use mathlib.Core.List.{List, _∷_}
-use mathlib.Core.Logic.{_↔_, Iff·trans, _⊎_}
+use mathlib.Core.Logic.{_↔_, Iff·trans, _⊎_, inr, ⊎-elim}
 use mathlib.Core.Option.{none, some}
 use Prim.Native.Nat.{ℕ, _-_, _<_, _≤_}
 use native.Mathlib.Omega.{arith}
 use lib.ListN.{length, getD}
 use Rattle.octets.specs.Octets.{OneOf, _atStartOf_}
+use Rattle.octets.proofs.Words.{true-not-false}
 use Rattle.refusal.specs.Answer.{Answer, gives, refuses, handedOut, answerOf, counted, outAfter, Hands}
 use Rattle.refusal.specs.Answer.{settled, stateAfter, Changes}
 use Rattle.refusal.specs.Numbers.{numberOf}
@@ -270,9 +271,9 @@ module _ (N : ℕ) (s : List ℕ) (room : ℕ) where
       × (decoded N s room ≡ refuses 1 ↔ (isLimit N ≡ true) × (broken s ≡ false) × (length (plain s) < 4))
       × (decoded N s room ≡ refuses 2
       ↔ (isLimit N ≡ true) × (broken s ≡ false) × (4 ≤ length (plain s)) × (N < length (plain s)))
-      × (decoded N s room ≡ refuses 3 ↔ (isLimit N ≡ true) × Sized N s room × (rightCheck (plain s) ≡ false))
+      × (decoded N s room ≡ refuses 3 ↔ (isLimit N ≡ true) × Sized N s × (rightCheck (plain s) ≡ false))
       × (decoded N s room ≡ refuses 5
-      ↔ (isLimit N ≡ true) × Sized N s room × (rightCheck (plain s) ≡ true) × (room < length (body (plain s))))
+      ↔ (isLimit N ≡ true) × Sized N s × (rightCheck (plain s) ≡ true) × (room < length (body (plain s))))
   decode-numbers = (
     decode-6 N s room,
     decode-4 N s room,
@@ -287,9 +288,9 @@ module _ (s : List ℕ) (room : ℕ) where
   pub decode-numbers-78 : (decoded 78 s room ≡ refuses 4 ↔ broken s ≡ true)
       × (decoded 78 s room ≡ refuses 1 ↔ (broken s ≡ false) × (length (plain s) < 4))
       × (decoded 78 s room ≡ refuses 2 ↔ (broken s ≡ false) × (4 ≤ length (plain s)) × (78 < length (plain s)))
-      × (decoded 78 s room ≡ refuses 3 ↔ Sized 78 s room × (rightCheck (plain s) ≡ false))
+      × (decoded 78 s room ≡ refuses 3 ↔ Sized 78 s × (rightCheck (plain s) ≡ false))
       × (decoded 78 s room ≡ refuses 5
-      ↔ Sized 78 s room × (rightCheck (plain s) ≡ true) × (room < length (body (plain s))))
+      ↔ Sized 78 s × (rightCheck (plain s) ≡ true) × (room < length (body (plain s))))
   decode-numbers-78 = (
     Iff·trans (decode-4 78 s room) (λ w. w .1, λ e. (limit-least, e)),
     Iff·trans (decode-1 78 s room) (λ w. (w .1, w .2), λ w. (limit-least, w .0, w .1)),
@@ -329,6 +330,14 @@ pub judge-numbers : (d : Device) (f : List ℕ) (room : ℕ) → (judged d f roo
     × (judged d f room ≡ refuses 5 ↔ (allowedDevice d ≡ true) × (room < limitOf d - 2))
 judge-numbers d f room = (judge-6 d f room, judge-5 d f room)
 
+pub judge-numbers-78 : (d : Device) (f : List ℕ) (room : ℕ) → limitOf d ≡ 78
+    → (judged d f room ≡ refuses 6 ↔ allowedDevice d ≡ false)
+    × (judged d f room ≡ refuses 5 ↔ (allowedDevice d ≡ true) × (room < 76))
+judge-numbers-78 d f room is = (
+  judge-6 d f room,
+  Iff·trans (judge-5 d f room) (λ w. (w .0, omega (arith, w .1, is)), λ w. (w .0, omega (arith, w .1, is))),
+)
+
 pub event-numbers : (d : Device) (e : Event) → (happened d e ≡ refuses 6 ↔ allowedDevice d ≡ false)
     × (happened d e ≡ refuses 8 ↔ (allowedDevice d ≡ true) × (canBe (d .antenna) e ≡ false))
 event-numbers d e = (happen-6 d e, happen-8 d e)
@@ -360,7 +369,31 @@ module _ (d : Device) (s : List ℕ) (room : ℕ) where
       × (heard d s room ≡ refuses 1 ↔ (isLimit N ≡ true) × (broken s ≡ false) × (length (plain s) < 4))
       × (heard d s room ≡ refuses 2
       ↔ (isLimit N ≡ true) × (broken s ≡ false) × (4 ≤ length (plain s)) × (N < length (plain s)))
-      × (heard d s room ≡ refuses 3 ↔ (isLimit N ≡ true) × Sized N s 258 × (rightCheck (plain s) ≡ false))
+      × (heard d s room ≡ refuses 3 ↔ (isLimit N ≡ true) × Sized N s × (rightCheck (plain s) ≡ false))
       × (heard d s room ≡ refuses 5 ↔ Readable N s × (allowedDevice d ≡ true) × (room < N - 2))
   hear-numbers =
       (hear-6 d s room, hear-4 d s room, hear-1 d s room, hear-2 d s room, hear-3 d s room, hear-5 d s room)
+
+  -- so with 01's limit, which no run leaves where no length is asked (`unasked-least` of conduct)
+  pub hear-numbers-78 : N ≡ 78 → (heard d s room ≡ refuses 6 ↔ Readable 78 s × (allowedDevice d ≡ false))
+      × (heard d s room ≡ refuses 4 ↔ broken s ≡ true)
+      × (heard d s room ≡ refuses 1 ↔ (broken s ≡ false) × (length (plain s) < 4))
+      × (heard d s room ≡ refuses 2 ↔ (broken s ≡ false) × (4 ≤ length (plain s)) × (78 < length (plain s)))
+      × (heard d s room ≡ refuses 3 ↔ Sized 78 s × (rightCheck (plain s) ≡ false))
+      × (heard d s room ≡ refuses 5 ↔ Readable 78 s × (allowedDevice d ≡ true) × (room < 76))
+  hear-numbers-78 is =
+      let ok : isLimit N ≡ true = ap isLimit is ∙ limit-least in (
+        Iff·trans (hear-6 d s room) (
+          ⊎-elim (λ no. absurd (true-not-false (sym ok ∙ no))) (λ w. (rw is at (w .0), w .1)),
+          λ w. inr (rw is (w .0), w .1),
+        ),
+        Iff·trans (hear-4 d s room) (λ w. w .1, λ e. (ok, e)),
+        Iff·trans (hear-1 d s room) (λ w. (w .1, w .2), λ w. (ok, w .0, w .1)),
+        Iff·trans (hear-2 d s room)
+            (λ w. (w .1, w .2, omega (arith, w .3, is)), λ w. (ok, w .0, w .1, omega (arith, w .2, is))),
+        Iff·trans (hear-3 d s room) (λ w. (rw is at (w .1), w .2), λ w. (ok, rw is (w .0), w .1)),
+        Iff·trans (hear-5 d s room) (
+          λ w. (rw is at (w .0), w .1, omega (arith, w .2, is)),
+          λ w. (rw is (w .0), w .1, omega (arith, w .2, is)),
+        ),
+      )

@@ -17,32 +17,47 @@ pub use Rattle.xid.proofs.Wild.{plain-type, plain-vendor, half-wild}
 pub use Rattle.xid.proofs.Wild.{masked-neither, masked-silent}
 -- what is silence to a device is so on the cable: it stays as it was, and no answer comes
 pub use Rattle.bus.proofs.Assigns.{silence-heard}
--- ---- (iv) longer frames by negotiation: "The frame limit N, one for both ways, is a number of the link, 78 to 260"
--- an XID to the own address with the group 0x80: which payloads are one, both ways, and that any other is silence
-pub use Rattle.negotiation.proofs.Exactly.{negotiating-exactly, offer-exactly, offer-malformed}
-pub use Rattle.conduct.proofs.Limits.{malformed-silent}
--- "N - 4 is the whole octets in the smaller I-field length asked; none asked keeps N; an N below 78 is answered 78": N - 4 is
--- max 74 (min 256 (bits / 8)), exactly, so never above what was asked but for that floor, and N is 78 to 260
-pub use Rattle.negotiation.proofs.Exactly.{limit-kept, limit-agreed, limit-sent, limit-received, limit-smaller}
-pub use Rattle.negotiation.proofs.Exactly.{never-above, agreed-least}
-pub use Rattle.negotiation.proofs.Examples.{computed}
--- "the device answers": a negotiation changes N alone; written as a line it is heard, and answered with what was asked, the
--- limit agreed on and windows of 1, octet by octet; and who reads that answer reads that limit
-pub use Rattle.conduct.proofs.Limits.{negotiation-comes, negotiation-alone}
-pub use Rattle.bus.proofs.Longer.{negotiation-heard}
-pub use Rattle.xid_answer.proofs.Agreement.{negotiation-formed, asked-again, answer-read, answer-keeps}
--- "78 again after an assignment or a session's end" (`limit-assigned` and `limit-ended` of `changes`, on the page Two); a
--- first SNRM and whatever gets DM keep it; and N changes by an assignment, a session's end or a negotiation that gives a
--- length, and by nothing else
-pub use Rattle.conduct.proofs.Limits.{first-keeps, declined-keeps, limit-changes}
--- "Decoder .. and writer take N": `decode-numbers`, `write-numbers` on the page One, `written-reads-back`, `line-longest` on
--- the page Two; a line of 2N + 2 octets is reached, at 78 and at 260
-pub use Rattle.bus.proofs.Longest.{line-reached-78, line-reached-260}
--- on the cable: what the master writes with the N of the link is heard as it was put in, so after a negotiation up to the
--- limit agreed on; what has no room in it gets 2
-pub use Rattle.bus.proofs.Hears.{hears-with}
-pub use Rattle.bus.proofs.Longer.{longer-heard, longer-refused}
 -- ---- (iii) a smaller check table: "Its answer for every input stays the same."
 -- of the two routines of the code, by what each promises: whatever the one by the table of 16 and the one by that of 256 may
 -- give for one register and the same octets is one number; `go_on` is one of them, by a constant
 pub use Rattle.fcs.proofs.Agree.{tables-agree}
+-- ---- (iv) longer frames by negotiation: "The frame limit N, one for both ways, is a number of the link, 78 to 260"
+-- in a record that may be handed in (`allowed-words` of the page One), in a fresh one, which has 78, and over any run, where no
+-- length is asked, 78
+pub use Rattle.record.proofs.Accounts.{fresh-is}
+pub use Rattle.conduct.proofs.Limits.{unasked-least}
+-- an XID to the own address with the group 0x80: which payloads are one, both ways, and that any other is silence; to all
+-- stations it is silence, and no payload is of both groups
+pub use Rattle.negotiation.proofs.Exactly.{negotiating-exactly, offer-exactly, offer-malformed}
+pub use Rattle.conduct.proofs.Limits.{malformed-silent}
+pub use Rattle.link.proofs.Xids.{malformed-own, groups-apart, negotiation-unheard}
+-- "N - 4 is the whole octets in the smaller I-field length asked; none asked keeps N; an N below 78 is answered 78": N - 4 is
+-- max 74 (min 256 (bits / 8)), exactly, so never above what was asked but for that floor, and N is 78 to 260; lengths of one
+-- to four octets, highest first
+pub use Rattle.negotiation.proofs.Exactly.{limit-kept, limit-agreed, limit-sent, limit-received, limit-smaller}
+pub use Rattle.negotiation.proofs.Exactly.{never-above, agreed-least}
+pub use Rattle.negotiation.proofs.Bits.{bits-one, bits-two, bits-three, bits-four}
+pub use Rattle.negotiation.proofs.Examples.{computed}
+-- "the device answers": a negotiation changes N alone, and is answered with what was asked, the limit agreed on and windows of
+-- 1, octet by octet; the length that is answered is at most each one asked, but for 592 bits; who reads that answer reads that
+-- limit
+pub use Rattle.conduct.proofs.Limits.{negotiation-comes, negotiation-alone}
+pub use Rattle.device.proofs.Says.{negotiation-octets}
+pub use Rattle.xid_answer.proofs.Agreement.{negotiation-formed, asked-again, answered-within, answer-read, answer-keeps}
+-- so on the cable: written as a line it is heard and answered; then the limit agreed on is the device's, and the master's where
+-- it asked a length; and what the master writes with it is heard as it was put in
+pub use Rattle.bus.proofs.Longer.{negotiation-heard, limit-later, master-reads, heard-later}
+-- whatever the limit of the link: a frame is heard as it was put in exactly if it has room in it, and gets 2 where it has not;
+-- what the device answers is read back with any limit
+pub use Rattle.bus.proofs.Hears.{hears-with}
+pub use Rattle.bus.proofs.Longer.{room-exactly, longer-refused, answer-reads-back}
+-- "78 again after an assignment or a session's end" (`limit-assigned` and `limit-ended` of `changes`, on the page Two); a
+-- first SNRM and whatever gets DM keep it; and N changes by an assignment, a session's end or a negotiation that gives a
+-- length, and by nothing else
+pub use Rattle.conduct.proofs.Limits.{first-keeps, declined-keeps, limit-changes}
+-- "Decoder .. and writer take N (outside 78 to 260: refusal 6 first): refusal 2 means more than N, 9 more than N - 4, and 76 and
+-- 158 become N - 2 and 2N + 2": `decode-numbers`, `write-numbers`, and `judge-numbers`, `hear-numbers` for the N of the link, on
+-- the page One; `written-reads-back`, `line-longest` on the page Two; a frame of any other size is silence; a line of 2N + 2
+-- octets is reached, at 78 and at 260. Demand 3 over rows of any N: `heard-when`, `whole-row` on the page Cable
+pub use Rattle.link.proofs.Judged.{wrong-size-exactly}
+pub use Rattle.bus.proofs.Longest.{line-reached-78, line-reached-260}

@@ -1,10 +1,11 @@
 -- Demand 2. "Frames, link states, address matching and commands do what document 01 says. A frame that we write reads
 -- back as what was put in. A tilt command is carried out only when its number is the next one due."
 -- The first sentence is the promises: each function is proved to give what its definition says, and the definitions
--- are the sentences of 01, each beside its words (specs/ of `frame`, `record`, `session`, `station`, `xid`,
--- `message`, `poll`, `inform`, `states`, `link`, `speech`, `device`). Here stand the other two, and what shuts out a device that is always silent and a decoder that
--- refuses everything. Proved by citation. Assumes nothing.
-use mathlib.Core.Path.{_≡_, refl, ap, ap₂, _∙_}
+-- are the sentences of 01, and of 02 as far as it is built, each beside its words (specs/ of `limits`, `frame`, `record`,
+-- `session`, `station`, `xid`, `negotiation`, `xid_answer`, `message`, `poll`, `inform`, `states`, `link`, `speech`,
+-- `device`). Here stand the other two, and what shuts out a device that is always silent and a decoder that refuses
+-- everything. Proved by citation. Assumes nothing.
+use mathlib.Core.Path.{_≡_, refl, ap, _∙_}
 use mathlib.Core.Bool.{true, false}
 use mathlib.Core.List.{List, [], _∷_}
 use mathlib.Core.Logic.{_↔_}
@@ -62,6 +63,7 @@ use Rattle.antenna.specs.declared.Motion.the-variants.{Owing}
 use Rattle.link.specs.Link.{hasAddress, judgedFrame}
 use Rattle.conduct.proofs.Settles.{r-kept}
 use Rattle.conduct.proofs.Runs.{run-allowed}
+use Rattle.conduct.proofs.Limits.{NoneAsks, unasked-least}
 use Rattle.conduct.proofs.Due.{starts-exactly, due-moves-on}
 use Rattle.conduct.proofs.Again.{starts-once}
 use Rattle.conduct.proofs.Answers.{snrm-answered, snrm-address, snrm-connects}
@@ -75,22 +77,22 @@ use Rattle.device.proofs.Fits.{address-fits}
 
 -- ---- "A frame that we write reads back as what was put in"
 
--- of the code, for every frame limit: whatever `write` hands out for an address, a control and a payload, `decode` with the
--- same limit gives those for what lies between its flags, into any output that has room for them. Of both, all that is
--- used is what their callers learn.
+-- of the code, for every frame limit: whatever `write` hands out for an address, a control and a payload, `decode` with that
+-- limit or a higher one gives those for what lies between its flags, into any output that has room for them. Of both, all
+-- that is used is what their callers learn.
 pub written-reads-back : (κs : _) (a : _) (n : ℕ) (s : _) (κs' : _) (a' : _) (r : _) (s' : _)
-    → write-reads.Learnt κs a (Handed.Octets n) s → decode-reads.Learnt κs' a' r s' → a' .0 ≡ a .0
+    → write-reads.Learnt κs a (Handed.Octets n) s → decode-reads.Learnt κs' a' r s' → a .0 ≤ a' .0 → isLimit (a' .0) ≡ true
     → let b = a .1 .0 ∷ a .1 .1 .0 ∷ now (a .1 .1 .1 .0) in Octets b
     → now (a' .1 .0) ≡ inside (take n (now (s .1 .1 .1 .1 .0))) → length b ≤ length (now (a' .1 .1 .0))
     → (r ≡ Handed.Octets (length b)) × (now (s' .1 .1 .0) ≡ b atStartOf now (a' .1 .1 .0))
 unfolding outAfter
-written-reads-back κs a n s κs' a' r s' w v same os e h =
+written-reads-back κs a n s κs' a' r s' w v up ok os e h =
     let p = now (a .1 .1 .1 .0) in
     let line = write-line (a .0) (a .1 .0) (a .1 .1 .0) p _ _ .0 (octets-told _ w .0) in
     let u = now (a' .1 .1 .0) in
     let back =
-    round-trip (a .0) (line .0) (a .1 .0) (a .1 .1 .0) p _ _ _ _ os (line .1) (omega (arith, h)) w
-    (hands-is (ap₂ (λ (N : ℕ) (l : List ℕ). decoded N l (length u)) same e) v) in
+    round-trip (a .0) (a' .0) (line .0) ok up (a .1 .0) (a .1 .1 .0) p _ _ _ _ os (line .1) (omega (arith, h)) w
+    (hands-is (ap (λ (l : List ℕ). decoded (a' .0) l (length u)) e) v) in
     let out = hands-only back (handed (a .1 .0 ∷ a .1 .1 .0 ∷ p) refl (omega arith) refl) in
     (out .0, back .octets)
 
@@ -232,6 +234,12 @@ module _ (d : Device) (allowed : allowedDevice d ≡ true) (assigned : hasAddres
             (snrm-address d (d .station .link)),
       )
 
+  -- into 76 octets, with 01's limit
+  pub snrm-heard-78 : limitOf d ≡ 78 → heard d (inside (lineOf (d .station .desk .address ∷ 0x93 ∷ []))) 76
+      ≡ gives
+      (record { device = onSnrm d (d .station .link); frame = some (d .station .desk .address ∷ 0x73 ∷ []) })
+  snrm-heard-78 is = snrm-heard 76 (omega (arith, is))
+
   -- and a new session
   pub snrm-session : after d (d .station .desk .address ∷ 0x93 ∷ []) .station .link ≡ Connected newSession
   snrm-session = snrm-connects d allowed assigned
@@ -240,3 +248,8 @@ module _ (d : Device) (allowed : allowedDevice d ≡ true) (assigned : hasAddres
 
 pub never-unallowed : (d : Device) (ms : List Meeting) → allowedDevice d ≡ true → allowedDevice (run d ms) ≡ true
 never-unallowed = run-allowed
+
+-- ---- nor one that leaves 01's frame limit, where no length is asked: what is said with N here is then 01's, with 78
+
+pub never-longer : (d : Device) (ms : List Meeting) → NoneAsks ms → limitOf d ≡ 78 → limitOf (run d ms) ≡ 78
+never-longer = unasked-least

@@ -1,6 +1,6 @@
--- Demand 1 for the device: each number is given exactly when 01 says, in 01's order, and any octets get a number,
--- silence or a frame. A number leaves the device and the buffer as they were, silence the buffer. Octets from the line
--- get the decoder's numbers first, at once. Assumes nothing.
+-- Demand 1 for the device: each number is given exactly when 01 and 02 (iv) say, in 01's order, and any octets get a
+-- number, silence or a frame. A number leaves the device and the buffer as they were, silence the buffer. Octets from the
+-- line get the decoder's numbers with the link's frame limit first, at once. Assumes nothing.
 use mathlib.Core.Path.{_≡_, refl, sym, ap, _∙_}
 use mathlib.Core.Bool.{true, false, not}
 use mathlib.Core.List.{List, [], _∷_}
@@ -90,7 +90,7 @@ module _ (d : Device) (line : List ℕ) (room : ℕ) where
   hear-2 = Iff·trans (by-decoder d line room 2 refl) (decode-2 N line (frameMost limitMost))
 
   pub hear-3 : heard d line room ≡ refuses 3
-      ↔ (isLimit N ≡ true) × Sized N line (frameMost limitMost) × (rightCheck (plain line) ≡ false)
+      ↔ (isLimit N ≡ true) × Sized N line × (rightCheck (plain line) ≡ false)
   unfolding holds
   hear-3 = Iff·trans (by-decoder d line room 3 refl) (decode-3 N line (frameMost limitMost))
 

@@ -60,7 +60,7 @@ module _ (d : Device) (f : List ℕ) (room : ℕ) where
 
 -- a line that can be read with the frame limit N: no number of the decoder
 abbrev pub Readable : ℕ → List ℕ → Type 0
-Readable N line = (isLimit N ≡ true) × Sized N line (frameMost limitMost) × (rightCheck (plain line) ≡ true)
+Readable N line = (isLimit N ≡ true) × Sized N line × (rightCheck (plain line) ≡ true)
 
 body-short : (N : ℕ) (line : List ℕ) → isLimit N ≡ true → length (plain line) ≤ N
     → length (body (plain line)) ≤ frameMost limitMost

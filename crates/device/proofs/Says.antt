@@ -1,4 +1,4 @@
--- What an allowed device says of a frame, octet by octet (conduct/specs/Spelt), and the two answers to an XID, whole.
+-- What an allowed device says of a frame, octet by octet (conduct/specs/Spelt), and the three answers to an XID, whole.
 -- Assumes nothing.
 use mathlib.Core.Path.{_≡_, ap₂}
 use mathlib.Core.Bool.{true}
@@ -10,12 +10,14 @@ use Rattle.refusal.specs.Answer.{gives}
 use Rattle.record.specs.declared.Link.the-variants.{AddressAssigned}
 use Rattle.record.specs.declared.Device.{Device}
 use Rattle.record.specs.Allowed.{identityOf, limitOf, allowedDevice}
-use Rattle.record.specs.Changes.{endedAs}
+use Rattle.record.specs.Changes.{endedAs, limitedTo}
+use Rattle.params.specs.Field.{Param, WellFormed}
+use Rattle.negotiation.specs.Negotiation.{negotiating, agreedLimit}
 use Rattle.xid.specs.Meaning.{Answers}
-use Rattle.link.specs.Frames.{Everyone}
+use Rattle.link.specs.Frames.{Everyone, Negotiates}
 use Rattle.conduct.specs.Endings.{Assigns}
-use Rattle.conduct.specs.Comes.{Comes, scans, assigns, left}
-use Rattle.conduct.specs.Spelt.{scanSaid, assignmentSaid, octetsSaid}
+use Rattle.conduct.specs.Comes.{Comes, scans, assigns, negotiates, left}
+use Rattle.conduct.specs.Spelt.{scanSaid, assignmentSaid, agreedSaid, negotiationSaid, octetsSaid}
 use Rattle.conduct.proofs.Comes.{comes-leaves}
 use Rattle.conduct.proofs.Says.{frame-octets}
 use Rattle.limits.specs.Limits.{frameMost}
@@ -59,3 +61,17 @@ module _ (d : Device) (f : List ℕ) (room : ℕ) (allowed : allowedDevice d ≡
       })
   unfolding left octetsSaid assignmentSaid
   assignment-octets a w i y = rw (← y) (judged-octets (assigns a w))
+
+  -- 02 (iv): "the device answers": what was asked, ascending, by `agreedSaid`; and the frame limit agreed on from now on
+  pub negotiation-octets : (ps : List Param) → Negotiates d f → WellFormed negotiating (drop 2 f) ps → (n : ℕ)
+      → agreedLimit (limitOf d) ps ≡ n
+      → judged d f room
+      ≡ gives
+      (record {
+        device = limitedTo d n;
+        frame = some
+            (d .station .desk .address
+            ∷ 0xBF ∷ 0x81 ∷ 0x80 ∷ length (agreedSaid ps n) ∷ agreedSaid ps n);
+      })
+  unfolding left octetsSaid negotiationSaid
+  negotiation-octets ps w m n y = rw (← y) (judged-octets (negotiates ps w m))

@@ -43,6 +43,10 @@ module _ (N : ℕ) (rows : List TestRow) (b : List ℕ) where
     λ w. exactly-tests 6 (6 when not (isLimit N) ∷ rows) b .1 (rw e (ap not w)),
   )
 
+-- the decoded octets are 4 to N, in a line that is not broken
+abbrev pub Sized : ℕ → List ℕ → Type 0
+Sized N s = (broken s ≡ false) × (4 ≤ length (plain s)) × (length (plain s) ≤ N)
+
 module _ (N : ℕ) (s : List ℕ) (room : ℕ) where
   -- 6: "outside 78 to 260"
   pub decode-6 : decoded N s room ≡ refuses 6 ↔ isLimit N ≡ false
@@ -76,12 +80,8 @@ module _ (N : ℕ) (s : List ℕ) (room : ℕ) where
     λ w. by-rows 2 refl .1 (w .0, (w .1, (le-ltb _ _ (w .2), lt-ltb _ _ (w .3)))),
   )
 
-  -- the decoded octets are 4 to N, in a line that is not broken
-  abbrev pub Sized : Type 0
-  Sized = (broken s ≡ false) × (4 ≤ length (plain s)) × (length (plain s) ≤ N)
-
   -- 3: "frame check wrong", and none of those
-  pub decode-3 : decoded N s room ≡ refuses 3 ↔ (isLimit N ≡ true) × Sized × (rightCheck (plain s) ≡ false)
+  pub decode-3 : decoded N s room ≡ refuses 3 ↔ (isLimit N ≡ true) × Sized N s × (rightCheck (plain s) ≡ false)
   unfolding TestsFor numbersOf holds decodeRows
   decode-3 = (
     λ e.
@@ -94,7 +94,7 @@ module _ (N : ℕ) (s : List ℕ) (room : ℕ) where
 
   -- 5: "the lent output is too short", and none of those
   pub decode-5 : decoded N s room ≡ refuses 5
-      ↔ (isLimit N ≡ true) × Sized × (rightCheck (plain s) ≡ true) × (room < length (body (plain s)))
+      ↔ (isLimit N ≡ true) × Sized N s × (rightCheck (plain s) ≡ true) × (room < length (body (plain s)))
   unfolding TestsFor numbersOf holds decodeRows
   decode-5 = (
     λ e.
@@ -112,7 +112,7 @@ module _ (N : ℕ) (s : List ℕ) (room : ℕ) where
 
   -- a frame: none of the numbers; and it is address, control and payload of the decoded octets
   pub decode-frame : (b : List ℕ) → decoded N s room ≡ gives b
-      ↔ (isLimit N ≡ true) × Sized × (rightCheck (plain s) ≡ true) × (length (body (plain s)) ≤ room)
+      ↔ (isLimit N ≡ true) × Sized N s × (rightCheck (plain s) ≡ true) × (length (body (plain s)) ≤ room)
       × (body (plain s) ≡ b)
   unfolding decoded Clear decodeRows
   decode-frame b = (

@@ -83,21 +83,21 @@ module _ (b : List ℕ) (os : Octets b) (N : ℕ) (l : isLimit N ≡ true) (room
       (right-withCheck b os))
       ∙ ap (λ (d : List ℕ). handedOut d room) (body-withCheck b)
 
--- The same of the promises, for every frame limit N, 78 to 260: any answer and output that `write` may give, and then any
--- that `decode` may give to what lies between the flags of what was written.
-pub round-trip : (N : ℕ) → isLimit N ≡ true → (a c : ℕ) (p : List ℕ) (o o' u u' : List ℕ) {n : ℕ} {r : Handed}
-    → Octets (a ∷ c ∷ p) → length p ≤ payloadMost N → length p + 2 ≤ length u
+-- The same of the promises, for every frame limit N, 78 to 260, and every reader's limit M from N on: any answer and output
+-- that `write` may give, and then any that `decode` may give to what lies between the flags of what was written.
+pub round-trip : (N M : ℕ) → isLimit N ≡ true → isLimit M ≡ true → N ≤ M → (a c : ℕ) (p : List ℕ) (o o' u u' : List ℕ)
+    {n : ℕ} {r : Handed} → Octets (a ∷ c ∷ p) → length p ≤ payloadMost N → length p + 2 ≤ length u
     → Hands (written N a c p (length o)) o (Handed·Octets n) o'
-    → Hands (decoded N (inside (take n o')) (length u)) u r u'
+    → Hands (decoded M (inside (take n o')) (length u)) u r u'
     → Hands (gives (a ∷ c ∷ p)) u r u'
-round-trip N l a c p o o' u u' {n} os h k w d =
+round-trip N M l m up a c p o o' u u' {n} os h k w d =
     let b : List ℕ = a ∷ c ∷ p in
     let out : handedOut (lineOf b) (length o) ≡ gives (take n o') =
     sym (payload-fits N l a c p (length o) h) ∙ octets-told (written N a c p (length o)) w .0 in
     let line : inside (take n o') ≡ inside (lineOf b) = ap inside (sym (handed-out-told (lineOf b) (length o) out)) in
     let few = limit-exactly N .0 l in
     hands-is
-    (ap (λ (s : List ℕ). decoded N s (length u)) line
-    ∙ trip b os N l (length u) (omega arith) (omega arith)
+    (ap (λ (s : List ℕ). decoded M s (length u)) line
+    ∙ trip b os M m (length u) (omega arith) (omega (arith, up))
     ∙ in-room b (length u) (omega arith))
     d

@@ -16,16 +16,17 @@ use Rattle.refusal.specs.Answer.{Answer, gives, refuses, TestRow, _when_, answe
 use Rattle.refusal.proofs.Answers.{gives-not-refuses, refuses-same}
 use Rattle.refusal.proofs.Exactly.{TestsFor, exactly-tests, exactly-given, answered-all}
 use Rattle.control.specs.Control.{xidControl, askedBy}
-use Rattle.xid.specs.Addressing.{Values}
+use Rattle.xid.specs.Addressing.{Values, addressing}
 use Rattle.record.specs.declared.Link.{Link}
 use Rattle.record.specs.declared.Link.the-variants.{NoAddress, AddressAssigned, Connected}
 use Rattle.record.specs.declared.Device.{Device}
 use Rattle.record.specs.Allowed.{identityOf, limitOf}
-use Rattle.params.specs.Field.{Param, WellFormed, paramsOf}
+use Rattle.params.specs.Field.{Param, xidPayload, WellFormed, paramsOf}
+use Rattle.params.proofs.Exact.{params-exactly}
+use Rattle.xid.proofs.Rows.{formed-exactly, malformed-exactly, malformed-read}
 use Rattle.negotiation.specs.Negotiation.{negotiating, offered, offerOf}
 use Rattle.negotiation.specs.declared.Offer.{Offer}
 use Rattle.negotiation.specs.declared.Offer.the-variants.{Malformed, Agreed}
-use Rattle.negotiation.proofs.Exactly.{offer-malformed}
 use Rattle.xid.specs.Match.{isScan, addressOf, noParams, malformed, valuesIn, neither, badAddress, otherIdentity, otherType}
 use Rattle.xid.specs.Match.{otherVendor, otherScan, valueRows, payloadRows, meaningOf, orSilence, payloadAnswer, readOf}
 use Rattle.xid.specs.declared.Xid as xids
@@ -41,7 +42,7 @@ use Rattle.link.proofs.Judged.{size-right, size-fits}
 use Rattle.link.proofs.Cases.{everyone-is, negotiates-is, unread-silent}
 use Rattle.link.proofs.Silence.{own-exactly}
 
--- ---- the rows 2 and 3, and 4 at the own address, both ways; 1 is `wrong-size-exactly` of Judged
+-- ---- the rows 2, 3 and 4, both ways; 1 is `wrong-size-exactly` of Judged
 
 module _ (f : List ℕ) where
   pub wrong-control-exactly : wrongControl f ≡ true ↔ (controlOf f ≡ 0xBF → ⊥)
@@ -50,6 +51,23 @@ module _ (f : List ℕ) where
     λ e. eqb-false (controlOf f) xidControl (not-true _ e),
     λ n. ap not (ne-eqb (controlOf f) xidControl n),
   )
+
+  -- to all stations, and at the own address
+  pub malformed-all : toAll f ≡ true → malformedAt f ≡ false ↔ ((ps : List Param) × WellFormed addressing (drop 2 f) ps)
+  unfolding malformedAt
+  malformed-all a = rw a (malformed-exactly (drop 2 f))
+
+  pub malformed-own : toAll f ≡ false
+      → malformedAt f ≡ false ↔ ((ps : List Param) × WellFormed negotiating (drop 2 f) ps)
+  unfolding malformedAt
+  malformed-own a = rw a (formed-exactly negotiating (drop 2 f))
+
+-- no payload is of both groups
+pub groups-apart : (m : List ℕ) (ps qs : List Param) → WellFormed addressing m ps → WellFormed negotiating m qs → ⊥
+unfolding xidPayload
+groups-apart m ps qs a b =
+    let second : _≡_ {A = ℕ} 0xF0 0x80 = ap (λ (l : List ℕ). getD l 1 0) (sym (a .octets) ∙ b .octets) in
+    omega (arith, second)
 
 module _ (d : Device) (f : List ℕ) where
   pub negotiates-exactly : negotiates d f ≡ true
@@ -368,6 +386,19 @@ spoken d f (s, (a, (c, (m, rest)))) = go (toAll f) refl
         let n : negotiates d f ≡ true = rw all at (not-false (toAll f || negotiates d f) a) in
         let h = negotiates-exactly d f .0 n .2 in
         offer-spoken d (paramsOf negotiating (drop 2 f)) (rw all at m) (rw h at e)
+
+-- a negotiation to all stations is silence
+pub negotiation-unheard : (d : Device) (f : List ℕ) (ps : List Param) → Everyone d f
+    → WellFormed negotiating (drop 2 f) ps → judgedFrame d f ≡ mute d
+unfolding xidBy
+negotiation-unheard d f ps w m = everyone-is d f w ∙ ap (xidBy d) (malformed-read (identityOf (d .plate)) (drop 2 f) none-read)
+  where
+    none-read : paramsOf addressing (drop 2 f) ≡ none
+    none-read = go (paramsOf addressing (drop 2 f)) refl
+      where
+        go : (x : Option (List Param)) → paramsOf addressing (drop 2 f) ≡ x → x ≡ none
+        go none e = refl
+        go (some qs) e = absurd (groups-apart (drop 2 f) qs ps (params-exactly addressing (drop 2 f) qs .0 e) m)
 
 module _ (d : Device) (f : List ℕ) (xid : controlOf f ≡ xidControl) where
   -- a number is silence, and the device as it was

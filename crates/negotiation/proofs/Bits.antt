@@ -9,7 +9,7 @@ use Rattle.octets.proofs.Rest.{rest}
 use Rattle.limits.specs.Limits.{limitMost, payloadMost}
 use Rattle.negotiation.specs.Negotiation.{bitsFrom, bitsIn, limitFor}
 
--- one octet, and two
+-- one octet to four
 pub bits-one : (x : ℕ) → bitsIn (x ∷ []) ≡ x
 unfolding bitsFrom
 bits-one x = omega arith
@@ -17,6 +17,14 @@ bits-one x = omega arith
 pub bits-two : (h l : ℕ) → bitsIn (h ∷ l ∷ []) ≡ h * 256 + l
 unfolding bitsFrom
 bits-two h l = omega arith
+
+pub bits-three : (a b c : ℕ) → bitsIn (a ∷ b ∷ c ∷ []) ≡ a * 65536 + b * 256 + c
+unfolding bitsFrom
+bits-three a b c = omega arith
+
+pub bits-four : (a b c d : ℕ) → bitsIn (a ∷ b ∷ c ∷ d ∷ []) ≡ a * 16777216 + b * 65536 + c * 256 + d
+unfolding bitsFrom
+bits-four a b c d = omega arith
 
 -- more octets make no smaller number
 pub bits-least : (n : ℕ) (v : List ℕ) → n ≤ bitsFrom n v

@@ -26,7 +26,7 @@ abbrev pub All : List Row → Type 0
 All [] = Unit {0}
 All (m gets x ∷ rows) = (offerOf 100 m ≡ x) × All rows
 
--- 2,048 bits, 591 and 592, 600, and 2^32 - 1; 800 bits of two lengths; 255 bits in one octet
+-- 2,048 bits, 591 and 592, 600, and 2^32 - 1; 600 in three octets, 800 in four; 800 bits of two lengths; 255 in one octet
 abbrev pub lengths : List Row
 lengths =
     (0x81 ∷ 0x80 ∷ 4 ∷ 5 ∷ 2 ∷ 0x08 ∷ 0x00 ∷ []) gets Agreed 260 (asks true false false false)
@@ -34,6 +34,8 @@ lengths =
     ∷ (0x81 ∷ 0x80 ∷ 4 ∷ 6 ∷ 2 ∷ 0x02 ∷ 0x50 ∷ []) gets Agreed 78 (asks false true false false)
     ∷ (0x81 ∷ 0x80 ∷ 4 ∷ 6 ∷ 2 ∷ 0x02 ∷ 0x58 ∷ []) gets Agreed 79 (asks false true false false)
     ∷ (0x81 ∷ 0x80 ∷ 6 ∷ 5 ∷ 4 ∷ 0xFF ∷ 0xFF ∷ 0xFF ∷ 0xFF ∷ []) gets Agreed 260 (asks true false false false)
+    ∷ (0x81 ∷ 0x80 ∷ 5 ∷ 5 ∷ 3 ∷ 0x00 ∷ 0x02 ∷ 0x58 ∷ []) gets Agreed 79 (asks true false false false)
+    ∷ (0x81 ∷ 0x80 ∷ 6 ∷ 6 ∷ 4 ∷ 0x00 ∷ 0x00 ∷ 0x03 ∷ 0x20 ∷ []) gets Agreed 104 (asks false true false false)
     ∷ (0x81 ∷ 0x80 ∷ 8 ∷ 6 ∷ 2 ∷ 0x08 ∷ 0x00 ∷ 5 ∷ 2 ∷ 0x03 ∷ 0x20 ∷ []) gets Agreed 104 (asks true true false false)
     ∷ (0x81 ∷ 0x80 ∷ 3 ∷ 5 ∷ 1 ∷ 0xFF ∷ []) gets Agreed 78 (asks true false false false) ∷ []
 
@@ -62,7 +64,7 @@ pub computed : All lengths × All windows × All misformed
 unfolding offerOf offered agreedLimit askedIn limitAsked limitFor smallerOf bitsFrom paramsOf opened triplesAfter before
     checked allRight rightLength identifiers noneTwice holds valueFor given
 computed = (
-  (refl, (refl, (refl, (refl, (refl, (refl, (refl, tt))))))),
+  (refl, (refl, (refl, (refl, (refl, (refl, (refl, (refl, (refl, tt))))))))),
   (refl, (refl, (refl, tt))),
   (refl, (refl, (refl, (refl, (refl, (refl, (refl, (refl, tt)))))))),
 )

@@ -21,7 +21,7 @@ use Rattle.control.specs.declared.Asked.{Asked}
 use Rattle.negotiation.specs.declared.Offer.{Offer}
 use Rattle.negotiation.specs.declared.Offer.the-variants.{Malformed, Agreed}
 
--- annex B: 5 and 6, the I-field length sent and received; 7 and 8, the window sent and received
+-- "5 and 6, the I-field length in bits, sent and received, .. 7 and 8, the windows": identifiers of ISO/IEC 13239
 abbrev pub sentId : ℕ
 sentId = 5
 
@@ -37,7 +37,7 @@ receivingId = 8
 abbrev pub negotiatingOctet : ℕ
 negotiatingOctet = 0x80
 
--- a row that no identifier has: no length is right
+-- the row of the identifier 0: no length is right
 abbrev pub noRow : Identifier
 noRow = 0 has 1 to 0
 
@@ -65,7 +65,8 @@ smallerOf (some v) none = some (bitsIn v)
 smallerOf none (some w) = some (bitsIn w)
 smallerOf (some v) (some w) = some (min (bitsIn v) (bitsIn w))
 
--- "N - 4 is the whole octets in the smaller I-field length asked"; "an N below 78 is answered 78", and "78 to 260"
+-- "N - 4 is the whole octets in the smaller I-field length asked"; "its own limit where that is lower", which is 260; "an N
+-- below 78 is answered 78"
 unfoldable pub limitFor : ℕ → ℕ
 limitFor bits = max (payloadMost frameLimit) (min (payloadMost limitMost) (bits / 8)) + 4
 

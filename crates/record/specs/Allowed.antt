@@ -10,7 +10,7 @@
 --   owedAllowed l m    == "a tilt result owed only in Connected"
 --   allowedDevice d    == d may be handed in; anything else is refusal 6
 --   Owes m             == a tilt result is owed, in words
---   AllowedRecord d    == d may be handed in, phrase by phrase of 01
+--   AllowedRecord d    == d may be handed in, phrase by phrase of 01, and 02 (iv) for the frame limit
 -- "only alarms named below" holds by type. Assumes nothing.
 use mathlib.Core.Bool.{Bool, true, not, _&&_}
 use mathlib.Core.List.{List}

@@ -1,4 +1,4 @@
--- Numbers for "no": the table of 01, a case a row.
+-- Numbers for "no": the table of 01, a case a row, and 02 (iv) over the frame limit N, which is 78 where none was agreed on.
 --   numberOf r == the paper's number of the refusal r
 -- Assumes nothing.
 use Prim.Native.Nat.{ℕ}
@@ -9,7 +9,7 @@ use Rattle.refusal.specs.declared.Refusal.the-variants.{NotAllowed, Scan
 abbrev pub numberOf : Refusal → ℕ
 -- "decoded octets fewer than 4"
 numberOf TooShort = 1
--- "decoded octets more than 78"
+-- "decoded octets more than 78"; 02 (iv): "refusal 2 means more than N"
 numberOf TooLong = 2
 -- "frame check wrong"
 numberOf WrongCheck = 3
@@ -17,11 +17,11 @@ numberOf WrongCheck = 3
 numberOf Broken = 4
 -- "the lent output is too short"
 numberOf NoRoom = 5
--- "device data, or a device record handed in, not allowed"
+-- "device data, or a device record handed in, not allowed"; 02 (iv): an N "outside 78 to 260"
 numberOf NotAllowed = 6
 -- "a probe asked of, or an answer reported to, a scan that has ended .."
 numberOf ScanOver = 7
 -- "a device event that can't be"
 numberOf CannotBe = 8
--- "payload to be written longer than 74 octets"
+-- "payload to be written longer than 74 octets"; 02 (iv): "9 more than N - 4"
 numberOf PayloadTooLong = 9

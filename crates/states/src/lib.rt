@@ -1,4 +1,4 @@
-// The three link states: what a frame that is read at the own address does in each.
+// The three link states: what a frame that is read at the own address does in each. An XID there is link's.
 // Assumes nothing of its caller.
 ghost use mathlib.Core.Path.{_≡_};
 ghost use Rattle.session.specs.Session.{goodNumber, countsOf};

@@ -11,6 +11,7 @@ use lib.ListN.{length}
 use Rattle.refusal.specs.Answer.{_when_, answered}
 use Rattle.octets.proofs.Words.{true-not-false}
 use Rattle.record.specs.Allowed.{addressed}
+use Rattle.params.specs.declared.Group.{Group}
 use Rattle.params.specs.Field.{Param, WellFormed, paramsOf, given, octetsIn}
 use Rattle.xid.specs.Addressing.{addressing, Values, valuesOf}
 use Rattle.params.proofs.Exact.{params-exactly}
@@ -94,13 +95,18 @@ module _ (i m : List ℕ) where
 
 -- ---- the rows 4 and 5, both ways
 
-pub malformed-exactly : (m : List ℕ) → malformed m ≡ false ↔ ((ps : List Param) × WellFormed addressing m ps)
-unfolding malformed noParams
-malformed-exactly m = (go (paramsOf addressing m) refl, λ (ps, f). rw (params-exactly addressing m ps .1 f))
+-- of any group
+pub formed-exactly : (g : Group) (m : List ℕ) → noParams (paramsOf g m) ≡ false ↔ ((ps : List Param) × WellFormed g m ps)
+unfolding noParams
+formed-exactly g m = (go (paramsOf g m) refl, λ (ps, f). rw (params-exactly g m ps .1 f))
   where
-    go : (o : Option (List Param)) → paramsOf addressing m ≡ o → noParams o ≡ false → (ps : List Param) × WellFormed addressing m ps
+    go : (o : Option (List Param)) → paramsOf g m ≡ o → noParams o ≡ false → (ps : List Param) × WellFormed g m ps
     go none p e = absurd (true-not-false e)
-    go (some ps) p e = (ps, params-exactly addressing m ps .0 p)
+    go (some ps) p e = (ps, params-exactly g m ps .0 p)
+
+pub malformed-exactly : (m : List ℕ) → malformed m ≡ false ↔ ((ps : List Param) × WellFormed addressing m ps)
+unfolding malformed
+malformed-exactly = formed-exactly addressing
 
 pub neither-exactly : (w : Values) → neither w ≡ true ↔ (isScan w ≡ false) × (isAssignment w ≡ false)
 unfolding neither

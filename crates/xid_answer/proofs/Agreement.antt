@@ -5,7 +5,7 @@ use mathlib.Core.Bool.{Bool, true, false, cond}
 use mathlib.Core.List.{List, [], _∷_}
 use mathlib.Core.Logic.{_⊎_, ⊎-elim}
 use mathlib.Core.Option.{none, some}
-use Prim.Native.Nat.{ℕ, _*_, min}
+use Prim.Native.Nat.{ℕ, _*_, _≤_, min, max}
 use native.Mathlib.Omega.{arith}
 use borrow.Author.Tests.{eq-eqb}
 use lib.Dec.{eqb}
@@ -23,7 +23,7 @@ use Rattle.negotiation.specs.declared.Offer.the-variants.{Agreed}
 use Rattle.negotiation.specs.Negotiation.{receivedId, sendingId, receivingId, negotiating, bitsIn, smallerOf}
 use Rattle.negotiation.specs.Negotiation.{agreedLimit, askedIn, offerOf}
 use Rattle.negotiation.proofs.Bits.{bits-two}
-use Rattle.negotiation.proofs.Exactly.{offer-agreed, limit-kept, limit-agreed}
+use Rattle.negotiation.proofs.Exactly.{offer-agreed, limit-kept, limit-agreed, agreed-least, never-above}
 use Rattle.xid_answer.specs.Answer.{ifAsked, lengthValue, windowValue, negotiationParams, negotiationAnswer}
 
 -- ---- a parameter that is there where it was asked
@@ -177,6 +177,14 @@ module _ (a : Asked) (N : ℕ) where
       let kept = limit-kept M (negotiationParams a N) (five ∙ rw s) (six ∙ rw r) in
       offer-agreed M (negotiationAnswer a N) (negotiationParams a N) negotiation-formed
       ∙ rw (kept, asked-again)
+
+-- "N - 4 is the whole octets in the smaller I-field length asked": the length that is answered is at most each one asked,
+-- but for the floor of 592 bits
+pub answered-within : (N : ℕ) (ps : List Param) {v : List ℕ} → isLimit N ≡ true
+    → (valueFor 5 ps ≡ some v) ⊎ (valueFor 6 ps ≡ some v)
+    → bitsIn (lengthValue (agreedLimit N ps)) ≤ max 592 (bitsIn v)
+answered-within N ps ok s =
+    rw (bits-answered (agreedLimit N ps) (agreed-least N ps ok)) (omega (arith, never-above N ps s))
 
 -- ---- spelt out
 

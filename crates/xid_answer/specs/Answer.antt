@@ -51,7 +51,7 @@ negotiationParams a N =
     (ifAsked (a .received) (receivedId is lengthValue N)
     (ifAsked (a .sending) (sendingId is windowValue) (ifAsked (a .receiving) (receivingId is windowValue) [])))
 
--- "the device answers with its own limit where that is lower"
+-- "the device answers": 0x81, 0x80, and what was asked
 unfoldable pub negotiationAnswer : Asked → ℕ → List ℕ
 negotiationAnswer a N = xidPayload negotiating (negotiationParams a N)
 
