@@ -1,6 +1,6 @@
 -- What the bench's functions come to, each by what the libraries promise. Assumes nothing.
 use mathlib.Core.Path.{_≡_, refl, sym, ap, ap₂, _∙_}
-use mathlib.Core.Bool.{Bool, true, false, not, false≢true}
+use mathlib.Core.Bool.{Bool, true, false, cond, not, false≢true}
 use mathlib.Core.List.{List, [], _∷_}
 use mathlib.Core.Logic.{inl, inr}
 use Prim.Native.Nat.{ℕ, suc, _+_, _-_, _*_, _/_, _%_, _≤_, _<_, min}
@@ -8,7 +8,7 @@ use native.Mathlib.Omega.{arith}
 use lib.Dec.{ltb, eqb}
 use lib.ListN.{length, take, drop, getD, set, length-take, drop-of-length-le}
 use lib.Seq.{sets, getD-take}
-use borrow.Author.Tests.{le-leb, lt-leb, eq-eqb, ne-eqb}
+use borrow.Author.Tests.{eq-eqb, ne-eqb}
 use Rattle.octets.specs.Octets.{lastOf, placeOf}
 use Rattle.octets.proofs.Rest.{rest}
 use Rattle.octets.proofs.Words.{last-at, last-empty}
@@ -31,7 +31,8 @@ use Rattle.bus.specs.declared.Row.{Row}
 use Rattle.drives.specs.declared.Obeyed.{Obeyed}
 use Rattle.drives.specs.Drives.{After, Obeys, obeyed}
 use Rattle.mast.specs.Mast.{swept}
-use Rattle.bench.specs.Bench.{hexIn, valueIn, lentOf, rowDriven, rowAfter, scanAfter, handsOut}
+use Rattle.bench.specs.Bench.{hexIn, valueIn, lentOf, isDriven, rowDriven, rowAfter, scanAfter}
+use Rattle.bench.specs.Bench.{isDecode, isLimited, limitIn, octetIn, coded, handsOut}
 use Rattle.bench.specs.Written.{digitOf, hexed}
 use Rattle.bench.specs.Input.{lineKept, runMost}
 use Rattle.bench.specs.Input.{restOf, takenTo, lineTaken, refilled, anew, Run, afterRuns, Arrives, withoutReturn}
@@ -115,21 +116,45 @@ module _ (i : Input) {next : Input} (reads : Reads (anew i) next) where
 
 -- ---- what is handed out
 
+-- each command of the codec by itself: "as `decode` and `write`, with the frame limit N"
+module _ (a : Asked) (room : ℕ) where
+  pub decode-codes : coded command.decode a room ≡ decoded 78 (hexIn a) room
+  unfolding coded isDecode limitIn isLimited
+  decode-codes = refl
+
+  pub write-codes : coded command.write a room ≡ written 78 (valueIn a 1 % 256) (valueIn a 2 % 256) (hexIn a) room
+  unfolding coded isDecode limitIn isLimited octetIn
+  write-codes = refl
+
+  pub decode-n-codes : coded command.decodeN a room ≡ decoded (valueIn a 1) (hexIn a) room
+  unfolding coded isDecode limitIn isLimited
+  decode-n-codes = refl
+
+  pub write-n-codes : coded command.writeN a room
+      ≡ written (valueIn a 1) (valueIn a 2 % 256) (valueIn a 3 % 256) (hexIn a) room
+  unfolding coded isDecode limitIn isLimited octetIn
+  write-n-codes = refl
+
+module _ (c : ℕ) (a : Asked) (room : ℕ) {n : ℕ} {os o o' : List ℕ} {r : Handed} {b : Bool}
+    (l : n ≡ cond (isLimited c) (valueIn a 1) frameLimit) (h : os ≡ hexIn a) (e : b ≡ isDecode c) where
+  pub hands-decode : b ≡ true → Hands (decoded n os room) o r o' → Hands (coded c a room) o r o'
+  unfolding coded limitIn
+  hands-decode t = let y : isDecode c ≡ true = sym e ∙ t in hands-is (rw (y, l, h))
+
+  pub hands-write : {u v x y : ℕ} → b ≡ false → u ≡ cond (isLimited c) (valueIn a 2) (valueIn a 1) → x ≡ u % 256
+      → v ≡ cond (isLimited c) (valueIn a 3) (valueIn a 2) → y ≡ v % 256
+      → Hands (written n x y os room) o r o' → Hands (coded c a room) o r o'
+  unfolding coded limitIn octetIn
+  hands-write t eu ex ev ey = let z : isDecode c ≡ false = sym e ∙ t in hands-is (rw (z, ex, eu, ey, ev, l, h))
+
 module _ (c : ℕ) (s : Scan) (a : Asked) (room : ℕ) {o o' : List ℕ} {r : Handed} where
   pub hands-probe : c ≡ command.probe → Hands (probed s room) o r o' → Hands (handsOut c s a room) o r o'
   unfolding handsOut
   hands-probe e = hands-is (rw (eq-eqb c command.probe e))
 
-  module _ {os : List ℕ} (n : c ≡ command.probe → ⊥) (h : os ≡ hexIn a) where
-    pub hands-decode : c ≡ command.decode → Hands (decoded frameLimit os room) o r o'
-        → Hands (handsOut c s a room) o r o'
-    unfolding handsOut
-    hands-decode e = hands-is (rw (ne-eqb c command.probe n, eq-eqb c command.decode e, h))
-
-    pub hands-write : {x y : ℕ} → (c ≡ command.decode → ⊥) → x ≡ valueIn a 1 % 256 → y ≡ valueIn a 2 % 256
-        → Hands (written frameLimit x y os room) o r o' → Hands (handsOut c s a room) o r o'
-    unfolding handsOut
-    hands-write m e f = hands-is (rw (ne-eqb c command.probe n, ne-eqb c command.decode m, e, f, h))
+  pub hands-coded : (c ≡ command.probe → ⊥) → Hands (coded c a room) o r o' → Hands (handsOut c s a room) o r o'
+  unfolding handsOut
+  hands-coded n = hands-is (rw (ne-eqb c command.probe n))
 
 -- ---- the row
 
@@ -146,18 +171,18 @@ driven-is c row a e f h =
     ap (λ (x : After). x .row) (h .after)
     ∙ ap₂ (λ (os o : List ℕ). obeyed c row (a .values) os o .after .row) e f
 
-module _ (c : ℕ) (row : Row) (a : Asked) where
-  pub row-driven : c ≤ command.device → rowDriven c row a ≡ rowAfter c row a
+module _ (c : ℕ) (row : Row) (a : Asked) {b : Bool} (e : b ≡ isDriven c) where
+  pub row-driven : b ≡ true → rowDriven c row a ≡ rowAfter c row a
   unfolding rowAfter
-  row-driven h = rw (le-leb c command.device h)
+  row-driven t = let y : isDriven c ≡ true = sym e ∙ t in rw y
 
-  pub row-swept : command.device < c → c ≡ command.scan → swept row (valueIn a 1 % 65536) .row ≡ rowAfter c row a
+  pub row-swept : b ≡ false → c ≡ command.scan → swept row (valueIn a 1 % 65536) .row ≡ rowAfter c row a
   unfolding rowAfter
-  row-swept h e = rw (lt-leb c command.device h, eq-eqb c command.scan e)
+  row-swept t h = let y : isDriven c ≡ false = sym e ∙ t in rw (y, eq-eqb c command.scan h)
 
-  pub row-kept : command.device < c → (c ≡ command.scan → ⊥) → row ≡ rowAfter c row a
+  pub row-kept : b ≡ false → (c ≡ command.scan → ⊥) → row ≡ rowAfter c row a
   unfolding rowAfter
-  row-kept h n = rw (lt-leb c command.device h, ne-eqb c command.scan n)
+  row-kept t n = let y : isDriven c ≡ false = sym e ∙ t in rw (y, ne-eqb c command.scan n)
 
 -- ---- the scan by hand
 

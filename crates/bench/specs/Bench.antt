@@ -5,11 +5,15 @@
 --   commandIn l       == the command that the line l asks for
 --   hexIn a           == the octets of the HEX words of a; valueIn a n == what its word n stands for
 --   lentOf room       == a lent output of so many octets
---   rowDriven c row a    == the row after a command c to it or to one of its devices; rowAfter c row a == after any
+--   isDriven c        == the command c is to the row or to one of its devices
+--   rowDriven c row a    == the row after such a command; rowAfter c row a == after any
 --   scanAfter c s v   == the scan by hand after any command with the value v
---   handsOut c s a room == what `probe`, `decode` and `write` hand out
+--   isDecode c        == the command c decodes; isLimited c == its words have a frame limit in front
+--   limitIn c a       == its frame limit; octetIn c a n == the octet of the word n, not counting that limit
+--   coded c a room    == what the codec hands out; handsOut c s a room == what it and `probe` do
+--   roomAt c          == the place of ROOM among the words of a command that hands out octets; 0 for any other
 -- Assumes nothing.
-use mathlib.Core.Bool.{cond}
+use mathlib.Core.Bool.{Bool, cond, _||_}
 use mathlib.Core.List.{List}
 use Prim.Native.Nat.{ℕ, _+_, _%_}
 use lib.Dec.{leb, eqb}
@@ -59,10 +63,14 @@ lentOf room = take room (replicate 600 0xA5)
 unfoldable pub rowDriven : ℕ → Row → Asked → Row
 rowDriven c row a = obeyed c row (a .values) (hexIn a) (lentOf (valueIn a 3)) .after .row
 
+-- the first of them, up to `device`, and `limit`
+unfoldable pub isDriven : ℕ → Bool
+isDriven c = leb c command.device || eqb c command.limit
+
 -- "a scan of the bench from its start to its end"
 unfoldable pub rowAfter : ℕ → Row → Asked → Row
 rowAfter c row a =
-    cond (leb c command.device) (rowDriven c row a)
+    cond (isDriven c) (rowDriven c row a)
     (cond (eqb c command.scan) (swept row (valueIn a 1 % 65536) .row) row)
 
 -- "the bench's one scan record is made anew"; "an answer to it", 1 where it was heard
@@ -71,9 +79,32 @@ scanAfter c s v =
     cond (eqb c command.begin) (fresh (v % 65536))
     (cond (eqb c command.report) (stateAfter (reported s (eqb v 1)) s) s)
 
--- "the next probe of that record"; "the octets between two flags"; "address and control are two hex digits each"
+unfoldable pub isDecode : ℕ → Bool
+isDecode c = eqb c command.decode || eqb c command.decodeN
+
+-- "`decode-n N HEX ROOM` · `write-n N ADDRESS CONTROL HEX ROOM` as `decode` and `write`, with the frame limit N"
+unfoldable pub isLimited : ℕ → Bool
+isLimited c = eqb c command.decodeN || eqb c command.writeN
+
+unfoldable pub limitIn : ℕ → Asked → ℕ
+limitIn c a = cond (isLimited c) (valueIn a 1) frameLimit
+
+unfoldable pub octetIn : ℕ → Asked → ℕ → ℕ
+octetIn c a n = cond (isLimited c) (valueIn a (n + 1)) (valueIn a n) % 256
+
+-- "the octets between two flags"; "address and control are two hex digits each"
+unfoldable pub coded : ℕ → Asked → ℕ → Answer (List ℕ)
+coded c a room =
+    cond (isDecode c) (decoded (limitIn c a) (hexIn a) room)
+    (written (limitIn c a) (octetIn c a 1) (octetIn c a 2) (hexIn a) room)
+
+-- "the next probe of that record"
 unfoldable pub handsOut : ℕ → Scan → Asked → ℕ → Answer (List ℕ)
-handsOut c s a room =
-    cond (eqb c command.probe) (probed s room)
-    (cond (eqb c command.decode) (decoded frameLimit (hexIn a) room)
-    (written frameLimit (valueIn a 1 % 256) (valueIn a 2 % 256) (hexIn a) room))
+handsOut c s a room = cond (eqb c command.probe) (probed s room) (coded c a room)
+
+-- "`probe ROOM`", "`decode HEX ROOM`", "`write ADDRESS CONTROL HEX ROOM`", and one place on behind a limit
+unfoldable pub roomAt : ℕ → ℕ
+roomAt c =
+    cond (eqb c command.probe) 1
+    (cond (eqb c command.decode) 2
+    (cond (eqb c command.write) 4 (cond (eqb c command.decodeN) 3 (cond (eqb c command.writeN) 5 0))))

@@ -14,7 +14,7 @@ mod shown;
 ghost use mathlib.Core.Path.{_≡_};
 ghost use Prim.Native.Nat.{_%_};
 ghost use Rattle.mast.specs.Mast.{swept};
-ghost use Rattle.bench.specs.Bench.{noDevices, commandIn, rowDriven, rowAfter};
+ghost use Rattle.bench.specs.Bench.{noDevices, commandIn, isDriven, rowDriven, rowAfter};
 use antenna::Angle;
 use bus::MOST;
 use bus::Row;
@@ -80,6 +80,7 @@ fn say_behind(answer: Response, row: Row, lent: [u8; answers::ROOM], room: usize
             let devices = row.devices;
             shown::show(devices[place % MOST]);
         }
+        Response::Limit(n) => answers::say_number(b' ', n),
     }
 }
 
@@ -108,11 +109,21 @@ fn sweep(row: Row, limit: usize) -> Row
     swept.row
 }
 
+// The commands of `drives` stand first among the names, but for `limit`.
+fn is_driven(command: usize) -> bool
+    ensures { λ r. ⌜ r ≡ isDriven command ⌝ }
+{
+    if command <= script::DEVICE {
+        return true;
+    }
+    command == script::LIMIT
+}
+
 // The commands to the row; any other leaves it alone.
 fn obey(row: Row, command: usize, asked: Asked) -> Row
     ensures { λ r. ⌜ r ≡ rowAfter command row asked ⌝ }
 {
-    if command <= script::DEVICE {
+    if is_driven(command) {
         return drive(row, command, asked);
     }
     if command == script::SCAN {

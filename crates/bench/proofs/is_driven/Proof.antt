@@ -1,0 +1,16 @@
+-- `is_driven` meets its promise: each way out, by the test that leads to it. Assumes nothing.
+use Rattle.octets.proofs.Rules.{tests}
+use Rattle.bench.specs.Bench.{isDriven}
+use Rattle.bench.proofs.is_driven.Statement.{statement}
+use Rattle.bench.proofs.is_driven.Tie as tie
+
+returns : tie.Need-returns
+unfolding isDriven
+returns c = search tests
+
+returns-2 : tie.Need-returns-2
+unfolding isDriven
+returns-2 c = search tests
+
+pub is-driven-spec : {M : Type 1} → statement M
+is-driven-spec = tie.close (tie.spec returns returns-2)
