@@ -1,7 +1,7 @@
 -- What the bench's functions come to, each by what the libraries promise. Assumes nothing.
 use mathlib.Core.Path.{_≡_, refl, sym, ap, ap₂, _∙_}
 use mathlib.Core.Bool.{Bool, true, false, cond, not, false≢true}
-use mathlib.Core.List.{List, [], _∷_}
+use mathlib.Core.List.{List, [], _∷_, map}
 use mathlib.Core.Logic.{inl, inr}
 use Prim.Native.Nat.{ℕ, suc, _+_, _-_, _*_, _/_, _%_, _≤_, _<_, min}
 use native.Mathlib.Omega.{arith}
@@ -26,13 +26,14 @@ use Rattle.record.specs.Fresh.{freshOf, dataAllowed, textsAllowed, blankDevice}
 use Rattle.scan.specs.declared.Scan.{Scan}
 use Rattle.scan.specs.Scan.{fresh, probed, reported}
 use Rattle.script.specs.declared.Asked.{Asked}
+use Rattle.script.specs.Words.{spelled, firstOf, behindFirst, wordAt}
 use Rattle.script.specs.Commands as command
 use Rattle.bus.specs.declared.Row.{Row}
 use Rattle.drives.specs.declared.Obeyed.{Obeyed}
 use Rattle.drives.specs.Drives.{After, Obeys, obeyed}
 use Rattle.mast.specs.Mast.{swept}
 use Rattle.bench.specs.Bench.{hexIn, valueIn, lentOf, isDriven, rowDriven, rowAfter, scanAfter}
-use Rattle.bench.specs.Bench.{isDecode, isLimited, limitIn, octetIn, coded, handsOut}
+use Rattle.bench.specs.Bench.{isDecode, isLimited, limitIn, octetIn, coded, handsOut, roomAt}
 use Rattle.bench.specs.Written.{digitOf, hexed}
 use Rattle.bench.specs.Input.{lineKept, runMost}
 use Rattle.bench.specs.Input.{restOf, takenTo, lineTaken, refilled, anew, Run, afterRuns, Arrives, withoutReturn}
@@ -134,6 +135,13 @@ module _ (a : Asked) (room : ℕ) where
       ≡ written (valueIn a 1) (valueIn a 2 % 256) (valueIn a 3 % 256) (hexIn a) room
   unfolding coded isDecode limitIn isLimited octetIn
   write-n-codes = refl
+
+-- "`probe ROOM`", .. "`write-n N ADDRESS CONTROL HEX ROOM`": ROOM is the last word of each
+pub room-last : map roomAt (command.probe ∷ command.decode ∷ command.write ∷ command.decodeN ∷ command.writeN ∷ [])
+    ≡ map (λ (c : ℕ). length (wordAt c (spelled command.kinds)))
+    (command.probe ∷ command.decode ∷ command.write ∷ command.decodeN ∷ command.writeN ∷ [])
+unfolding roomAt wordAt firstOf behindFirst placeOf spelled
+room-last = refl
 
 module _ (c : ℕ) (a : Asked) (room : ℕ) {n : ℕ} {os o o' : List ℕ} {r : Handed} {b : Bool}
     (l : n ≡ cond (isLimited c) (valueIn a 1) frameLimit) (h : os ≡ hexIn a) (e : b ≡ isDecode c) where

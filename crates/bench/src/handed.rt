@@ -95,6 +95,7 @@ fn room_at(command: usize) -> usize
     }
 }
 
+// Any other command hands out nothing.
 pub fn obey(scan: Scan, command: usize, asked: Asked) {
     let values = asked.values;
     let at = room_at(command);
