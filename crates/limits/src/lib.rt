@@ -9,8 +9,13 @@ pub const LIMIT: usize = 78;
 // The largest.
 pub const LIMIT_MOST: usize = 260;
 
+// The octets around a payload: address, control and two of the check.
+pub const AROUND: usize = 4;
+
 // What follows from them: the most octets of a payload, of a frame without its check, and of a line with its flags.
-pub const PAYLOAD_MOST: usize = LIMIT - 4;
+pub const PAYLOAD_MOST: usize = LIMIT - AROUND;
+
+pub const LONGEST_PAYLOAD: usize = LIMIT_MOST - AROUND;
 
 pub const LINE_MOST: usize = 2 * LIMIT + 2;
 

@@ -9,8 +9,11 @@ ghost use Rattle.limits.specs.Limits.{limitMost, payloadMost};
 ghost use Rattle.params.specs.Walk.{partIn, isAbsent, valueAt};
 ghost use Rattle.negotiation.specs.Negotiation.{negotiating, bitsIn, smallerOf, limitFor, limitAsked, offerOf};
 use control::Asked;
+use limits::AROUND;
 use limits::LIMIT;
 use limits::LIMIT_MOST;
+use limits::LONGEST_PAYLOAD;
+use limits::PAYLOAD_MOST;
 use params::Group;
 use params::Identifier;
 use params::Part;
@@ -76,7 +79,7 @@ fn negotiating() -> Group
 }
 
 // The most bits of a payload: past them it does not matter how many.
-const BITS_MOST: usize = 8 * (LIMIT_MOST - 4);
+const BITS_MOST: usize = 8 * LONGEST_PAYLOAD;
 
 // The number that the octets of a part stand for, highest first; past the most bits, some number past them.
 fn bits_at(payload: &[u8], from: usize, len: usize) -> usize
@@ -101,13 +104,13 @@ fn limit_for(bits: usize) -> usize
     ensures { λ r. ⌜ r ≡ limitFor bits ⌝ }
 {
     let whole = bits / 8;
-    if whole < LIMIT - 4 {
+    if whole < PAYLOAD_MOST {
         return LIMIT;
     }
-    if LIMIT_MOST - 4 < whole {
+    if LONGEST_PAYLOAD < whole {
         return LIMIT_MOST;
     }
-    whole + 4
+    whole + AROUND
 }
 
 // The frame limit after `limit` where these lengths are asked.

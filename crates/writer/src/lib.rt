@@ -13,6 +13,7 @@ ghost use Rattle.frame.specs.Write.{frameOf, lineOf, written};
 use frame::ESCAPE;
 use frame::FLAG;
 use frame::TOGGLE;
+use limits::AROUND;
 use limits::LIMIT;
 use limits::LIMIT_MOST;
 use limits::LINE_MOST;
@@ -135,7 +136,7 @@ pub fn write(limit: usize, address: u8, control: u8, payload: &[u8], out: &mut [
     if limit <= LIMIT {
         return Handed::Refused(Refusal::PayloadTooLong);
     }
-    if limit - 4 < payload.len() {
+    if limit - AROUND < payload.len() {
         return Handed::Refused(Refusal::PayloadTooLong);
     }
     write_long(address, control, payload, out)

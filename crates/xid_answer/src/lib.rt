@@ -15,6 +15,7 @@ ghost use Rattle.octets.specs.Puts.{Puts};
 ghost use Rattle.payload.specs.Payloads.{payloadOf as held};
 use control::Asked;
 use identity::OCTETS;
+use limits::AROUND;
 use negotiation::NEGOTIATING;
 use negotiation::RECEIVED_ID;
 use negotiation::RECEIVING_ID;
@@ -76,7 +77,7 @@ fn put_assignment_answer(out: &mut [u8], identity: &[u8]) -> usize
 fn length_value(limit: usize) -> [u8; 2]
     ensures { λ r. ⌜ r ≡ lengthValue limit ⌝ }
 {
-    let most = limit - octets::fewer(limit, 4);
+    let most = limit - octets::fewer(limit, AROUND);
     let high = (most / 32 % 256) as u8;
     let low = (most % 32 * 8) as u8;
     [high, low]

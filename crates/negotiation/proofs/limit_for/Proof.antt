@@ -4,15 +4,9 @@ use Rattle.negotiation.specs.Negotiation.{limitFor}
 use Rattle.negotiation.proofs.limit_for.Statement.{statement}
 use Rattle.negotiation.proofs.limit_for.Tie as tie
 
-sub-if1 : tie.Need-sub-if1
-sub-if1 c = search needs
-
 returns : tie.Need-returns
 unfolding limitFor
 returns c = search needs
-
-sub-if2 : tie.Need-sub-if2
-sub-if2 c = search needs
 
 returns-2 : tie.Need-returns-2
 unfolding limitFor
@@ -26,4 +20,4 @@ unfolding limitFor
 returns-3 c = search needs
 
 pub limit-for-spec : {M : Type 1} → statement M
-limit-for-spec = tie.close (tie.spec sub-if1 returns sub-if2 returns-2 add-result returns-3)
+limit-for-spec = tie.close (tie.spec returns returns-2 add-result returns-3)
