@@ -9,7 +9,8 @@ use Rattle.refusal.specs.declared.Refusal.the-variants.{NotAllowed, Scan
 abbrev pub numberOf : Refusal → ℕ
 -- "decoded octets fewer than 4"
 numberOf TooShort = 1
--- "decoded octets more than 78"; 02 (iv): "refusal 2 means more than N"
+-- 02 (iv): "refusal 2 means more than N", which 01 has as
+-- "decoded octets more than 78"
 numberOf TooLong = 2
 -- "frame check wrong"
 numberOf WrongCheck = 3
@@ -17,11 +18,13 @@ numberOf WrongCheck = 3
 numberOf Broken = 4
 -- "the lent output is too short"
 numberOf NoRoom = 5
--- "device data, or a device record handed in, not allowed"; 02 (iv): an N "outside 78 to 260"
+-- 02 (iv): an N "outside 78 to 260"; 01:
+-- "device data, or a device record handed in, not allowed"
 numberOf NotAllowed = 6
 -- "a probe asked of, or an answer reported to, a scan that has ended .."
 numberOf ScanOver = 7
 -- "a device event that can't be"
 numberOf CannotBe = 8
--- "payload to be written longer than 74 octets"; 02 (iv): "9 more than N - 4"
+-- 02 (iv): "9 more than N - 4", which 01 has as
+-- "payload to be written longer than 74 octets"
 numberOf PayloadTooLong = 9
