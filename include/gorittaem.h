@@ -12,9 +12,9 @@
  *   any other                 GORITTAEM_REFUSED + the refusal's number (below); no octet of the output has changed
  * No frame and no line comes near GORITTAEM_REFUSED (0x10000).
  *
- * The frame limit N is the most octets of address, control, payload and check: 78, or what was negotiated, up to 260. The
- * functions whose names end in _n take it, and refuse any other number with 6 before they look at anything else; the others
- * work with 78.
+ * The frame limit N of a link is the most octets of address, control, payload and check: 78 where none was negotiated, and at
+ * most 260. The functions whose names end in _n take it, and refuse a number outside 78 to 260 with 6 before they look at
+ * anything else; the others work with 78.
  */
 #ifndef GORITTAEM_H
 #define GORITTAEM_H
@@ -32,7 +32,7 @@ extern "C" {
 #define GORITTAEM_IS_REFUSED(answer) ((answer) >= GORITTAEM_REFUSED)
 #define GORITTAEM_NUMBER(answer) ((answer) - GORITTAEM_REFUSED)
 
-/* the refusals' numbers; with a frame limit N, 78 reads N and 74 reads N - 4 */
+/* the refusals' numbers; where a frame limit N is given, 2 means more than N, and 9 longer than N - 4 octets */
 enum gorittaem_refusal {
     GORITTAEM_TOO_SHORT = 1,        /* decoded octets fewer than 4 */
     GORITTAEM_TOO_LONG = 2,         /* decoded octets more than 78 */
@@ -51,7 +51,7 @@ enum gorittaem_refusal {
 #define GORITTAEM_FRAME_ROOM 76
 #define GORITTAEM_LINE_ROOM 158
 
-/* the same for a frame limit */
+/* the same for a frame limit of 78 to 260 */
 #define GORITTAEM_FRAME_ROOM_N(limit) ((limit) - 2)
 #define GORITTAEM_LINE_ROOM_N(limit) (2 * (limit) + 2)
 
@@ -67,7 +67,8 @@ size_t gorittaem_decode(const uint8_t *line, size_t len, uint8_t *out, size_t ro
 size_t gorittaem_write(uint8_t address, uint8_t control, const uint8_t *payload, size_t len, uint8_t *out, size_t room);
 
 /* The same two with the frame limit N in `limit`: address, control and payload are 2 to N - 2 octets, a line has at most
- * 2N + 2. Both refuse with 6 first, then as above. What was written with one N decodes with that N and with any larger one. */
+ * 2N + 2. Both refuse with 6 first, then as above. What was written with one N decodes with that N and with any
+ * larger one up to 260. */
 size_t gorittaem_decode_n(size_t limit, const uint8_t *line, size_t len, uint8_t *out, size_t room);
 size_t gorittaem_write_n(size_t limit, uint8_t address, uint8_t control, const uint8_t *payload, size_t len, uint8_t *out,
                          size_t room);

@@ -16,7 +16,7 @@ use Rattle.refusal.specs.declared.Outcome.{Outcome}
 use Rattle.refusal.specs.declared.Handed.{Handed}
 use Rattle.refusal.specs.Answer.{Changes, stateAfter, answered, Hands}
 use Rattle.refusal.proofs.Answers.{hands-is}
-use Rattle.limits.specs.Limits.{frameLimit}
+use Rattle.limits.specs.Limits.{limitLeast}
 use Rattle.frame.specs.Decode.{decoded}
 use Rattle.frame.specs.Write.{written}
 use Rattle.identity.specs.Identity.{allowedIdentity}
@@ -144,7 +144,7 @@ unfolding roomAt wordAt firstOf behindFirst placeOf spelled
 room-last = refl
 
 module _ (c : ℕ) (a : Asked) (room : ℕ) {n : ℕ} {os o o' : List ℕ} {r : Handed} {b : Bool}
-    (l : n ≡ cond (isLimited c) (valueIn a 1) frameLimit) (h : os ≡ hexIn a) (e : b ≡ isDecode c) where
+    (l : n ≡ cond (isLimited c) (valueIn a 1) limitLeast) (h : os ≡ hexIn a) (e : b ≡ isDecode c) where
   pub hands-decode : b ≡ true → Hands (decoded n os room) o r o' → Hands (coded c a room) o r o'
   unfolding coded limitIn
   hands-decode t = let y : isDecode c ≡ true = sym e ∙ t in hands-is (rw (y, l, h))

@@ -19,7 +19,7 @@ use Prim.Native.Nat.{ℕ, _+_, _%_}
 use lib.Dec.{leb, eqb}
 use lib.ListN.{getD, take, replicate}
 use Rattle.refusal.specs.Answer.{Answer, stateAfter}
-use Rattle.limits.specs.Limits.{frameLimit}
+use Rattle.limits.specs.Limits.{limitLeast}
 use Rattle.frame.specs.Decode.{decoded}
 use Rattle.frame.specs.Write.{written}
 use Rattle.record.specs.Fresh.{blankDevice}
@@ -87,7 +87,7 @@ unfoldable pub isLimited : ℕ → Bool
 isLimited c = eqb c command.decodeN || eqb c command.writeN
 
 unfoldable pub limitIn : ℕ → Asked → ℕ
-limitIn c a = cond (isLimited c) (valueIn a 1) frameLimit
+limitIn c a = cond (isLimited c) (valueIn a 1) limitLeast
 
 unfoldable pub octetIn : ℕ → Asked → ℕ → ℕ
 octetIn c a n = cond (isLimited c) (valueIn a (n + 1)) (valueIn a n) % 256

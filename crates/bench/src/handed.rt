@@ -49,7 +49,7 @@ fn coded_by(command: usize, asked: Asked, lent: &mut [u8]) -> Handed
         (now (lent .exit)) ⌝ }
 {
     let values = asked.values;
-    let limit = by_limit(command, values[1], limits::LIMIT);
+    let limit = by_limit(command, values[1], limits::LIMIT_LEAST);
     let hex = octets::part(&asked.octets, 0, asked.len as usize);
     if is_decode(command) {
         return frame::decode(limit, hex, lent);

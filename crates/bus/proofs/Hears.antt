@@ -12,8 +12,8 @@ use Rattle.octets.specs.Octets.{Octets}
 use Rattle.octets.proofs.Words.{or-parts, true-not-false}
 use Rattle.refusal.specs.Answer.{gives}
 use Rattle.refusal.proofs.Answers.{in-room}
-use Rattle.limits.specs.Limits.{frameLimit, limitMost, isLimit, frameMost, payloadMost, lineMost}
-use Rattle.limits.proofs.Exactly.{limit-exactly, limit-least}
+use Rattle.limits.specs.Limits.{limitLeast, limitMost, isLimit, frameMost, payloadMost, lineMost}
+use Rattle.limits.proofs.Exactly.{is-limit-exactly, limit-least}
 use Rattle.frame.specs.Line.{inside}
 use Rattle.frame.specs.Write.{lineOf}
 use Rattle.frame.proofs.Lengths.{line-most, write-fits}
@@ -32,12 +32,12 @@ module _ (N : ℕ) (ok : isLimit N ≡ true) (a c : ℕ) (p : List ℕ) (h : len
   pub line-with : lineWith N (a ∷ c ∷ p) ≡ lineOf (a ∷ c ∷ p)
   unfolding lineWith octetsGiven
   line-with =
-      let least = limit-exactly N .0 ok .0 in
+      let least = is-limit-exactly N .0 ok .0 in
       let fits = line-most N a c p (omega (arith, least)) h in
       ap octetsGiven (write-fits N ok a c p (lineMost N) h fits)
 
-pub line-written : (a c : ℕ) (p : List ℕ) → length p ≤ payloadMost frameLimit → lineFor (a ∷ c ∷ p) ≡ lineOf (a ∷ c ∷ p)
-line-written = line-with frameLimit limit-least
+pub line-written : (a c : ℕ) (p : List ℕ) → length p ≤ payloadMost limitLeast → lineFor (a ∷ c ∷ p) ≡ lineOf (a ∷ c ∷ p)
+line-written = line-with limitLeast limit-least
 
 -- a line whose frame has room in the frame limit of the link is judged as it was put in
 module _ (d : Device) (a c : ℕ) (p : List ℕ) (allowed : allowedDevice d ≡ true) (os : Octets (a ∷ c ∷ p)) where
@@ -59,7 +59,7 @@ module _ (d : Device) (a c : ℕ) (p : List ℕ) (allowed : allowedDevice d ≡ 
   hears-with h = ap (hears d) (line-with (limitOf d) (limit-allowed d allowed) a c p h) ∙ hears-line h
 
   -- written with the least one, which every link has room for
-  pub hears-written : length p ≤ payloadMost frameLimit
+  pub hears-written : length p ≤ payloadMost limitLeast
       → hears d (lineFor (a ∷ c ∷ p)) ≡ gives (reactionOf (judgedFrame d (a ∷ c ∷ p)))
   hears-written h =
       ap (hears d) (line-written a c p h) ∙ hears-line (omega (arith, limited d allowed .0))

@@ -1,6 +1,6 @@
 -- Longer frames on the cable: a negotiation, written as a line, is heard and answered, both ends have the same limit then, and
 -- frames up to it are heard; a frame is heard as it was put in exactly if it has room in the frame limit of the link, and gets
--- 2 where it has not. What a device answers is read back with any limit. Assumes nothing.
+-- 2 where it has not. What a device answers in octets is read back with any limit. Assumes nothing.
 use mathlib.Core.Path.{_≡_, refl, sym, ap, ap₂, _∙_}
 use mathlib.Core.Bool.{Bool, true, false}
 use mathlib.Core.Logic.{_↔_, _⊎_, inl, inr, ⊎-map, ⊎-elim}
@@ -15,13 +15,13 @@ use Rattle.octets.specs.Octets.{Octets}
 use Rattle.refusal.specs.Answer.{Answer, gives, refuses}
 use Rattle.refusal.proofs.Answers.{gives-not-refuses, in-room}
 use Rattle.limits.specs.Limits.{isLimit, limitMost, frameMost, payloadMost}
-use Rattle.limits.proofs.Exactly.{limit-exactly}
+use Rattle.limits.proofs.Exactly.{is-limit-exactly}
 use Rattle.fcs.specs.Check.{withCheck}
 use Rattle.frame.specs.Line.{broken, plain, onLine, inside}
 use Rattle.frame.specs.Decode.{decoded}
-use Rattle.frame.specs.Write.{lineOf}
+use Rattle.frame.specs.Write.{lineOf, written}
 use Rattle.frame.proofs.Assembled.{length-withCheck}
-use Rattle.frame.proofs.Exact.{decode-2}
+use Rattle.frame.proofs.Exact.{decode-2, write-line}
 use Rattle.frame.proofs.Trip.{whole-line, plain-onLine, inside-between, trip}
 use Rattle.record.specs.declared.Device.{Device}
 use Rattle.record.specs.Allowed.{limitOf, allowedDevice}
@@ -33,18 +33,30 @@ use Rattle.negotiation.specs.Negotiation.{negotiating, agreedLimit, askedIn, of
 use Rattle.negotiation.proofs.Exactly.{agreed-least}
 use Rattle.xid_answer.proofs.Agreement.{answer-read}
 use Rattle.link.specs.Link.{hasAddress, isOwn, judgedFrame}
-use Rattle.link.specs.Frames.{Negotiates}
+use Rattle.link.specs.Frames.{OwnXid}
 use Rattle.conduct.specs.Comes.{Comes, left}
 use Rattle.conduct.specs.Spelt.{negotiationSaid, octetsSaid}
 use Rattle.conduct.proofs.Addressed.{link-addressed, addressed-bounds}
 use Rattle.conduct.proofs.Comes.{comes-leaves}
-use Rattle.conduct.proofs.Says.{negotiation-is, frame-octets}
+use Rattle.conduct.proofs.Says.{negotiation-is, negotiation-plain, frame-octets}
 use Rattle.conduct.proofs.Limits.{Lengthy}
 use Rattle.conduct.proofs.Stays.{limited-stays}
 use Rattle.device.specs.Judge.{Reaction, reacts, reactionOf, heardBy, decodedHere, heard, deviceAfter}
 use Rattle.device.proofs.Fits.{answer-fits}
 use Rattle.bus.specs.Cable.{lineWith, lineFor, hears, afterLine}
 use Rattle.bus.proofs.Hears.{hears-line, hears-written, hears-with}
+
+-- ---- the way back
+
+-- "one for both ways": what an allowed device answers, if it is octets, is read back with any frame limit
+pub answer-reads-back : (d : Device) (f g : List ℕ) (M : ℕ) → allowedDevice d ≡ true → isLimit M ≡ true → Octets g
+    → reactionOf (judgedFrame d f) .frame ≡ some g → decoded M (inside (lineOf g)) (frameMost M) ≡ gives g
+unfolding reacts
+answer-reads-back d f g M allowed ok os e =
+    let (least, most, address) = answer-fits d f g allowed e in
+    let limit = is-limit-exactly M .0 ok in
+    trip g os M ok (frameMost M) least (omega (arith, most, limit .0))
+    ∙ in-room g (frameMost M) (omega (arith, most, limit .0))
 
 -- ---- a negotiation
 
@@ -59,7 +71,7 @@ module _ (d : Device) (allowed : allowedDevice d ≡ true) (has : hasAddress (d 
       addressed-bounds (d .station .desk .address)
       (link-addressed (d .station .desk) (d .station .link) (sound d allowed .link) has)
 
-  negotiates : Negotiates d asking
+  negotiates : OwnXid d asking
   unfolding isOwn
   negotiates =
       let a = d .station .desk .address in
@@ -117,7 +129,23 @@ module _ (d : Device) (allowed : allowedDevice d ≡ true) (has : hasAddress (d 
         ∙ answer-read (askedIn ps) agreed M (agreed-least (limitOf d) ps (limit-allowed d allowed))
         (⊎-map (λ w. rw (w .1)) (λ w. rw (w .1)) long)
 
-    -- so whatever the master writes with it is heard as it was put in, up to N - 4 octets of payload
+    -- to whom the answer comes, as a line, as it was said, whatever limit the master reads it with
+    pub master-hears : (M : ℕ) → isLimit M ≡ true → let g = negotiationSaid (d .station .desk .address) ps agreed in
+        decoded M (inside (lineOf g)) (frameMost M) ≡ gives g
+    unfolding octetsSaid reacts
+    master-hears M ok =
+        answer-reads-back d asking (negotiationSaid (d .station .desk .address) ps agreed) M allowed ok
+        (negotiation-plain ps agreed (d .station .desk .address) (omega (arith, bounds .1)))
+        (frame-octets d asking (Comes.negotiates ps negotiates formed))
+
+    -- so whatever line the writer gives with it for a frame is heard as that frame
+    pub heard-written : (a c : ℕ) (p l : List ℕ) (room : ℕ) → Octets (a ∷ c ∷ p) → written agreed a c p room ≡ gives l
+        → hears later l ≡ gives (reactionOf (judgedFrame later (a ∷ c ∷ p)))
+    heard-written a c p l room os e =
+        let (ok, few, fits, is) = write-line agreed a c p room l .0 e in
+        rw (← is) (hears-line later a c p later-allowed os (rw limit-later few))
+
+    -- and it gives one for up to N - 4 octets of payload
     pub heard-later : (a c : ℕ) (p : List ℕ) → Octets (a ∷ c ∷ p) → length p ≤ payloadMost agreed
         → hears later (lineWith agreed (a ∷ c ∷ p)) ≡ gives (reactionOf (judgedFrame later (a ∷ c ∷ p)))
     heard-later a c p os h = rw (← limit-later) (hears-with later a c p later-allowed os (rw limit-later h))
@@ -158,13 +186,3 @@ module _ (d : Device) (a c : ℕ) (p : List ℕ) (allowed : allowedDevice d ≡ 
           go : (b : Bool) → leb k n ≡ b → (k ≤ n) ⊎ (n < k)
           go true e = inl (leb-true k n e)
           go false e = inr (leb-false k n e)
-
--- "one for both ways": what an allowed device answers, written with any frame limit, is read back with it
-pub answer-reads-back : (d : Device) (f g : List ℕ) (M : ℕ) → allowedDevice d ≡ true → isLimit M ≡ true → Octets g
-    → reactionOf (judgedFrame d f) .frame ≡ some g → decoded M (inside (lineOf g)) (frameMost M) ≡ gives g
-unfolding reacts
-answer-reads-back d f g M allowed ok os e =
-    let (least, most, address) = answer-fits d f g allowed e in
-    let limit = limit-exactly M .0 ok in
-    trip g os M ok (frameMost M) least (omega (arith, most, limit .0))
-    ∙ in-room g (frameMost M) (omega (arith, most, limit .0))

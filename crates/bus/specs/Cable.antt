@@ -20,7 +20,7 @@ use mathlib.Core.Option.{Option, none, some}
 use Prim.Native.Nat.{ℕ}
 use lib.ListN.{getD, drop}
 use Rattle.refusal.specs.Answer.{Answer, gives, refuses}
-use Rattle.limits.specs.Limits.{frameLimit, limitMost, frameMost, lineMost}
+use Rattle.limits.specs.Limits.{limitLeast, limitMost, frameMost, lineMost}
 use Rattle.frame.specs.Line.{inside}
 use Rattle.frame.specs.Write.{written}
 use Rattle.identity.specs.Bits.{Bits}
@@ -56,7 +56,7 @@ unfoldable pub lineWith : ℕ → List ℕ → List ℕ
 lineWith N f = octetsGiven (written N (getD f 0 0) (getD f 1 0) (drop 2 f) (lineMost N))
 
 abbrev pub lineFor : List ℕ → List ℕ
-lineFor f = lineWith frameLimit f
+lineFor f = lineWith limitLeast f
 
 -- "each device hears what lies between its flags", with an answer buffer of 258 octets: what the largest frame limit asks
 -- for, so that no device looks absent

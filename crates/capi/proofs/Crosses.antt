@@ -5,6 +5,7 @@ use mathlib.Core.List.{List}
 use Prim.Native.Nat.{ℕ, _+_, _-_, _<_, _≤_}
 use native.Mathlib.Omega.{arith}
 use lib.ListN.{length, take}
+use Rattle.octets.specs.Octets.{_atStartOf_}
 use Rattle.octets.proofs.Stores.{take-start}
 use Rattle.refusal.specs.Numbers.{numberOf}
 use Rattle.refusal.specs.Answer.{Answer, gives, refuses, answerOf, counted, outAfter, Hands}
@@ -24,10 +25,13 @@ pub handed-crosses : {x : Answer (List ℕ)} {o o' : List ℕ} {h : Handed} {r :
 handed-crosses h e = record { number = e ∙ ap crossed (h .answer); octets = h .octets }
 
 module _ {o o' : List ℕ} {r : ℕ} where
-  -- a number below the refusals: so many octets, and they stand at the start of the output
-  pub low-told : (x : Answer (List ℕ)) → Crosses x o r o' → r < refusals → x ≡ gives (take r o')
+  -- a number below the refusals: so many octets, and they stand at the start of the output, whose rest is as it was
+  pub low-told : (x : Answer (List ℕ)) → Crosses x o r o' → r < refusals
+      → (x ≡ gives (take r o')) × (o' ≡ take r o' atStartOf o)
   unfolding crossed counted outAfter
-  low-told (gives b) c h = ap gives (sym (rw (c .number, c .octets) (take-start b o)))
+  low-told (gives b) c h =
+      let these : take r o' ≡ b = rw (c .number, c .octets) (take-start b o) in
+      (ap gives (sym these), c .octets ∙ ap (λ (x : List ℕ). x atStartOf o) (sym these))
   low-told (refuses k) c h = let e = c .number in absurd (omega arith)
 
   -- any other: that refusal, and the output is as it was

@@ -6,11 +6,11 @@ ghost use mathlib.Core.Path.{_≡_};
 ghost use lib.ListN.{length};
 ghost use Rattle.refusal.specs.Answer.{answerOf};
 ghost use Rattle.fcs.specs.Check.{checkOf};
-ghost use Rattle.limits.specs.Limits.{frameLimit};
+ghost use Rattle.limits.specs.Limits.{limitLeast};
 ghost use Rattle.frame.specs.Decode.{decoded};
 ghost use Rattle.frame.specs.Write.{written};
 ghost use Rattle.capi.specs.Crossing.{crossed, Crosses};
-use limits::LIMIT;
+use limits::LIMIT_LEAST;
 use refusal::Handed;
 
 // What a refusal's number is added to.
@@ -37,10 +37,10 @@ pub extern "C" fn gorittaem_check(s: &[u8]) -> u16
 // Decodes what lies between two flags: address, control and payload to the start of `out`.
 #[no_mangle]
 pub extern "C" fn gorittaem_decode(src: &[u8], out: &mut [u8]) -> usize
-    ensures { λ r. ⌜ Crosses (decoded frameLimit (now (src .entry)) (length (now (out .entry))))
+    ensures { λ r. ⌜ Crosses (decoded limitLeast (now (src .entry)) (length (now (out .entry))))
         (now (out .entry)) r (now (out .exit)) ⌝ }
 {
-    let answer = frame::decode(LIMIT, src, out);
+    let answer = frame::decode(LIMIT_LEAST, src, out);
     crossing(answer)
 }
 
@@ -57,10 +57,10 @@ pub extern "C" fn gorittaem_decode_n(limit: usize, src: &[u8], out: &mut [u8]) -
 // Writes flag, frame, flag to the start of `out`.
 #[no_mangle]
 pub extern "C" fn gorittaem_write(address: u8, control: u8, payload: &[u8], out: &mut [u8]) -> usize
-    ensures { λ r. ⌜ Crosses (written frameLimit address control (now (payload .entry)) (length (now (out .entry))))
+    ensures { λ r. ⌜ Crosses (written limitLeast address control (now (payload .entry)) (length (now (out .entry))))
         (now (out .entry)) r (now (out .exit)) ⌝ }
 {
-    let answer = writer::write(LIMIT, address, control, payload, out);
+    let answer = writer::write(LIMIT_LEAST, address, control, payload, out);
     crossing(answer)
 }
 

@@ -23,7 +23,7 @@ use Rattle.acknowledge.specs.Acknowledge.{sessionAfter, acknowledged}
 use Rattle.poll.specs.Poll as poll
 use Rattle.inform.specs.Inform.{heeded}
 use Rattle.states.specs.States.{newSession, begun, renewed, released}
-use Rattle.link.specs.Frames.{Own, Negotiates}
+use Rattle.link.specs.Frames.{Own, OwnXid}
 use Rattle.conduct.specs.Conduct.{after}
 use Rattle.conduct.specs.Endings.{Assigns, Ends, Drops, endedBy}
 use Rattle.conduct.specs.Alarms.{Subscribes}
@@ -93,7 +93,7 @@ module _ (d : Device) (f : List ℕ) where
   -- an end, an assignment or a negotiation changes it, or else nothing does
   abbrev pub Limits : Type 0
   Limits = ((a : ℕ) × Assigns d f a)
-      ⊎ (Ends d f ⊎ ((ps : List Param) × Negotiates d f × WellFormed negotiating (drop 2 f) ps))
+      ⊎ (Ends d f ⊎ ((ps : List Param) × OwnXid d f × WellFormed negotiating (drop 2 f) ps))
 
   limit-by : (c : Comes d f) → Limits ⊎ (limitOf (left d f c) ≡ limitOf d)
   unfolding left begun emptiedAs unsaidAt deviceOf acknowledged heeded answersWith poll.indicates
@@ -135,7 +135,7 @@ module _ (d : Device) (f : List ℕ) where
   limit-ended (Ends.unknown s w l) = ap limitOf (ends-leaves d f (Ends.unknown s w l))
   limit-ended (Ends.assigns s a w l) = ap limitOf (ends-leaves d f (Ends.assigns s a w l))
 
-  limit-agreed : (ps : List Param) → Negotiates d f → WellFormed negotiating (drop 2 f) ps
+  limit-agreed : (ps : List Param) → OwnXid d f → WellFormed negotiating (drop 2 f) ps
       → limitOf (after d f) ≡ agreedLimit (limitOf d) ps
   unfolding left limitedTo deviceOf
   limit-agreed ps w m = ap limitOf (comes-leaves d f (Comes.negotiates ps w m))

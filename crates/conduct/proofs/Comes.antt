@@ -30,7 +30,7 @@ use Rattle.inform.specs.Inform.{carriedHere, repliedBy, carriedBy, informOf}
 use Rattle.states.specs.States.{rejected, informedBy, polledBy, pausedBy, onSnrm}
 use Rattle.link.specs.Link.{hasAddress, agreedBy, judgedFrame}
 use Rattle.link.specs.Frames.{Numbered, Unread}
-use Rattle.link.proofs.Cases.{negotiates-is, judged-cases, unread-silent}
+use Rattle.link.proofs.Cases.{own-xid-is, judged-cases, unread-silent}
 use Rattle.conduct.specs.Conduct.{after, Accepted}
 use Rattle.conduct.specs.Endings.{Ends, endedBy}
 use Rattle.conduct.specs.Endings as end
@@ -111,7 +111,7 @@ module _ (d : Device) (f : List ℕ) where
   comes-so (scans w a) = scan-answers d f w a
   comes-so (assigns a w) = assignment-ends d f a (w .everyone) (w .takes)
   comes-so (negotiates ps w m) =
-      negotiates-is d f w ∙ ap (agreedBy d) (offer-agreed (limitOf d) (drop 2 f) ps m)
+      own-xid-is d f w ∙ ap (agreedBy d) (offer-agreed (limitOf d) (drop 2 f) ps m)
   comes-so (begins w l) = snrm-begins d f w (ap hasAddress l) ∙ snrm-in d f l
   comes-so (declines o w n l) = other-declined d f o w n l
   comes-so (renews s w l) = snrm-begins d f w (ap hasAddress l) ∙ snrm-in d f l

@@ -11,7 +11,7 @@ use Rattle.record.specs.declared.Pending.the-variants.{Nothing}
 use Rattle.record.specs.declared.Link.{Link}
 use Rattle.record.specs.declared.Link.the-variants.{AddressAssigned, Connected}
 use Rattle.record.specs.declared.Device.{Device}
-use Rattle.limits.specs.Limits.{frameLimit}
+use Rattle.limits.specs.Limits.{limitLeast}
 use Rattle.record.specs.Allowed.{limitOf}
 use Rattle.record.specs.Changes.{unsaidAt, emptiedAs}
 use Rattle.poll.specs.Poll.{toTell}
@@ -48,17 +48,17 @@ module _ (d : Device) where
         → (a : ℕ) × (n : ℕ) × (l : Link) × (pendingIn l ≡ Nothing) × (after d f ≡ emptiedAs d a n l)
     unfolding endedBy begun released left
     drops-as (inl (renews s w l)) =
-        (d .station .desk .address, frameLimit, Connected newSession, refl, ends-leaves d f (renews s w l) ∙ renewed-ends d)
+        (d .station .desk .address, limitLeast, Connected newSession, refl, ends-leaves d f (renews s w l) ∙ renewed-ends d)
     drops-as (inl (leaves s w l)) =
-        (d .station .desk .address, frameLimit, AddressAssigned, refl, ends-leaves d f (leaves s w l))
+        (d .station .desk .address, limitLeast, AddressAssigned, refl, ends-leaves d f (leaves s w l))
     drops-as (inl (miscounts s o r w l n b)) =
-        (d .station .desk .address, frameLimit, AddressAssigned, refl, ends-leaves d f (miscounts s o r w l n b))
+        (d .station .desk .address, limitLeast, AddressAssigned, refl, ends-leaves d f (miscounts s o r w l n b))
     drops-as (inl (unknown s w l)) =
-        (d .station .desk .address, frameLimit, AddressAssigned, refl, ends-leaves d f (unknown s w l))
-    drops-as (inl (assigns s a w l)) = (a, frameLimit, AddressAssigned, refl, ends-leaves d f (assigns s a w l))
+        (d .station .desk .address, limitLeast, AddressAssigned, refl, ends-leaves d f (unknown s w l))
+    drops-as (inl (assigns s a w l)) = (a, limitLeast, AddressAssigned, refl, ends-leaves d f (assigns s a w l))
     drops-as (inr (inl w)) =
         (d .station .desk .address, limitOf d, Connected newSession, refl, comes-leaves d f (come.begins (w .own) (w .link)))
-    drops-as (inr (inr (a, w))) = (a, frameLimit, AddressAssigned, refl, comes-leaves d f (come.assigns a w))
+    drops-as (inr (inr (a, w))) = (a, limitLeast, AddressAssigned, refl, comes-leaves d f (come.assigns a w))
 
     pub drops-drop : Drops d f → Dropped (after d f)
     drops-drop e = let (a, n, l, idle, is) = drops-as e in rw is (emptied-drops a n l idle)

@@ -7,7 +7,7 @@ use mathlib.Core.Logic.{inl, inr}
 use mathlib.Core.Option.{some}
 use Prim.Native.Nat.{ℕ}
 use lib.ListN.{drop}
-use Rattle.limits.specs.Limits.{frameLimit}
+use Rattle.limits.specs.Limits.{limitLeast}
 use Rattle.antenna.specs.declared.Alarms.{Alarms}
 use Rattle.antenna.specs.declared.Motion.the-variants.{Still, Owing}
 use Rattle.antenna.specs.Motions.{moves}
@@ -33,7 +33,7 @@ use Rattle.acknowledge.specs.Acknowledge.{sessionAfter, stationAfter, acknowled
 use Rattle.poll.specs.Poll as poll
 use Rattle.states.specs.States.{newSession, begun, released}
 use Rattle.states.proofs.Renews.{renewed-ends}
-use Rattle.link.specs.Frames.{numberIn, Numbered, Negotiates}
+use Rattle.link.specs.Frames.{numberIn, Numbered, OwnXid}
 use Rattle.conduct.specs.Conduct.{after, Accepted, TiltDue}
 use Rattle.conduct.specs.Endings.{Assigns, Ends, Drops}
 use Rattle.conduct.specs.Alarms.{Clears, Subscribes}
@@ -76,7 +76,7 @@ module _ (d : Device) (f : List ℕ) where
   module _ (P : Device → Type 0)
       (same : P d)
       (assigned : (a : ℕ) → Assigns d f a → P (endedAs d a AddressAssigned))
-      (limited : (ps : List Param) → Negotiates d f → WellFormed negotiating (drop 2 f) ps
+      (limited : (ps : List Param) → OwnXid d f → WellFormed negotiating (drop 2 f) ps
       → P (limitedTo d (agreedLimit (limitOf d) ps)))
       (ended : Drops d f → (n : ℕ) (l : Link) → P (emptiedAs d (d .station .desk .address) n l))
       (relieved : (o : Order) (r : ℕ) (s : Session) → numberIn o ≡ some r → Numbered d f o r s → P (acknowledged d s r))
@@ -105,10 +105,10 @@ module _ (d : Device) (f : List ℕ) where
     left-cases (Comes.negotiates ps w m) = limited ps w m
     left-cases (Comes.begins w l) = ended (inr (inl (record { own = w; link = l }))) (limitOf d) (Connected newSession)
     left-cases (Comes.declines o w n l) = same
-    left-cases (Comes.renews s w l) = rw (renewed-ends d) (ended (inl (Ends.renews s w l)) frameLimit (Connected newSession))
-    left-cases (Comes.leaves s w l) = ended (inl (Ends.leaves s w l)) frameLimit AddressAssigned
-    left-cases (Comes.miscounts s o r w l n b) = ended (inl (Ends.miscounts s o r w l n b)) frameLimit AddressAssigned
-    left-cases (Comes.unknown s w l) = ended (inl (Ends.unknown s w l)) frameLimit AddressAssigned
+    left-cases (Comes.renews s w l) = rw (renewed-ends d) (ended (inl (Ends.renews s w l)) limitLeast (Connected newSession))
+    left-cases (Comes.leaves s w l) = ended (inl (Ends.leaves s w l)) limitLeast AddressAssigned
+    left-cases (Comes.miscounts s o r w l n b) = ended (inl (Ends.miscounts s o r w l n b)) limitLeast AddressAssigned
+    left-cases (Comes.unknown s w l) = ended (inl (Ends.unknown s w l)) limitLeast AddressAssigned
     left-cases (Comes.starts s n r w m) =
         started (record { session = s; ns = n; nr = r; frame = w; message = m })
     left-cases (Comes.clears s n r w m) =

@@ -1,6 +1,6 @@
 -- The frame limit of a link over its frames: what a negotiation comes to, that it changes the limit and nothing else, and
--- all that changes it; over a run in which no length is asked it stays 78, and so all is as in 01. This holds of any
--- record, allowed or not. Assumes nothing.
+-- all that changes it; over a run in which no length is asked of the device it stays 78, and what is said with N is said with
+-- 78. This holds of any record, allowed or not. Assumes nothing.
 use mathlib.Core.Path.{_≡_, refl, ap, _∙_}
 use mathlib.Core.Bool.{false}
 use mathlib.Core.List.{List, [], _∷_}
@@ -22,7 +22,7 @@ use Rattle.station.specs.declared.Say.{Say}
 use Rattle.station.specs.Turns.{saying, mute}
 use Rattle.states.specs.States.{begun, isSnrm}
 use Rattle.link.specs.Link.{allStations, judgedFrame}
-use Rattle.link.specs.Frames.{controlOf, Own, Negotiates, unagreed}
+use Rattle.link.specs.Frames.{controlOf, Own, OwnXid, unagreed}
 use Rattle.link.proofs.Cases.{unread-silent}
 use Rattle.conduct.specs.Conduct.{after, occurs, Meeting, frame, event, meets, run}
 use Rattle.conduct.specs.Endings.{Assigns, Begins, Ends}
@@ -71,7 +71,7 @@ lengthy-or-not ps = go (valueFor 5 ps) (valueFor 6 ps) refl refl
 
 module _ (d : Device) (f : List ℕ) where
   -- a negotiation is answered by what it asked, with the limit that is agreed on
-  module _ (ps : List Param) (w : Negotiates d f) (m : WellFormed negotiating (drop 2 f) ps) where
+  module _ (ps : List Param) (w : OwnXid d f) (m : WellFormed negotiating (drop 2 f) ps) where
     pub negotiation-comes : judgedFrame d f
         ≡ saying (limitedTo d (agreedLimit (limitOf d) ps)) (Say.Negotiated (askedIn ps))
     unfolding left says
@@ -100,7 +100,7 @@ module _ (d : Device) (f : List ℕ) where
   -- the limit changes by an assignment, a session's end, or a negotiation that gives a length, and by nothing else
   pub limit-changes : (limitOf (after d f) ≡ limitOf d → ⊥)
       → ((a : ℕ) × Assigns d f a)
-      ⊎ (Ends d f ⊎ ((ps : List Param) × Negotiates d f × WellFormed negotiating (drop 2 f) ps × Lengthy ps))
+      ⊎ (Ends d f ⊎ ((ps : List Param) × OwnXid d f × WellFormed negotiating (drop 2 f) ps × Lengthy ps))
   unfolding left limitedTo deviceOf
   limit-changes new =
       ⊎-elim
@@ -114,37 +114,39 @@ module _ (d : Device) (f : List ℕ) where
       (λ same. absurd (new same))
       (limit-cases d f)
 
+-- no event changes it
+pub limit-happens : (d : Device) (e : Event) → limitOf (occurs d e) ≡ limitOf d
+limit-happens d e = ap limitOf (event-antenna d e)
+
 -- ---- over a run
 
--- no frame has a payload that asks a length
-abbrev pub Unasked : List ℕ → Type 0
-Unasked f = (ps : List Param) → WellFormed negotiating (drop 2 f) ps → Lengthy ps → ⊥
+-- the frame f is no negotiation that asks a length of the device d; another device may be asked
+abbrev pub Unasked : Device → List ℕ → Type 0
+Unasked d f = OwnXid d f → (ps : List Param) → WellFormed negotiating (drop 2 f) ps → Lengthy ps → ⊥
 
-unfoldable pub NoneAsks : List Meeting → Type 0
-NoneAsks [] = Unit {0}
-NoneAsks (frame f ∷ ms) = Unasked f × NoneAsks ms
-NoneAsks (event e ∷ ms) = NoneAsks ms
+-- nor is any of a run, to the device as each finds it
+unfoldable pub NoneAsks : Device → List Meeting → Type 0
+NoneAsks d [] = Unit {0}
+NoneAsks d (frame f ∷ ms) = Unasked d f × NoneAsks (after d f) ms
+NoneAsks d (event e ∷ ms) = NoneAsks (occurs d e) ms
 
--- 78 stays 78 over such a frame, and over any event
-least-frame : (d : Device) (f : List ℕ) → Unasked f → limitOf d ≡ 78 → limitOf (after d f) ≡ 78
+-- 78 stays 78 over such a frame
+least-frame : (d : Device) (f : List ℕ) → Unasked d f → limitOf d ≡ 78 → limitOf (after d f) ≡ 78
 least-frame d f unasked is =
     ⊎-elim
     (⊎-elim (λ (a, w). account d f .limit-assigned a w)
     (⊎-elim (account d f .limit-ended)
     (λ (ps, w, m).
-    ⊎-elim (λ long. absurd (unasked ps m long))
+    ⊎-elim (λ long. absurd (unasked w ps m long))
     (λ (p, q). account d f .limit-agreed ps w m ∙ limit-kept (limitOf d) ps p q ∙ is)
     (lengthy-or-not ps))))
     (λ same. same ∙ is)
     (limit-cases d f)
 
-least-event : (d : Device) (e : Event) → limitOf d ≡ 78 → limitOf (occurs d e) ≡ 78
-least-event d e is = ap limitOf (event-antenna d e) ∙ is
-
--- where no length is asked, the limit is 78 throughout
-pub unasked-least : (d : Device) (ms : List Meeting) → NoneAsks ms → limitOf d ≡ 78 → limitOf (run d ms) ≡ 78
+-- where no length is asked of it, the limit is 78 throughout
+pub unasked-least : (d : Device) (ms : List Meeting) → NoneAsks d ms → limitOf d ≡ 78 → limitOf (run d ms) ≡ 78
 unfolding run meets NoneAsks
 unasked-least d [] u is = is
 unasked-least d (frame f ∷ ms) (unasked, more) is =
     unasked-least (after d f) ms more (least-frame d f unasked is)
-unasked-least d (event e ∷ ms) more is = unasked-least (occurs d e) ms more (least-event d e is)
+unasked-least d (event e ∷ ms) more is = unasked-least (occurs d e) ms more (limit-happens d e ∙ is)

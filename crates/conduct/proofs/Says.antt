@@ -4,12 +4,14 @@ use mathlib.Core.Bool.{Bool, true, false, cond, _||_}
 use mathlib.Core.List.{List, [], _∷_, _++_, append-nil}
 use mathlib.Core.Logic.{_⊎_, inl, inr, ⊎-elim}
 use mathlib.Core.Option.{some}
-use Prim.Native.Nat.{ℕ, _+_, _*_, _%_}
+use Prim.Native.Nat.{ℕ, _+_, _-_, _*_, _/_, _%_, _<_}
 use native.Mathlib.Omega.{arith}
 use borrow.Author.Tests.{eqb-true}
-use lib.Dec.{eqb}
+use lib.Dec.{eqb, lit<}
 use lib.ListN.{length}
+use Rattle.octets.specs.Octets.{Octets}
 use Rattle.octets.proofs.Words.{true-not-false}
+use Rattle.octets.proofs.Bounds.{octets-append, octets-cond}
 use Rattle.control.specs.Control.{nextOf, infoOf, rrOf}
 use Rattle.antenna.specs.declared.Alarms.{Alarms}
 use Rattle.antenna.specs.declared.Antenna.{Antenna}
@@ -27,12 +29,12 @@ use Rattle.session.specs.Session.{pends, acknowledges, goodNumber, taken, vsOf,
 use Rattle.session.proofs.Numbers.{acknowledges-exactly}
 use Rattle.payload.specs.Payloads.{payloadOf, messageOf, resultOf}
 use Rattle.payload.proofs.Laws.{payload-says, success-is, result-reached, result-missed}
-use Rattle.params.specs.Field.{Param, tripleOf, fieldOf, xidPayload}
+use Rattle.params.specs.Field.{Param, tripleOf, fieldOf, xidPayload, valueFor, given}
 use Rattle.negotiation.specs.Negotiation.{agreedLimit, askedIn}
 use Rattle.report.specs.Reports.{indicationOf}
 use Rattle.xid_answer.specs.Answer.{scanParams, assignmentParams, scanAnswer, assignmentAnswer}
 use Rattle.xid_answer.specs.Answer.{lengthValue, negotiationParams, negotiationAnswer}
-use Rattle.xid_answer.proofs.Stored.{negotiation-field}
+use Rattle.xid_answer.proofs.Stored.{negotiation-field, length-negotiation}
 use Rattle.xid_answer.proofs.Lengths.{scan-field, assignment-field}
 use Rattle.control.specs.declared.Asked.{Asked}
 use Rattle.station.specs.declared.Say.{Say}
@@ -196,6 +198,37 @@ field-is ps N = rw (negotiation-field (askedIn ps) N, append-nil (ifGiven 8 ps (
 pub negotiation-is : (a : ℕ) (ps : List Param) (N : ℕ) → a ∷ 0xBF ∷ negotiationAnswer (askedIn ps) N ≡ negotiationSaid a ps N
 unfolding negotiationAnswer xidPayload negotiationSaid
 negotiation-is a ps N = ap (λ (t : List ℕ). a ∷ 0xBF ∷ 0x81 ∷ 0x80 ∷ length t ∷ t) (field-is ps N)
+
+-- octets, from an address that is one
+module _ (ps : List Param) (N : ℕ) where
+  abbrev lengthSaid : ℕ → List ℕ
+  lengthSaid n = n ∷ 2 ∷ (N - 4) * 8 / 256 % 256 ∷ (N - 4) * 8 % 256 ∷ []
+
+  given-plain : (n : ℕ) (t : List ℕ) → Octets t → Octets (ifGiven n ps t)
+  unfolding ifGiven
+  given-plain n t os = octets-cond (given (valueFor n ps)) t [] os tt
+
+  length-plain : (n : ℕ) → n < 256 → Octets (ifGiven n ps (lengthSaid n))
+  length-plain n h = given-plain n (lengthSaid n) (h, (lit< tt, (omega arith, (omega arith, tt))))
+
+  window-plain : (n : ℕ) → n < 256 → Octets (ifGiven n ps (n ∷ 1 ∷ 1 ∷ []))
+  window-plain n h = given-plain n (n ∷ 1 ∷ 1 ∷ []) (h, (lit< tt, (lit< tt, tt)))
+
+  agreed-plain : Octets (agreedSaid ps N)
+  unfolding agreedSaid
+  agreed-plain =
+      let windows = ifGiven 7 ps (7 ∷ 1 ∷ 1 ∷ []) ++ ifGiven 8 ps (8 ∷ 1 ∷ 1 ∷ []) in
+      octets-append (ifGiven 5 ps (lengthSaid 5)) (ifGiven 6 ps (lengthSaid 6) ++ windows) (length-plain 5 (lit< tt))
+      (octets-append (ifGiven 6 ps (lengthSaid 6)) windows (length-plain 6 (lit< tt))
+      (octets-append (ifGiven 7 ps (7 ∷ 1 ∷ 1 ∷ [])) (ifGiven 8 ps (8 ∷ 1 ∷ 1 ∷ []))
+      (window-plain 7 (lit< tt)) (window-plain 8 (lit< tt))))
+
+  pub negotiation-plain : (a : ℕ) → a < 256 → Octets (negotiationSaid a ps N)
+  unfolding negotiationSaid
+  negotiation-plain a h =
+      let few : length (agreedSaid ps N) < 256 =
+      omega (arith, length-negotiation (askedIn ps) N, ap length (negotiation-is a ps N)) in
+      (h, (lit< tt, (lit< tt, (lit< tt, (few, agreed-plain)))))
 
 result-is : (reached : Bool) → resultOf reached ≡ resultSaid reached
 unfolding resultSaid

@@ -33,7 +33,7 @@ use Rattle.acknowledge.specs.Acknowledge.{stationAfter, acknowledged}
 use Rattle.poll.specs.Poll.{toTell}
 use Rattle.inform.specs.Inform.{carriedHere}
 use Rattle.states.specs.States.{newSession}
-use Rattle.link.specs.Frames.{Own, Negotiates}
+use Rattle.link.specs.Frames.{Own, OwnXid}
 use Rattle.conduct.specs.Conduct.{after, Accepted, AnyAccepted, Acknowledging, TiltDue}
 use Rattle.conduct.specs.Endings.{pendingIn, Assigns, Begins, Ends, Drops, Dropped, Collects}
 use Rattle.conduct.specs.Alarms.{Clears, Subscribes, Indicated}
@@ -82,10 +82,10 @@ pub record Account (d : Device) (f : List ℕ) : Type 0 where
   -- and else as it was
   pub limit-assigned : (a : ℕ) → Assigns d f a → limitOf (after d f) ≡ 78
   pub limit-ended : Ends d f → limitOf (after d f) ≡ 78
-  pub limit-agreed : (ps : List Param) → Negotiates d f → WellFormed negotiating (drop 2 f) ps
+  pub limit-agreed : (ps : List Param) → OwnXid d f → WellFormed negotiating (drop 2 f) ps
       → limitOf (after d f) ≡ agreedLimit (limitOf d) ps
   pub limit-kept : ((a : ℕ) → Assigns d f a → ⊥) → (Ends d f → ⊥)
-      → (Negotiates d f → (ps : List Param) → WellFormed negotiating (drop 2 f) ps → ⊥) → limitOf (after d f) ≡ limitOf d
+      → (OwnXid d f → (ps : List Param) → WellFormed negotiating (drop 2 f) ps → ⊥) → limitOf (after d f) ≡ limitOf d
   -- the link state
   pub link-assigned : (a : ℕ) → Assigns d f a → after d f .station .link ≡ AddressAssigned
   pub link-begun : Begins d f → after d f .station .link ≡ Connected newSession

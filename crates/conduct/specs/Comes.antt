@@ -39,7 +39,7 @@ use Rattle.poll.specs.Poll.{toTell}
 use Rattle.poll.specs.Poll as poll
 use Rattle.inform.specs.Inform.{heeded, carriedHere}
 use Rattle.states.specs.States.{begun, renewed, released, ua, dm, isSnrm}
-use Rattle.link.specs.Frames.{controlOf, Own, numberIn, Numbered, Everyone, Negotiates, Unread}
+use Rattle.link.specs.Frames.{controlOf, Own, numberIn, Numbered, Everyone, OwnXid, Unread}
 use Rattle.conduct.specs.Conduct.{Accepted}
 use Rattle.conduct.specs.Endings.{Assigns}
 
@@ -50,7 +50,7 @@ pub data Comes (d : Device) (f : List ℕ) : Type 0 where
   -- "Then any session ends, the address is taken, the state is AddressAssigned"
   assigns : (a : ℕ) → Assigns d f a → Comes d f
   -- 02 (iv): "A master sends XID to the device's own address with the HDLC parameters of ISO/IEC 13239 and the device answers"
-  negotiates : (ps : List Param) → Negotiates d f → WellFormed negotiating (drop 2 f) ps → Comes d f
+  negotiates : (ps : List Param) → OwnXid d f → WellFormed negotiating (drop 2 f) ps → Comes d f
   -- "AddressAssigned: SNRM 0x93 gets UA 0x73 and Connected; anything else gets DM 0x1F."
   begins : Own d f Snrm → d .station .link ≡ AddressAssigned → Comes d f
   declines : (o : Order) → Own d f o → isSnrm o ≡ false → d .station .link ≡ AddressAssigned → Comes d f

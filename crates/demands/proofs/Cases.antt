@@ -67,7 +67,7 @@ use Rattle.link.specs.Link.{judgedFrame}
 use Rattle.conduct.specs.Conduct.{after, Meeting, frame, event, meets, run}
 use Rattle.speech.specs.Speech.{pendingOctets, linkOctets, controlBy, payloadBy, frameBy}
 use Rattle.device.specs.Judge.{reacts, judgeRows, judged, sizeOf, toldOf, frameAt, bufferAfter}
-use Rattle.limits.specs.Limits.{frameLimit, isLimit, frameMost}
+use Rattle.limits.specs.Limits.{isLimit}
 use Rattle.negotiation.specs.Negotiation.{bitsFrom, smallerOf, limitFor, limitAsked, agreedLimit, askedIn, offered, offerOf}
 
 -- ---- who is tried
@@ -97,8 +97,10 @@ heard (i ∷ ids) p = answersScan i (maskOf p) (octetsOf p) || heard ids p
 pub data Row : Type 0 where
   -- with these identities on the cable and this limit, the scan ends so, after so many probes
   ends : List (List ℕ) → ℕ → State → ℕ → Row
-  -- at this tilt, after these frames and events, this frame gets this answer
+  -- at this tilt, after these frames and events, this frame gets this answer, into a buffer of 76 octets
   gets : ℤ → List Meeting → List ℕ → List ℕ → Row
+  -- .. into one of 258
+  gets-258 : ℤ → List Meeting → List ℕ → List ℕ → Row
   -- .. gets silence, and the device is as it was
   silent : ℤ → List Meeting → List ℕ → Row
   -- .. is not carried out: the device is as it was, with its movement
@@ -106,24 +108,21 @@ pub data Row : Type 0 where
   -- .. gets this number
   refused : ℤ → List Meeting → List ℕ → ℕ → Row
 
--- an answer buffer of 76 octets
-abbrev pub buffer : List ℕ
-buffer = replicate (frameMost frameLimit) 0
-
--- the device d says x of the frame f, into that buffer
-abbrev pub Answers : Device → List ℕ → Option (List ℕ) → Type 0
-Answers d f x =
-    let r = judged d f (frameMost frameLimit) in
-    (toldOf r ≡ gives (sizeOf x)) × (bufferAfter r buffer ≡ frameAt x buffer)
+-- the device d says x of the frame f, into an answer buffer of so many octets
+abbrev pub Answers : ℕ → Device → List ℕ → Option (List ℕ) → Type 0
+Answers room d f x =
+    let r = judged d f room in
+    (toldOf r ≡ gives (sizeOf x)) × (bufferAfter r (replicate room 0) ≡ frameAt x (replicate room 0))
 
 unfoldable pub Holds : Row → Type 0
 Holds (ends ids limit state count) =
     let last = scan.driven (heard ids) limit (scan.fresh limit) in (last .state ≡ state) × (last .count ≡ count)
-Holds (gets t ms f x) = Answers (run (assigned t) ms) f (some x)
+Holds (gets t ms f x) = Answers 76 (run (assigned t) ms) f (some x)
+Holds (gets-258 t ms f x) = Answers 258 (run (assigned t) ms) f (some x)
 Holds (silent t ms f) =
-    Answers (run (assigned t) ms) f none × (after (run (assigned t) ms) f ≡ run (assigned t) ms)
+    Answers 76 (run (assigned t) ms) f none × (after (run (assigned t) ms) f ≡ run (assigned t) ms)
 Holds (idle t ms f) = after (run (assigned t) ms) f ≡ run (assigned t) ms
-Holds (refused t ms f k) = toldOf (judged (run (assigned t) ms) f (frameMost frameLimit)) ≡ refuses k
+Holds (refused t ms f k) = toldOf (judged (run (assigned t) ms) f 76) ≡ refuses k
 
 unfoldable pub All : List Row → Type 0
 All [] = Unit {0}
@@ -197,6 +196,10 @@ longest = 7 ∷ 0xBF ∷ 0x81 ∷ 0x80 ∷ 4 ∷ 5 ∷ 2 ∷ 8 ∷ 0 ∷ []
 abbrev pub floor : List ℕ
 floor = 7 ∷ 0xBF ∷ 0x81 ∷ 0x80 ∷ 3 ∷ 5 ∷ 1 ∷ 80 ∷ []
 
+-- an I-frame with a message of 99 octets, whose code is not supported
+abbrev pub block : List ℕ
+block = 7 ∷ 0x10 ∷ 0x41 ∷ 0x60 ∷ 0x00 ∷ replicate 96 0x55
+
 -- an I-frame, and in it: get tilt
 abbrev pub get-tilt : List ℕ
 get-tilt = 7 ∷ 0x10 ∷ 0x34 ∷ 0x00 ∷ 0x00 ∷ []
@@ -244,6 +247,9 @@ further =
     -- room again after DISC
     ∷ refused (pos 0) (frame longest ∷ snrm ∷ []) (7 ∷ 0x53 ∷ []) 5
     ∷ gets (pos 0) (frame longest ∷ snrm ∷ frame (7 ∷ 0x53 ∷ []) ∷ []) (7 ∷ 0x53 ∷ []) (7 ∷ 0x1F ∷ [])
+    -- "refusal 2 means more than N", and no less: a frame of 101 octets is read then, and carried out; with 78 it is silence
+    ∷ gets-258 (pos 0) (frame longest ∷ snrm ∷ []) block (7 ∷ 0x30 ∷ 0x41 ∷ 0x02 ∷ 0x00 ∷ 0x0B ∷ 0x25 ∷ [])
+    ∷ silent (pos 0) (snrm ∷ []) block
     -- in a session: "the device answers", and what was pending is pending
     ∷ gets (pos 0) (snrm ∷ frame get-tilt ∷ []) floor (7 ∷ 0xBF ∷ 0x81 ∷ 0x80 ∷ 4 ∷ 5 ∷ 2 ∷ 2 ∷ 0x50 ∷ [])
     ∷ gets (pos 0) (snrm ∷ frame get-tilt ∷ frame floor ∷ []) (7 ∷ 0x11 ∷ [])
@@ -287,8 +293,8 @@ computed = (
       also ((refl, refl), refl) also ((refl, refl), refl) also tt,
   (refl, refl) also (refl, refl) also (refl, refl) also (refl, refl) also (refl, refl) also (refl, refl)
       also (refl, refl) also (refl, refl) also (refl, refl) also (refl, refl) also (refl, refl) also (refl, refl)
-      also (refl, refl) also (refl, refl) also refl also (refl, refl) also (refl, refl) also (refl, refl)
-      also ((refl, refl), refl) also ((refl, refl), refl) also tt,
+      also (refl, refl) also (refl, refl) also refl also (refl, refl) also (refl, refl) also ((refl, refl), refl)
+      also (refl, refl) also (refl, refl) also ((refl, refl), refl) also ((refl, refl), refl) also tt,
 )
 
 pub starred-hold : All starred

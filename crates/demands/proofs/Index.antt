@@ -28,8 +28,8 @@ pub use Rattle.xid.proofs.Ends.{ends-exactly, end-exactly}
 pub use Rattle.xid.proofs.Probe.{probe-scan, probe-read}
 -- ---- why a device does not answer an XID frame: each condition, both ways, each number, both ways, and the device by them
 pub use Rattle.link.proofs.Judged.{wrong-size-exactly}
-pub use Rattle.link.proofs.Xids.{negotiates-exactly, wrong-address-exactly, wrong-control-exactly, everyone-exactly}
-pub use Rattle.link.proofs.Xids.{negotiation-exactly, malformed-all, malformed-own}
+pub use Rattle.link.proofs.Xids.{to-own-exactly, wrong-address-exactly, wrong-control-exactly, everyone-exactly}
+pub use Rattle.link.proofs.Xids.{own-xid-exactly, malformed-all, malformed-own}
 pub use Rattle.xid.proofs.Rows.{malformed-exactly, neither-exactly}
 pub use Rattle.xid.proofs.Exactly.{bad-address-exactly, other-identity-exactly, other-type-exactly}
 pub use Rattle.xid.proofs.Exactly.{other-vendor-exactly, other-scan-exactly}

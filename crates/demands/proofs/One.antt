@@ -50,7 +50,7 @@ use Rattle.frame.specs.Decode.{body, rightCheck, decoded}
 use Rattle.frame.specs.Write.{lineOf, written}
 use Rattle.frame.proofs.Lines.{broken-exactly}
 use Rattle.limits.specs.Limits.{isLimit}
-use Rattle.limits.proofs.Exactly.{limit-exactly, limit-least}
+use Rattle.limits.proofs.Exactly.{is-limit-exactly, limit-least}
 use Rattle.frame.proofs.Exact.{Sized, decode-6, decode-4, decode-1, decode-2, decode-3, decode-5}
 use Rattle.frame.proofs.Exact.{write-6, write-9, write-5}
 use Rattle.scan.specs.Scan.{over, probed, reported}
@@ -262,7 +262,7 @@ obey-keeps κs a r s w said =
 
 -- "78 to 260"
 pub limit-words : (N : ℕ) → isLimit N ≡ true ↔ (78 ≤ N) × (N ≤ 260)
-limit-words = limit-exactly
+limit-words = is-limit-exactly
 
 -- for every number N; "refusal 2 means more than N"
 module _ (N : ℕ) (s : List ℕ) (room : ℕ) where
@@ -374,7 +374,7 @@ module _ (d : Device) (s : List ℕ) (room : ℕ) where
   hear-numbers =
       (hear-6 d s room, hear-4 d s room, hear-1 d s room, hear-2 d s room, hear-3 d s room, hear-5 d s room)
 
-  -- so with 01's limit, which no run leaves where no length is asked (`unasked-least` of conduct)
+  -- so with 01's limit, which no run leaves where no length is asked of the device (`unasked-least` of conduct)
   pub hear-numbers-78 : N ≡ 78 → (heard d s room ≡ refuses 6 ↔ Readable 78 s × (allowedDevice d ≡ false))
       × (heard d s room ≡ refuses 4 ↔ broken s ≡ true)
       × (heard d s room ≡ refuses 1 ↔ (broken s ≡ false) × (length (plain s) < 4))

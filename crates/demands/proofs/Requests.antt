@@ -23,7 +23,7 @@ pub use Rattle.bus.proofs.Assigns.{silence-heard}
 pub use Rattle.fcs.proofs.Agree.{tables-agree}
 -- ---- (iv) longer frames by negotiation: "The frame limit N, one for both ways, is a number of the link, 78 to 260"
 -- in a record that may be handed in (`allowed-words` of the page One), in a fresh one, which has 78, and over any run, where no
--- length is asked, 78
+-- length is asked of the device, 78
 pub use Rattle.record.proofs.Accounts.{fresh-is}
 pub use Rattle.conduct.proofs.Limits.{unasked-least}
 -- an XID to the own address with the group 0x80: which payloads are one, both ways, and that any other is silence; to all
@@ -45,19 +45,19 @@ pub use Rattle.conduct.proofs.Limits.{negotiation-comes, negotiation-alone}
 pub use Rattle.device.proofs.Says.{negotiation-octets}
 pub use Rattle.xid_answer.proofs.Agreement.{negotiation-formed, asked-again, answered-within, answer-read, answer-keeps}
 -- so on the cable: written as a line it is heard and answered; then the limit agreed on is the device's, and the master's where
--- it asked a length; and what the master writes with it is heard as it was put in
-pub use Rattle.bus.proofs.Longer.{negotiation-heard, limit-later, master-reads, heard-later}
+-- it asked a length, to whom the answer comes as it was said; and what the master writes with it is heard as it was put in
+pub use Rattle.bus.proofs.Longer.{negotiation-heard, limit-later, master-reads, master-hears, heard-written, heard-later}
 -- whatever the limit of the link: a frame is heard as it was put in exactly if it has room in it, and gets 2 where it has not;
--- what the device answers is read back with any limit
+-- what the device answers, where it is octets, is read back with any limit
 pub use Rattle.bus.proofs.Hears.{hears-with}
 pub use Rattle.bus.proofs.Longer.{room-exactly, longer-refused, answer-reads-back}
 -- "78 again after an assignment or a session's end" (`limit-assigned` and `limit-ended` of `changes`, on the page Two); a
 -- first SNRM and whatever gets DM keep it; and N changes by an assignment, a session's end or a negotiation that gives a
--- length, and by nothing else
-pub use Rattle.conduct.proofs.Limits.{first-keeps, declined-keeps, limit-changes}
+-- length, by no other frame and by no event
+pub use Rattle.conduct.proofs.Limits.{first-keeps, declined-keeps, limit-changes, limit-happens}
 -- "Decoder .. and writer take N (outside 78 to 260: refusal 6 first): refusal 2 means more than N, 9 more than N - 4, and 76 and
 -- 158 become N - 2 and 2N + 2": `decode-numbers`, `write-numbers`, and `judge-numbers`, `hear-numbers` for the N of the link, on
 -- the page One; `written-reads-back`, `line-longest` on the page Two; a frame of any other size is silence; a line of 2N + 2
 -- octets is reached, at 78 and at 260. Demand 3 over rows of any N: `heard-when`, `whole-row` on the page Cable
-pub use Rattle.link.proofs.Judged.{wrong-size-exactly}
+pub use Rattle.link.proofs.Judged.{wrong-size-exactly, too-short, too-long}
 pub use Rattle.bus.proofs.Longest.{line-reached-78, line-reached-260}

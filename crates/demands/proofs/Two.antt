@@ -35,7 +35,7 @@ use Rattle.record.specs.declared.Link.the-variants.{Connected}
 use Rattle.record.specs.declared.Device.{Device}
 use Rattle.record.specs.declared.Event.{Event}
 use Rattle.limits.specs.Limits.{isLimit}
-use Rattle.limits.proofs.Exactly.{limit-exactly, limit-least}
+use Rattle.limits.proofs.Exactly.{is-limit-exactly, limit-least}
 use Rattle.record.specs.Allowed.{limitOf, allowedDevice}
 use Rattle.record.proofs.Stays.{limit-allowed}
 use Rattle.session.specs.Session.{goodNumber, accepts}
@@ -108,7 +108,7 @@ payload-written = write-fits
 -- "It needs exactly the octets it writes, at most 158", which is 2N + 2
 pub line-longest : (N a c : ℕ) (p : List ℕ) → isLimit N ≡ true → length p ≤ N - 4
     → length (lineOf (a ∷ c ∷ p)) ≤ 2 * N + 2
-line-longest N a c p ok h = line-most N a c p (omega (arith, limit-exactly N .0 ok .0)) h
+line-longest N a c p ok h = line-most N a c p (omega (arith, is-limit-exactly N .0 ok .0)) h
 
 pub line-158 : (a c : ℕ) (p : List ℕ) → length p ≤ 74 → length (lineOf (a ∷ c ∷ p)) ≤ 158
 line-158 a c p h = line-longest 78 a c p limit-least h
@@ -118,7 +118,7 @@ pub written-heard : (d : Device) (a c : ℕ) (p : List ℕ) (room : ℕ) → isL
     → length p ≤ limitOf d - 4 → heard d (inside (lineOf (a ∷ c ∷ p))) room ≡ judged d (a ∷ c ∷ p) room
 unfolding heard heardBy
 written-heard d a c p room ok os h =
-    let size = limit-exactly (limitOf d) .0 ok in
+    let size = is-limit-exactly (limitOf d) .0 ok in
     ap (heardBy d room)
     (trip (a ∷ c ∷ p) os (limitOf d) ok 258 (omega arith) (omega (arith, size .0))
     ∙ in-room (a ∷ c ∷ p) 258 (omega (arith, size .0, size .1)))
@@ -170,7 +170,8 @@ module _ (d : Device) (f : List ℕ) where
 -- ---- "link states .. and commands": what a frame may change, whole
 
 module _ (d : Device) (f : List ℕ) where
-  -- every frame is one of the cases of 01's section "The link" to a device, and leaves and says what its case has
+  -- every frame is one of the cases of 01's section "The link", and of 02 (iv), to a device, and leaves and says what its
+  -- case has
   pub some-case : Comes d f
   some-case = comes d f
 
@@ -249,7 +250,7 @@ module _ (d : Device) (allowed : allowedDevice d ≡ true) (assigned : hasAddres
 pub never-unallowed : (d : Device) (ms : List Meeting) → allowedDevice d ≡ true → allowedDevice (run d ms) ≡ true
 never-unallowed = run-allowed
 
--- ---- nor one that leaves 01's frame limit, where no length is asked: what is said with N here is then 01's, with 78
+-- ---- nor one that leaves 01's frame limit, where no length is asked of it: what is said with N here is then 01's, with 78
 
-pub never-longer : (d : Device) (ms : List Meeting) → NoneAsks ms → limitOf d ≡ 78 → limitOf (run d ms) ≡ 78
+pub never-longer : (d : Device) (ms : List Meeting) → NoneAsks d ms → limitOf d ≡ 78 → limitOf (run d ms) ≡ 78
 never-longer = unasked-least

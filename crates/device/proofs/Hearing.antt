@@ -14,7 +14,7 @@ use Rattle.refusal.specs.Answer.{gives, refuses, numbersOf}
 use Rattle.refusal.proofs.Exactly.{answered-all}
 use Rattle.refusal.proofs.Answers.{gives-not-refuses, refuses-same}
 use Rattle.limits.specs.Limits.{limitMost, isLimit, frameMost}
-use Rattle.limits.proofs.Exactly.{limit-exactly}
+use Rattle.limits.proofs.Exactly.{is-limit-exactly}
 use Rattle.frame.specs.Line.{plain}
 use Rattle.frame.specs.Decode.{body, rightCheck}
 use Rattle.frame.proofs.Exact.{Sized, decode-5, decode-frame, decode-all}
@@ -65,7 +65,7 @@ Readable N line = (isLimit N ≡ true) × Sized N line × (rightCheck (plain lin
 body-short : (N : ℕ) (line : List ℕ) → isLimit N ≡ true → length (plain line) ≤ N
     → length (body (plain line)) ≤ frameMost limitMost
 unfolding body
-body-short N line ok h = simp length-take (omega (arith, limit-exactly N .0 ok .1))
+body-short N line ok h = simp length-take (omega (arith, is-limit-exactly N .0 ok .1))
 
 module _ (d : Device) (line : List ℕ) where
   -- the decoder has room in its own buffer for every frame: it never says 5 there

@@ -14,7 +14,7 @@ use Rattle.record.specs.Changes.{endedAs, limitedTo}
 use Rattle.params.specs.Field.{Param, WellFormed}
 use Rattle.negotiation.specs.Negotiation.{negotiating, agreedLimit}
 use Rattle.xid.specs.Meaning.{Answers}
-use Rattle.link.specs.Frames.{Everyone, Negotiates}
+use Rattle.link.specs.Frames.{Everyone, OwnXid}
 use Rattle.conduct.specs.Endings.{Assigns}
 use Rattle.conduct.specs.Comes.{Comes, scans, assigns, negotiates, left}
 use Rattle.conduct.specs.Spelt.{scanSaid, assignmentSaid, agreedSaid, negotiationSaid, octetsSaid}
@@ -63,7 +63,7 @@ module _ (d : Device) (f : List ℕ) (room : ℕ) (allowed : allowedDevice d ≡
   assignment-octets a w i y = rw (← y) (judged-octets (assigns a w))
 
   -- 02 (iv): "the device answers": what was asked, ascending, by `agreedSaid`; and the frame limit agreed on from now on
-  pub negotiation-octets : (ps : List Param) → Negotiates d f → WellFormed negotiating (drop 2 f) ps → (n : ℕ)
+  pub negotiation-octets : (ps : List Param) → OwnXid d f → WellFormed negotiating (drop 2 f) ps → (n : ℕ)
       → agreedLimit (limitOf d) ps ≡ n
       → judged d f room
       ≡ gives

@@ -1,4 +1,4 @@
-// What a session's end leaves of a device. The definitions and the laws are those of `record`.
+// What a session's end, and a first SNRM, leave of a device. The definitions and the laws are those of `record`.
 // Assumes nothing of its caller: any record of the type may be handed in.
 // Headline: an allowed record stays allowed at a session's end (record/proofs/Stays.antt).
 ghost use mathlib.Core.Path.{_≡_};

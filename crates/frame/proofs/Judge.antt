@@ -11,7 +11,7 @@ use Rattle.refusal.specs.Answer.{refuses, answered, handedOut}
 use Rattle.refusal.proofs.Answers.{answered-here, answered-later}
 use Rattle.fcs.specs.Check.{checkOf, withCheck}
 use Rattle.limits.specs.Limits.{isLimit, payloadMost, lineMost}
-use Rattle.limits.proofs.Exactly.{limit-exactly}
+use Rattle.limits.proofs.Exactly.{is-limit-exactly}
 use Rattle.frame.specs.Line.{broken, plain, between}
 use Rattle.frame.specs.Decode.{body, rightCheck, framed, decodeRows, decoded}
 use Rattle.frame.specs.Write.{lineOf, writeRows, written}
@@ -76,7 +76,7 @@ module _ (N : ℕ) (l : isLimit N ≡ true) (s : List ℕ) (room : ℕ) where
   -- more octets than a line has stand for more than the limit, which is 78 at least
   pub when-overlong : broken s ≡ false → lineMost N < length s → decoded N s room ≡ refuses 2
   when-overlong e h =
-      let least = limit-exactly N .0 l in
+      let least = is-limit-exactly N .0 l in
       let more = overlong N s h in
       when-whole e ∙ long N (plain s) room (omega arith) more
 

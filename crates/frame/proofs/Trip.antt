@@ -17,7 +17,7 @@ use Rattle.refusal.proofs.Answers.{in-room, octets-told, hands-is}
 use Rattle.refusal.proofs.Exactly.{handed-out-told}
 use Rattle.fcs.specs.Check.{withCheck}
 use Rattle.limits.specs.Limits.{isLimit, payloadMost}
-use Rattle.limits.proofs.Exactly.{limit-exactly}
+use Rattle.limits.proofs.Exactly.{is-limit-exactly}
 use Rattle.frame.specs.Line.{flag, escape, broken, plainAfter, plain, special, escaped, onLine}
 use Rattle.frame.specs.Line.{between, inside}
 use Rattle.frame.specs.Decode.{decoded}
@@ -95,7 +95,7 @@ round-trip N M l m up a c p o o' u u' {n} os h k w d =
     let out : handedOut (lineOf b) (length o) ≡ gives (take n o') =
     sym (payload-fits N l a c p (length o) h) ∙ octets-told (written N a c p (length o)) w .0 in
     let line : inside (take n o') ≡ inside (lineOf b) = ap inside (sym (handed-out-told (lineOf b) (length o) out)) in
-    let few = limit-exactly N .0 l in
+    let few = is-limit-exactly N .0 l in
     hands-is
     (ap (λ (s : List ℕ). decoded M s (length u)) line
     ∙ trip b os M m (length u) (omega arith) (omega (arith, up))

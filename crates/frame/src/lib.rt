@@ -10,10 +10,10 @@ ghost use lib.ListN.{length};
 ghost use Rattle.octets.specs.Octets.{holds, lastOf};
 ghost use Rattle.octets.specs.Puts.{Puts};
 ghost use Rattle.refusal.specs.Answer.{Hands};
-ghost use Rattle.limits.specs.Limits.{frameLimit, limitMost, lineMost};
+ghost use Rattle.limits.specs.Limits.{limitLeast, limitMost, lineMost};
 ghost use Rattle.frame.specs.Line.{flag, escape, broken, plain};
 ghost use Rattle.frame.specs.Decode.{framed, decoded};
-use limits::LIMIT;
+use limits::LIMIT_LEAST;
 use limits::LINE_MOST;
 use limits::LONGEST_LINE;
 use refusal::Handed;
@@ -115,7 +115,7 @@ fn by_store(limit: usize, src: &[u8], store: &mut [u8], out: &mut [u8]) -> Hande
 
 // A line as long as one of the least limit can be: a small store, which is soon set to zero.
 fn decode_short(limit: usize, src: &[u8], out: &mut [u8]) -> Handed
-    requires { ⌜ (length (now src) ≤ lineMost frameLimit) × (eqb (lastOf 0 (now src)) escape ≡ false) ⌝ }
+    requires { ⌜ (length (now src) ≤ lineMost limitLeast) × (eqb (lastOf 0 (now src)) escape ≡ false) ⌝ }
     ensures { λ r. ⌜ Hands (framed limit (plain (now (src .entry))) (length (now (out .entry))))
         (now (out .entry)) r (now (out .exit)) ⌝ }
 {
@@ -135,7 +135,7 @@ fn decode_long(limit: usize, src: &[u8], out: &mut [u8]) -> Handed
 
 // Decodes what lies between two flags, with the frame limit `limit`: address, control and payload to the start of `out`.
 // More octets than a line has stand for more than its limit, so that a store has room for what is left, and no octet asks
-// for it. Where the caller's limit is the least one, the compiler sees that no other line is decoded.
+// for it.
 pub fn decode(limit: usize, src: &[u8], out: &mut [u8]) -> Handed
     ensures { λ r. ⌜ Hands (decoded limit (now (src .entry)) (length (now (out .entry))))
         (now (out .entry)) r (now (out .exit)) ⌝ }
@@ -149,7 +149,8 @@ pub fn decode(limit: usize, src: &[u8], out: &mut [u8]) -> Handed
     if src.len() <= LINE_MOST {
         return decode_short(limit, src, out);
     }
-    if limit <= LIMIT {
+    // Only for the compiler: a caller with the constant 78 does without the long store.
+    if limit <= LIMIT_LEAST {
         return Handed::Refused(Refusal::TooLong);
     }
     if LONGEST_LINE < src.len() {

@@ -141,7 +141,7 @@ fn fresh_from(plate: Plate, antenna: Antenna) -> Device
         link: Link::NoAddress,
         desk: Desk {
             address: 0,
-            limit: limits::LIMIT,
+            limit: limits::LIMIT_LEAST,
             subscribed: false,
             told: antenna::CALM,
             said: antenna::CALM,

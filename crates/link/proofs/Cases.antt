@@ -35,7 +35,7 @@ use Rattle.states.specs.States.{begun, renewed, released, ua, dm, rejected, inf
 use Rattle.states.specs.States.{infoBy, rrBy, rnrBy, connectedBy, isSnrm, assignedBy, linkedBy}
 use Rattle.link.specs.Link.{allStations, quiet, orderedBy, hasAddress, agreedBy, negotiatedBy, ownBy, xidBy}
 use Rattle.link.specs.Link.{everyoneBy, isOwn, addressedBy, controlledBy, wrongSize, judgedFrame}
-use Rattle.link.specs.Frames.{controlOf, Own, numberIn, Numbered, Everyone, Negotiates, Unread}
+use Rattle.link.specs.Frames.{controlOf, Own, numberIn, Numbered, Everyone, OwnXid, Unread}
 use Rattle.link.specs.Frames.{missized, unpolled, unfit, unmeant, elsewhere, unheeded, unagreed, unassigned}
 use Rattle.link.proofs.Judged.{size-right, judged-is}
 
@@ -58,10 +58,10 @@ own-is d f o w =
     ∙ rw (w .poll, w .all, w .own, own-no-xid d f o w, w .order) (rw (w .read))
 
 -- a negotiation, at the own address
-pub negotiates-is : (d : Device) (f : List ℕ) → Negotiates d f
+pub own-xid-is : (d : Device) (f : List ℕ) → OwnXid d f
     → judgedFrame d f ≡ agreedBy d (offerOf (limitOf d) (drop 2 f))
 unfolding controlledBy addressedBy ownBy negotiatedBy polled
-negotiates-is d f w =
+own-xid-is d f w =
     judged-is d f (w .least) (w .most) ∙ rw (w .all, w .own, w .control) (rw (w .link))
 
 pub everyone-is : (d : Device) (f : List ℕ) → Everyone d f
@@ -132,7 +132,7 @@ module _ (d : Device) (f : List ℕ) (P : Turn → Type 0)
     (scanned : Everyone d f → readOf (identityOf (d .plate)) (drop 2 f) ≡ xids.Xid.Scan → P (saying d Say.Scanned))
     (assigned : (a : ℕ) → Everyone d f → readOf (identityOf (d .plate)) (drop 2 f) ≡ xids.Xid.Assignment a
     → P (saying (endedAs d a AddressAssigned) Say.Assigned))
-    (negotiated : (n : ℕ) (a : Asked) → Negotiates d f → offerOf (limitOf d) (drop 2 f) ≡ Agreed n a
+    (negotiated : (n : ℕ) (a : Asked) → OwnXid d f → offerOf (limitOf d) (drop 2 f) ≡ Agreed n a
     → P (saying (limitedTo d n) (Say.Negotiated a)))
     (begins : Own d f Snrm → d .station .link ≡ AddressAssigned → P (saying (begun d) ua))
     (refuses : (o : Order) → Own d f o → isSnrm o ≡ false → d .station .link ≡ AddressAssigned → P (saying d dm))
@@ -181,7 +181,7 @@ module _ (d : Device) (f : List ℕ) (P : Turn → Type 0)
   linked-cases o w AddressAssigned e = assigned-cases o w e
   linked-cases o w (Connected s) e = connected-cases s o w e
 
-  offer-cases : Negotiates d f → (x : Offer) → offerOf (limitOf d) (drop 2 f) ≡ x → P (agreedBy d x)
+  offer-cases : OwnXid d f → (x : Offer) → offerOf (limitOf d) (drop 2 f) ≡ x → P (agreedBy d x)
   unfolding agreedBy
   offer-cases w Malformed e =
       silent

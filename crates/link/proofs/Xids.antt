@@ -35,11 +35,11 @@ use Rattle.station.specs.declared.Turn.{Turn}
 use Rattle.station.specs.Turns.{saying, mute}
 use Rattle.link.specs.Link.{allStations, quiet, hasAddress, agreedBy, negotiatedBy, isOwn, xidBy, wrongSize}
 use Rattle.link.specs.Link.{judgedFrame}
-use Rattle.link.specs.Frames.{controlOf, Everyone, Negotiates, missized, unfit, elsewhere, unagreed, unassigned}
-use Rattle.link.specs.Xids.{toAll, negotiates, wrongAddress, wrongControl, malformedAt, valueRowsAt, xidRows}
+use Rattle.link.specs.Frames.{controlOf, Everyone, OwnXid, missized, unfit, elsewhere, unagreed, unassigned}
+use Rattle.link.specs.Xids.{toAll, toOwn, wrongAddress, wrongControl, malformedAt, valueRowsAt, xidRows}
 use Rattle.link.specs.Xids.{xidTurn, xidAnswer, orMute}
 use Rattle.link.proofs.Judged.{size-right, size-fits}
-use Rattle.link.proofs.Cases.{everyone-is, negotiates-is, unread-silent}
+use Rattle.link.proofs.Cases.{everyone-is, own-xid-is, unread-silent}
 use Rattle.link.proofs.Silence.{own-exactly}
 
 -- ---- the rows 2, 3 and 4, both ways; 1 is `wrong-size-exactly` of Judged
@@ -70,21 +70,21 @@ groups-apart m ps qs a b =
     omega (arith, second)
 
 module _ (d : Device) (f : List ℕ) where
-  pub negotiates-exactly : negotiates d f ≡ true
+  pub to-own-exactly : toOwn d f ≡ true
       ↔ (getD f 0 0 ≡ d .station .desk .address) × (getD f 0 0 ≡ 0 → ⊥) × (hasAddress (d .station .link) ≡ true)
-  unfolding negotiates
-  negotiates-exactly = (
+  unfolding toOwn
+  to-own-exactly = (
     λ e.
         let both = and-parts (isOwn d (getD f 0 0)) _ e in
         let own = own-exactly d (getD f 0 0) .0 (both .0) in (own .0, own .1, both .1),
     λ w. rw (own-exactly d (getD f 0 0) .1 (w .0, w .1), w .2),
   )
 
-  pub wrong-address-exactly : wrongAddress d f ≡ true ↔ (getD f 0 0 ≡ 0xFF → ⊥) × (negotiates d f ≡ false)
+  pub wrong-address-exactly : wrongAddress d f ≡ true ↔ (getD f 0 0 ≡ 0xFF → ⊥) × (toOwn d f ≡ false)
   unfolding wrongAddress toAll
   wrong-address-exactly = (
     λ e.
-        let both = or-none (eqb (getD f 0 0) allStations) (negotiates d f) (not-true _ e) in
+        let both = or-none (eqb (getD f 0 0) allStations) (toOwn d f) (not-true _ e) in
         (eqb-false (getD f 0 0) allStations (both .0), both .1),
     λ w. rw (ne-eqb (getD f 0 0) allStations (w .0), w .1),
   )
@@ -93,11 +93,11 @@ module _ (d : Device) (f : List ℕ) where
   unfolding wrongAddress
   address-all e = rw e
 
-  address-own : negotiates d f ≡ true → wrongAddress d f ≡ false
+  address-own : toOwn d f ≡ true → wrongAddress d f ≡ false
   unfolding wrongAddress
   address-own e = rw (e, or-true (toAll f))
 
-  address-wrong : toAll f ≡ false → negotiates d f ≡ false → wrongAddress d f ≡ true
+  address-wrong : toAll f ≡ false → toOwn d f ≡ false → wrongAddress d f ≡ true
   unfolding wrongAddress
   address-wrong a n = rw (a, n)
 
@@ -121,10 +121,10 @@ module _ (d : Device) (f : List ℕ) where
         },
   )
 
-  pub negotiation-exactly : Negotiates d f ↔ (wrongSize (limitOf d) f ≡ false) × (toAll f ≡ false)
-      × (negotiates d f ≡ true) × (wrongControl f ≡ false)
-  unfolding toAll negotiates wrongControl
-  negotiation-exactly = (
+  pub own-xid-exactly : OwnXid d f ↔ (wrongSize (limitOf d) f ≡ false) × (toAll f ≡ false)
+      × (toOwn d f ≡ true) × (wrongControl f ≡ false)
+  unfolding toAll toOwn wrongControl
+  own-xid-exactly = (
     λ w. (
       size-fits (limitOf d) f (w .least) (w .most),
       w .all,
@@ -192,11 +192,11 @@ module _ (d : Device) (f : List ℕ) where
         rw (size, address-all d f a, e, a)
         (rows-turn d (payloadRows (identityOf (d .plate)) (drop 2 f)) (meaningOf (valuesIn (drop 2 f))))
 
-    own-comes : toAll f ≡ false → negotiates d f ≡ true → wrongControl f ≡ false
+    own-comes : toAll f ≡ false → toOwn d f ≡ true → wrongControl f ≡ false
         → comes ≡ agreedBy d (offerOf (limitOf d) (drop 2 f))
     unfolding xidAnswer xidRows answered malformedAt valueRowsAt xidTurn
     own-comes a n e =
-        rw (size, address-own d f n, e, a) (offer-turn d (drop 2 f) (negotiates-exactly d f .0 n .2))
+        rw (size, address-own d f n, e, a) (offer-turn d (drop 2 f) (to-own-exactly d f .0 n .2))
 
   -- ---- what a frame to all stations, and an XID at any address, comes to
 
@@ -227,7 +227,7 @@ module _ (d : Device) (f : List ℕ) where
 
   -- an XID, whatever its address
   pub xid-judged : controlOf f ≡ xidControl → judgedFrame d f ≡ orMute d (xidAnswer d f)
-  unfolding toAll negotiates wrongControl
+  unfolding toAll toOwn wrongControl
   xid-judged c = go (toAll f) refl (wrongSize (limitOf d) f) refl
     where
       right : wrongControl f ≡ false
@@ -236,8 +236,8 @@ module _ (d : Device) (f : List ℕ) where
       at-own : toAll f ≡ false → wrongSize (limitOf d) f ≡ false → (o : Bool) → isOwn d (getD f 0 0) ≡ o → (h : Bool)
           → hasAddress (d .station .link) ≡ h → judgedFrame d f ≡ orMute d (xidAnswer d f)
       at-own a s true o true h =
-          let n : negotiates d f ≡ true = rw (o, h) in
-          negotiates-is d f (negotiation-exactly d f .1 (s, a, n, right)) ∙ sym (own-comes s a n right)
+          let n : toOwn d f ≡ true = rw (o, h) in
+          own-xid-is d f (own-xid-exactly d f .1 (s, a, n, right)) ∙ sym (own-comes s a n right)
       at-own a s true o false h =
           unread-silent d f (unassigned (eqb-false (getD f 0 0) allStations a) (unassigned-link (d .station .link) h))
           ∙ sym (misaddressed-mute s (address-wrong d f a (rw (o, h))))
@@ -383,8 +383,8 @@ spoken d f (s, (a, (c, (m, rest)))) = go (toAll f) refl
         → cond all (xidBy d (meaningOf (valuesIn (drop 2 f)))) (negotiatedBy d (drop 2 f)) .say ≡ Say.Silence → ⊥
     go true all e = meaning-spoken d (valuesIn (drop 2 f)) e
     go false all e =
-        let n : negotiates d f ≡ true = rw all at (not-false (toAll f || negotiates d f) a) in
-        let h = negotiates-exactly d f .0 n .2 in
+        let n : toOwn d f ≡ true = rw all at (not-false (toAll f || toOwn d f) a) in
+        let h = to-own-exactly d f .0 n .2 in
         offer-spoken d (paramsOf negotiating (drop 2 f)) (rw all at m) (rw h at e)
 
 -- a negotiation to all stations is silence

@@ -3,7 +3,7 @@
 --   Own d f o          == f is read at the own address of the device d, and its control asks o
 --   Numbered d f o r s == the same in the session s, and the N(R) = r of the order o is good
 --   Everyone d f       == f is an XID frame to all stations, of a right size for the device d
---   Negotiates d f     == f is an XID frame to the own address of d, of a right size, where an address is assigned
+--   OwnXid d f         == f is an XID frame to the own address of d, of a right size, where an address is assigned
 --   numberIn o         == the N(R) of the order o, if it has one
 --   Supervised o       == o is "SNRM, DISC, RR or RNR", which have no payload
 --   Unread d f         == d is silent to f, and why
@@ -53,7 +53,7 @@ pub record Everyone (d : Device) (f : List ℕ) : Type 0 where
   pub address : getD f 0 0 ≡ allStations
   pub control : controlOf f ≡ xidControl
 
-pub record Negotiates (d : Device) (f : List ℕ) : Type 0 where
+pub record OwnXid (d : Device) (f : List ℕ) : Type 0 where
   pub least : 2 ≤ length f
   pub most : length f ≤ frameMost (limitOf d)
   pub all : eqb (getD f 0 0) allStations ≡ false

@@ -1,6 +1,6 @@
 -- A decoded frame judged. 01, "The link", and 02 (iv).
 --   allStations      == 0xFF, the address of a frame to every device
---   quiet o bare     == o is not read at the own address, with payload or bare
+--   quiet o bare     == the states do not read the order o, with payload or bare
 --   orderedBy d o c p == at the own address, an order that is no XID
 --   hasAddress l     == an address is assigned in the link state l
 --   agreedBy d x, negotiatedBy d p == at the own address, an XID that comes to the offer x; that has the payload p
@@ -37,7 +37,7 @@ use Rattle.states.specs.States.{linkedBy}
 abbrev pub allStations : ℕ
 allStations = 0xFF
 
--- "SNRM, DISC, RR or RNR with payload: silence." An XID does not come here: it is a negotiation
+-- "SNRM, DISC, RR or RNR with payload: silence." No XID comes here (`ownBy`)
 abbrev pub quiet : Order → Bool → Bool
 quiet Xid bare = true
 quiet Snrm bare = not bare

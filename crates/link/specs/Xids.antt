@@ -2,7 +2,7 @@
 -- for "no" have (refusal/specs/Answer); these are not those numbers. The conditions are 01's, "The link" and "XID: scan and
 -- assignment", and 02 (iv)'s; their order, and so the number of a row, is that of (viii) in 02.
 --   toAll f          == the address octet of the frame f is that of all stations
---   negotiates d f   == it is the own one of the device d, where a negotiation is answered
+--   toOwn d f        == it is the own one of the device d, where a negotiation is answered
 --   wrongAddress d f == 2: it is neither
 --   wrongControl f   == 3: the control of f is not that of an XID
 --   malformedAt f    == 4: the payload is not well formed, of the group 0xF0 to all stations, of 0x80 at the own address
@@ -34,12 +34,12 @@ unfoldable pub toAll : List ℕ → Bool
 toAll f = eqb (getD f 0 0) allStations
 
 -- 02 (iv): "XID to the device's own address"
-unfoldable pub negotiates : Device → List ℕ → Bool
-negotiates d f = isOwn d (getD f 0 0) && hasAddress (d .station .link)
+unfoldable pub toOwn : Device → List ℕ → Bool
+toOwn d f = isOwn d (getD f 0 0) && hasAddress (d .station .link)
 
 -- "The only right address octet is 0xFF, or the own one where a negotiation is answered."
 unfoldable pub wrongAddress : Device → List ℕ → Bool
-wrongAddress d f = not (toAll f || negotiates d f)
+wrongAddress d f = not (toAll f || toOwn d f)
 
 -- "only XID (0xBF) is read"
 unfoldable pub wrongControl : List ℕ → Bool

@@ -8,7 +8,7 @@ ghost use Rattle.record.specs.Changes.{limitedTo};
 ghost use Rattle.link.specs.Link.{quiet, orderedBy, hasAddress, agreedBy, negotiatedBy, ownBy, xidBy, everyoneBy};
 ghost use Rattle.link.specs.Link.{isOwn, addressedBy, controlledBy, judgedFrame};
 use control::Order;
-use limits::LIMIT;
+use limits::LIMIT_LEAST;
 use negotiation::Offer;
 use record::Device;
 use record::Link;
@@ -164,7 +164,7 @@ fn by_xid(device: Device, xid: Xid) -> Turn
         Xid::Scan => say(device, Say::Scanned),
         Xid::Assignment { address } => {
             say(
-                ending::emptied(device, address, LIMIT, Link::AddressAssigned),
+                ending::emptied(device, address, LIMIT_LEAST, Link::AddressAssigned),
                 Say::Assigned,
             )
         }

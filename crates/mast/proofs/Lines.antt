@@ -13,7 +13,7 @@ use Rattle.refusal.specs.declared.Handed.{Handed}
 use Rattle.refusal.specs.declared.Handed.the-variants.{Octets, Refused}
 use Rattle.refusal.specs.Answer.{Answer, gives, refuses, answerOf, counted, outAfter, Hands}
 use Rattle.refusal.proofs.Answers.{gives-not-refuses, gives-same, octets-told, in-room}
-use Rattle.limits.specs.Limits.{frameLimit, limitMost, frameMost, lineMost}
+use Rattle.limits.specs.Limits.{limitLeast, limitMost, frameMost, lineMost}
 use Rattle.frame.specs.Line.{inside}
 use Rattle.frame.specs.Write.{written}
 use Rattle.record.specs.declared.Device.{Device}
@@ -49,7 +49,7 @@ module _ {o o' : List ℕ} where
 
 -- a probe is written from its first octet, its second and the rest
 pub probe-line : (f : List ℕ) (m : ℕ) {o o' : List ℕ} {r : Handed} {n : ℕ} → length f ≤ m
-    → Hands (written frameLimit (getD f 0 0) (getD f 1 0) (take (m - 2) (drop 2 f)) (lineMost frameLimit)) o r o'
+    → Hands (written limitLeast (getD f 0 0) (getD f 1 0) (take (m - 2) (drop 2 f)) (lineMost limitLeast)) o r o'
     → n ≡ sizeIn r
     → take n o' ≡ lineFor f
 unfolding lineWith
@@ -57,7 +57,7 @@ probe-line f m {o' = o'} {r = r} long h e =
     let all : take (m - 2) (drop 2 f) ≡ drop 2 f = take-all (m - 2) (drop 2 f) (omega (arith, length-drop 2 f)) in
     ap (λ (k : ℕ). take k o') e
     ∙ handed-line _ r h
-    ∙ ap (λ (p : List ℕ). octetsGiven (written frameLimit (getD f 0 0) (getD f 1 0) p (lineMost frameLimit))) all
+    ∙ ap (λ (p : List ℕ). octetsGiven (written limitLeast (getD f 0 0) (getD f 1 0) p (lineMost limitLeast))) all
 
 -- a probe that is given has all its octets
 given-all : (s : Scan) (f : List ℕ) → probed s probeLength ≡ gives f → length f ≡ probeLength

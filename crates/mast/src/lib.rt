@@ -13,7 +13,7 @@ ghost use Rattle.mast.specs.Steps.{sizeIn, givenIn, frameIn, lineIn, Pro
 use bus::MOST;
 use bus::Row;
 use device::Said;
-use limits::LIMIT;
+use limits::LIMIT_LEAST;
 use limits::LINE_MOST;
 use limits::LONGEST_FRAME;
 use record::Device;
@@ -65,7 +65,7 @@ fn line_of(probe: [u8; PROBE]) -> Written
     ensures { λ r. ⌜ lineIn r ≡ lineFor probe ⌝ }
 {
     let mut octets = [0u8; LINE_MOST];
-    let handed = writer::write(LIMIT, probe[0], probe[1], &probe[2..], &mut octets);
+    let handed = writer::write(LIMIT_LEAST, probe[0], probe[1], &probe[2..], &mut octets);
     Written {
         octets,
         len: size_in(handed),

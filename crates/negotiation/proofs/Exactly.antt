@@ -11,7 +11,7 @@ use borrow.Author.Tests.{eqb-true, leb-true, le-leb}
 use lib.Dec.{eqb, leb}
 use Rattle.octets.proofs.Words.{true-not-false}
 use Rattle.limits.specs.Limits.{payloadMost, isLimit}
-use Rattle.limits.proofs.Exactly.{limit-exactly}
+use Rattle.limits.proofs.Exactly.{is-limit-exactly}
 use Rattle.params.specs.declared.Identifier.{Identifier}
 use Rattle.params.specs.Field.{Param, rightLength, WellFormed, paramsOf, valueFor}
 use Rattle.params.proofs.Exact.{params-exactly, one-reading}
@@ -140,7 +140,7 @@ module _ (N : ℕ) (ps : List Param) where
     where
       go : (x : Option ℕ) → isLimit (limitAsked N x) ≡ true
       go none = ok
-      go (some b) = limit-exactly (limitFor b) .1 (omega arith, omega arith)
+      go (some b) = is-limit-exactly (limitFor b) .1 (omega arith, omega arith)
 
   -- "the I-field length answered is never more than the smaller one asked, but for the floor of 74 octets"
   pub never-above : {v : List ℕ} → (valueFor 5 ps ≡ some v) ⊎ (valueFor 6 ps ≡ some v)

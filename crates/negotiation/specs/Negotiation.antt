@@ -13,7 +13,7 @@
 use mathlib.Core.List.{List, [], _∷_}
 use mathlib.Core.Option.{Option, none, some}
 use Prim.Native.Nat.{ℕ, _+_, _*_, _/_, min, max}
-use Rattle.limits.specs.Limits.{frameLimit, limitMost, payloadMost}
+use Rattle.limits.specs.Limits.{limitLeast, limitMost, around, payloadMost}
 use Rattle.params.specs.declared.Group.{Group}
 use Rattle.params.specs.declared.Identifier.{Identifier}
 use Rattle.params.specs.Field.{Param, _has_to_, paramsOf, valueFor, given}
@@ -65,10 +65,10 @@ smallerOf (some v) none = some (bitsIn v)
 smallerOf none (some w) = some (bitsIn w)
 smallerOf (some v) (some w) = some (min (bitsIn v) (bitsIn w))
 
--- "N - 4 is the whole octets in the smaller I-field length asked"; "its own limit where that is lower", which is 260; "an N
+-- "N - 4 is the whole octets in the smaller I-field length asked"; "its own limit where that is lower": its own is 260; "an N
 -- below 78 is answered 78"
 unfoldable pub limitFor : ℕ → ℕ
-limitFor bits = max (payloadMost frameLimit) (min (payloadMost limitMost) (bits / 8)) + 4
+limitFor bits = max (payloadMost limitLeast) (min (payloadMost limitMost) (bits / 8)) + around
 
 -- "none asked keeps N"
 unfoldable pub limitAsked : ℕ → Option ℕ → ℕ

@@ -10,7 +10,7 @@ ghost use Rattle.params.specs.Walk.{partIn, isAbsent, valueAt};
 ghost use Rattle.negotiation.specs.Negotiation.{negotiating, bitsIn, smallerOf, limitFor, limitAsked, offerOf};
 use control::Asked;
 use limits::AROUND;
-use limits::LIMIT;
+use limits::LIMIT_LEAST;
 use limits::LIMIT_MOST;
 use limits::LONGEST_PAYLOAD;
 use limits::PAYLOAD_MOST;
@@ -41,7 +41,8 @@ pub enum Offer {
     Agreed { limit: usize, asked: Asked },
 }
 
-// The group of a negotiation: its identifiers, and how many octets each may have.
+// The group of a negotiation: its identifiers, and how many octets each may have. A table has five rows, and no length fits the
+// last.
 fn negotiating() -> Group
     ensures { λ r. ⌜ r ≡ negotiating ⌝ }
 {
@@ -105,7 +106,7 @@ fn limit_for(bits: usize) -> usize
 {
     let whole = bits / 8;
     if whole < PAYLOAD_MOST {
-        return LIMIT;
+        return LIMIT_LEAST;
     }
     if LONGEST_PAYLOAD < whole {
         return LIMIT_MOST;

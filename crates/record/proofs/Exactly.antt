@@ -11,7 +11,7 @@ use lib.Dec.{ltb, leb}
 use lib.ListN.{length}
 use Rattle.octets.proofs.Words.{true-not-false, and-parts}
 use Rattle.refusal.specs.Answer.{refuses}
-use Rattle.limits.proofs.Exactly.{limit-exactly}
+use Rattle.limits.proofs.Exactly.{is-limit-exactly}
 use Rattle.identity.specs.Identity.{width, allowedIdentity}
 use Rattle.identity.proofs.Exactly.{identity-exactly}
 use Rattle.antenna.specs.declared.Motion.{Motion}
@@ -236,7 +236,7 @@ module _ (d : Device) (n : length (d .station .desk .said .flags) ≡ length (d 
       let plate = plate-parts (d .plate) (whole .plate) in
       let range = range-exactly (d .antenna) (d .antenna .drive .tilt) .0 (whole .range) in
       let link = linked (d .station .desk) n (d .station .link) (whole .link) in
-      let limit = limit-exactly (d .station .desk .limit) .0 (whole .limit) in
+      let limit = is-limit-exactly (d .station .desk .limit) .0 (whole .limit) in
       record {
         identity = identity-exactly (identityOf (d .plate)) .0 (plate .1);
         identity-held = plate .0;
@@ -263,7 +263,7 @@ module _ (d : Device) (n : length (d .station .desk .said .flags) ≡ length (d 
             plate-by (d .plate) (w .identity-held) (identity-exactly (identityOf (d .plate)) .1 (w .identity))
             (w .product) (w .hardware) (w .software);
         range = range-exactly (d .antenna) (d .antenna .drive .tilt) .1 (w .lowest, w .highest);
-        limit = limit-exactly (d .station .desk .limit) .1 (w .limit-least, w .limit-most);
+        limit = is-limit-exactly (d .station .desk .limit) .1 (w .limit-least, w .limit-most);
         link =
             linked-by (d .station .desk) n (d .station .link)
             (record {

@@ -12,8 +12,8 @@ use Rattle.octets.proofs.Stores.{take-start}
 use Rattle.octets.proofs.Words.{true-not-false, and-parts}
 use Rattle.refusal.specs.Answer.{gives, Clear}
 use Rattle.refusal.proofs.Exactly.{exactly-given}
-use Rattle.limits.specs.Limits.{frameLimit, isLimit, Limited}
-use Rattle.limits.proofs.Exactly.{limit-exactly, limit-least}
+use Rattle.limits.specs.Limits.{limitLeast, isLimit, Limited}
+use Rattle.limits.proofs.Exactly.{is-limit-exactly, limit-least}
 use Rattle.identity.specs.Identity.{width}
 use Rattle.identity.proofs.Identities.{allowed-parts}
 use Rattle.antenna.specs.declared.Angle.{Angle}
@@ -61,7 +61,7 @@ pub limit-allowed : (d : Device) → allowedDevice d ≡ true → isLimit (limit
 limit-allowed d e = sound d e .limit
 
 pub limited : (d : Device) → allowedDevice d ≡ true → Limited (limitOf d)
-limited d e = limit-exactly (limitOf d) .0 (limit-allowed d e)
+limited d e = is-limit-exactly (limitOf d) .0 (limit-allowed d e)
 
 -- a stop makes nothing owed where nothing was
 rested-owes : (m : Motion) (t : Angle) → owesOf m ≡ false → owesOf (restedOf m t) ≡ false
@@ -147,9 +147,9 @@ emptied-stays d a n l e h k =
 
 -- at a session's end
 pub end-stays : (d : Device) (a : ℕ) (l : Link) → allowedDevice d ≡ true
-    → linkAllowed (unsaidAt (d .station) a frameLimit l .desk) l ≡ true
+    → linkAllowed (unsaidAt (d .station) a limitLeast l .desk) l ≡ true
     → allowedDevice (endedAs d a l) ≡ true
-end-stays d a l e k = emptied-stays d a frameLimit l e limit-least k
+end-stays d a l e k = emptied-stays d a limitLeast l e limit-least k
 
 -- a text laid into zeros is read back
 text-back : (n : ℕ) (s : List ℕ) → take (length s) (s atStartOf replicate n 0) ≡ s

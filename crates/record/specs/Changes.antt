@@ -13,7 +13,7 @@ use mathlib.Core.List.{List, [], _∷_}
 use Prim.Native.Nat.{ℕ}
 use lib.Signed.{_≤ℤ_}
 use Rattle.refusal.specs.Answer.{Answer, TestRow, _when_, answered}
-use Rattle.limits.specs.Limits.{frameLimit}
+use Rattle.limits.specs.Limits.{limitLeast}
 use Rattle.antenna.specs.declared.Antenna.{Antenna}
 use Rattle.antenna.specs.Motions.{unowedOf, moves}
 use Rattle.octets.specs.Octets.{OneOf}
@@ -44,7 +44,7 @@ emptiedAs d a n l =
 
 -- 02 (iv): "78 again after an assignment or a session's end"
 abbrev pub endedAs : Device → ℕ → Link → Device
-endedAs d a l = emptiedAs d a frameLimit l
+endedAs d a l = emptiedAs d a limitLeast l
 
 unfoldable pub limitedTo : Device → ℕ → Device
 limitedTo d n = deviceOf d (record { link = d .station .link; desk = withLimit (d .station .desk) n }) (d .antenna)

@@ -15,7 +15,7 @@ use lib.ListN.{length, replicate}
 use lib.Signed.{_≤ℤ_}
 use Rattle.octets.specs.Octets.{_atStartOf_}
 use Rattle.refusal.specs.Answer.{Answer, _when_, answered}
-use Rattle.limits.specs.Limits.{frameLimit}
+use Rattle.limits.specs.Limits.{limitLeast}
 use Rattle.identity.specs.Identity.{width, allowedIdentity, AnIdentity}
 use Rattle.antenna.specs.declared.Angle.{Angle}
 use Rattle.antenna.specs.declared.Antenna.{Antenna}
@@ -54,7 +54,7 @@ abbrev pub freshStation : Station
 freshStation =
     record {
       link = NoAddress;
-      desk = record { address = 0; limit = frameLimit; subscribed = false; told = calm; said = calm; reply = noReply };
+      desk = record { address = 0; limit = limitLeast; subscribed = false; told = calm; said = calm; reply = noReply };
     }
 
 abbrev pub freshAntenna : Angle → Angle → Angle → Antenna

@@ -55,7 +55,7 @@ module _ (d : Device) (x : Say) (r : Payload) where
 -- address and control are stored in front of a row
 module _ (a c : ℕ) (row : List ℕ) (len : ℕ) (size : length row ≡ replyMost) {o : List ℕ} {n : ℕ}
     (count : n ≡ min len replyMost)
-    (stored : o ≡ sets (set (set (replicate (spokenMost) 0) 0 a) 1 c) 2 (take n row)) where
+    (stored : o ≡ sets (set (set (replicate spokenMost 0) 0 a) 1 c) 2 (take n row)) where
   within : take n row ≡ take len row
   within = rw count (take-within len replyMost row (omega (arith, size)))
 
@@ -65,9 +65,9 @@ module _ (a c : ℕ) (row : List ℕ) (len : ℕ) (size : length row ≡ replyMo
   laid-is =
       let m : length (take n row) ≡ n = simp length-take (omega (arith, size, count)) in
       let b = a ∷ c ∷ take n row in
-      let zeros : List ℕ = replicate (spokenMost) 0 in
+      let zeros : List ℕ = replicate spokenMost 0 in
       let room : length b ≤ length zeros =
-      rw (length-replicate {A = ℕ} (spokenMost) 0) (omega (arith, m, count)) in
+      rw (length-replicate {A = ℕ} spokenMost 0) (omega (arith, m, count)) in
       let k : n + 2 ≡ suc (suc n) = omega arith in
       let at : o ≡ b atStartOf zeros = stored ∙ sets-start b zeros room in
       (rw (← within, m) (ap₂ (λ (x : List ℕ) (j : ℕ). record { octets = x; len = j }) at k), omega (arith, count))
@@ -75,7 +75,7 @@ module _ (a c : ℕ) (row : List ℕ) (len : ℕ) (size : length row ≡ replyMo
 -- silence, and what is not
 module _ (d : Device) (x : Say) where
   pub silent-spoken : isSilent x ≡ true
-      → (_≡_ {A = Spoken} (record { octets = replicate (spokenMost) 0; len = 0 }) (spokenOf (frameBy d x)))
+      → (_≡_ {A = Spoken} (record { octets = replicate spokenMost 0; len = 0 }) (spokenOf (frameBy d x)))
       × (0 ≤ spokenMost)
   unfolding frameBy spokenOf
   silent-spoken e = (rw e, omega arith)

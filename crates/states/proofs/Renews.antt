@@ -1,6 +1,6 @@
 -- A session that a new one follows ends like any other. Assumes nothing.
 use mathlib.Core.Path.{_≡_, ap}
-use Rattle.limits.specs.Limits.{frameLimit}
+use Rattle.limits.specs.Limits.{limitLeast}
 use Rattle.antenna.specs.declared.Motion.{Motion}
 use Rattle.antenna.specs.Motions.{moves}
 use Rattle.antenna.proofs.Movements.{unowed-twice}
@@ -15,7 +15,7 @@ renewed-ends d =
     ap
     (λ (m : Motion). record {
       plate = d .plate;
-      station = unsaidAt (d .station) (d .station .desk .address) frameLimit (Connected newSession);
+      station = unsaidAt (d .station) (d .station .desk .address) limitLeast (Connected newSession);
       antenna = moves (d .antenna) m;
     })
     (unowed-twice (d .antenna .motion))

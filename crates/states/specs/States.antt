@@ -80,7 +80,7 @@ rnrBy d s r c = cond (goodNumber s r) (pausedBy d s r) (rejected d s c 8)
 -- ---- the three states
 
 -- "Connected: SNRM gets UA and starts a new session; DISC 0x53 gets UA and AddressAssigned." ".. any control but XID, SNRM,
--- DISC, I, RR and RNR, gets FRMR". An XID does not come here: it is a negotiation.
+-- DISC, I, RR and RNR, gets FRMR". No XID comes here: the link asks for one first.
 unfoldable pub connectedBy : Device → Session → Order → ℕ → List ℕ → Turn
 connectedBy d s Xid c p = mute d
 connectedBy d s Snrm c p = saying (renewed d) ua

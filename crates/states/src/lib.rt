@@ -6,7 +6,7 @@ ghost use Rattle.station.specs.Turns.{saying};
 ghost use Rattle.states.specs.States.{begun, released, ua, rejected, infoBy, rrBy, rnrBy};
 ghost use Rattle.states.specs.States.{connectedBy, isSnrm, assignedBy, linkedBy};
 use control::Order;
-use limits::LIMIT;
+use limits::LIMIT_LEAST;
 use record::Device;
 use record::Link;
 use record::Pending;
@@ -34,7 +34,7 @@ fn release(device: Device) -> Device
 {
     let station = device.station;
     let desk = station.desk;
-    ending::emptied(device, desk.address, LIMIT, Link::AddressAssigned)
+    ending::emptied(device, desk.address, LIMIT_LEAST, Link::AddressAssigned)
 }
 
 // UA: SNRM, and DISC in a session.

@@ -7,14 +7,14 @@ ghost use Prim.Native.Nat.{_+_, _-_, _*_, _≤_};
 ghost use lib.ListN.{length, drop};
 ghost use Rattle.octets.specs.Puts.{Puts};
 ghost use Rattle.refusal.specs.Answer.{Hands, handedOut};
-ghost use Rattle.limits.specs.Limits.{frameLimit, limitMost, payloadMost};
+ghost use Rattle.limits.specs.Limits.{limitLeast, limitMost, payloadMost};
 ghost use Rattle.frame.specs.Line.{special, escaped, onLine, between};
 ghost use Rattle.frame.specs.Write.{frameOf, lineOf, written};
 use frame::ESCAPE;
 use frame::FLAG;
 use frame::TOGGLE;
 use limits::AROUND;
-use limits::LIMIT;
+use limits::LIMIT_LEAST;
 use limits::LIMIT_MOST;
 use limits::LINE_MOST;
 use limits::LONGEST_LINE;
@@ -97,11 +97,11 @@ fn assemble(address: u8, control: u8, payload: &[u8], d: &mut [u8]) -> usize
 
 // A payload that the least limit has room for: small stores, which are soon set to zero.
 fn write_short(address: u8, control: u8, payload: &[u8], out: &mut [u8]) -> Handed
-    requires { ⌜ length (now payload) ≤ payloadMost frameLimit ⌝ }
+    requires { ⌜ length (now payload) ≤ payloadMost limitLeast ⌝ }
     ensures { λ r. ⌜ Hands (handedOut (lineOf (address ∷ control ∷ now (payload .entry))) (length (now (out .entry))))
         (now (out .entry)) r (now (out .exit)) ⌝ }
 {
-    let mut d = [0u8; LIMIT];
+    let mut d = [0u8; LIMIT_LEAST];
     let n = assemble(address, control, payload, &mut d);
     let mut line = [0u8; LINE_MOST];
     let len = put_between(&d[..n], &mut line);
@@ -133,7 +133,7 @@ pub fn write(limit: usize, address: u8, control: u8, payload: &[u8], out: &mut [
     if payload.len() <= PAYLOAD_MOST {
         return write_short(address, control, payload, out);
     }
-    if limit <= LIMIT {
+    if limit <= LIMIT_LEAST {
         return Handed::Refused(Refusal::PayloadTooLong);
     }
     if limit - AROUND < payload.len() {

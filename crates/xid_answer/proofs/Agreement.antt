@@ -1,5 +1,5 @@
--- What a master reads in the answer to a negotiation: the identifiers that it asked, and the device's own frame limit.
--- Its octets, spelt out. Assumes nothing.
+-- What a master reads in the answer to a negotiation: the identifiers that it asked, and the frame limit agreed
+-- on. Its octets, spelt out. Assumes nothing.
 use mathlib.Core.Path.{_≡_, refl, sym, ap, _∙_}
 use mathlib.Core.Bool.{Bool, true, false, cond}
 use mathlib.Core.List.{List, [], _∷_}
@@ -13,7 +13,7 @@ use lib.ListN.{length}
 use Rattle.octets.specs.Octets.{holds}
 use Rattle.octets.proofs.Words.{true-not-false}
 use Rattle.limits.specs.Limits.{payloadMost, isLimit}
-use Rattle.limits.proofs.Exactly.{limit-exactly}
+use Rattle.limits.proofs.Exactly.{is-limit-exactly}
 use Rattle.params.specs.declared.Identifier.{Identifier}
 use Rattle.params.specs.Field.{Param, _is_, tripleOf, fieldOf, xidPayload, rightLength, identifiers, AllRight}
 use Rattle.params.specs.Field.{WellFormed, noneTwice, valueFor, given}
@@ -73,7 +73,7 @@ given-asked false v = refl
 -- (N - 4) · 8
 pub bits-answered : (N : ℕ) → isLimit N ≡ true → bitsIn (lengthValue N) ≡ payloadMost N * 8
 unfolding lengthValue
-bits-answered N ok = bits-two _ _ ∙ omega (arith, limit-exactly N .0 ok .0, limit-exactly N .0 ok .1)
+bits-answered N ok = bits-two _ _ ∙ omega (arith, is-limit-exactly N .0 ok .0, is-limit-exactly N .0 ok .1)
 
 module _ (a : Asked) (N : ℕ) where
   -- the parameters from 8, 7 and 6 on
@@ -142,14 +142,14 @@ module _ (a : Asked) (N : ℕ) where
       let (five, six, seven, eight) = answered-values in
       simp (five, six, seven, eight, given-asked)
 
-  -- whatever the master's limit was, it is the device's own where a length was asked
+  -- whatever the master's limit was, it is the one agreed on where a length was asked
   pub answer-agrees : (M : ℕ) → isLimit N ≡ true → (a .sent ≡ true) ⊎ (a .received ≡ true)
       → agreedLimit M (negotiationParams a N) ≡ N
   unfolding smallerOf
   answer-agrees M ok s =
       let (five, six, seven, eight) = answered-values in
       let bits = bits-answered N ok in
-      let (least, most) = limit-exactly N .0 ok in
+      let (least, most) = is-limit-exactly N .0 ok in
       limit-agreed M (negotiationParams a N) (bitsIn (lengthValue N)) (rw (five, six) (go (a .sent) (a .received) s))
       ∙ rw bits (omega arith)
     where

@@ -36,7 +36,7 @@ pub opening-stored : (g k : ℕ) (o : List ℕ) {o₁ o₂ o₃ : List ℕ} → 
     → o₃ ≡ set o₂ 2 k → o₃ ≡ sets o 0 (opening g k)
 opening-stored g k o {o₃ = o₃} s₁ s₂ s₃ = rw (s₃, s₂, s₁)
 
--- how many octets a triple has, and the triples of the two answers
+-- how many octets a triple has, and the triples of the answers to a scan and an assignment
 pub length-triple : (n : ℕ) (v : List ℕ) → length (tripleOf (n is v)) ≡ length v + 2
 unfolding tripleOf
 length-triple n v = omega arith

@@ -36,7 +36,7 @@ assignmentAnswer i = xidPayload addressing (assignmentParams i)
 unfoldable pub ifAsked : Bool → Param → List Param → List Param
 ifAsked asked p ps = cond asked (p ∷ ps) ps
 
--- the device's own limit, without address, control and check, in bits: two octets, highest first
+-- what the limit agreed on leaves for a payload, in bits: two octets, highest first
 unfoldable pub lengthValue : ℕ → List ℕ
 lengthValue N = highOf (payloadMost N * 8) ∷ lowOf (payloadMost N * 8) ∷ []
 

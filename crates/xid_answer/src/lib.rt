@@ -1,6 +1,6 @@
 // The payloads of a device's answers to a scan, to an assignment and to a negotiation. Headline: they are the
 // well-formed payloads that 01 and 02 list, the first two with length fields n+8 and n+5 (proofs/Lengths.antt), and who
-// reads the third reads the device's limit (proofs/Agreement.antt). Assumes nothing of its caller: any plate, any limit.
+// reads the third reads the limit agreed on (proofs/Agreement.antt). Assumes nothing of its caller: any plate, any limit.
 ghost use mathlib.Core.Path.{_≡_};
 ghost use mathlib.Core.Bool.{cond};
 ghost use mathlib.Core.List.{[]};

@@ -6,7 +6,7 @@ use native.Mathlib.Omega.{arith}
 use lib.ListN.{length}
 use Rattle.refusal.specs.declared.Refusal.the-variants.{NotAllowed, Broken, TooLong}
 use Rattle.refusal.proofs.Answers.{refused, hands-is}
-use Rattle.limits.proofs.Exactly.{limit-exactly}
+use Rattle.limits.proofs.Exactly.{is-limit-exactly}
 use Rattle.frame.proofs.Judge.{unlimited-decode, when-broken, when-whole, when-overlong}
 use Rattle.frame.proofs.Lines.{unbroken-parts}
 use Rattle.frame.proofs.decode.Statement.{statement}
@@ -54,7 +54,7 @@ returns-5 c =
     let late = c .before .before .before in
     let whole = sym (late .before .is-broken .ensures) ∙ late .if2 .left in
     let limit = sym (late .before .before .before .is-limit .ensures) ∙ not-false _ (late .before .before .if1 .left) in
-    let few = limit-exactly _ .0 limit in
+    let few = is-limit-exactly _ .0 limit in
     refused TooLong (when-overlong _ limit _ _ whole (omega (arith, c .if5 .taken)))
 
 decode-long-requires : tie.Need-decode-long-requires

@@ -5,7 +5,7 @@ use mathlib.Core.Path.{sym, _∙_}
 use native.Mathlib.Omega.{arith}
 use Rattle.refusal.specs.declared.Refusal.the-variants.{NotAllowed, PayloadTooLong}
 use Rattle.refusal.proofs.Answers.{refused, hands-is}
-use Rattle.limits.proofs.Exactly.{limit-exactly}
+use Rattle.limits.proofs.Exactly.{is-limit-exactly}
 use Rattle.frame.proofs.Judge.{unlimited-write, payload-long, payload-fits}
 use Rattle.writer.proofs.write.Statement.{statement}
 use Rattle.writer.proofs.write.Tie as tie
@@ -28,7 +28,7 @@ returns-2 : tie.Need-returns-2
 returns-2 c =
     let asked = c .before .before .before .before in
     let limit = sym (asked .before .before .is-limit .ensures) ∙ not-false _ (asked .before .if1 .left) in
-    let least = limit-exactly _ .0 limit in
+    let least = is-limit-exactly _ .0 limit in
     hands-is (sym (payload-fits _ limit _ _ _ _ (omega (arith, asked .if2 .taken)))) (c .before .before .write-short .ensures)
 
 returns-3 : tie.Need-returns-3
@@ -50,7 +50,7 @@ write-long-requires : tie.Need-write-long-requires
 write-long-requires c κs =
     let asked = c .before .before .before .before in
     let limit = sym (asked .before .is-limit .ensures) ∙ not-false _ (asked .if1 .left) in
-    let most = limit-exactly _ .0 limit in
+    let most = is-limit-exactly _ .0 limit in
     omega (arith, c .before .if4 .left)
 
 same-length-2 : tie.Need-same-length-2

@@ -5,7 +5,7 @@ use native.Mathlib.Omega.{arith}
 use lib.ListN.{length-take}
 use Rattle.octets.proofs.Runs.{put-back}
 use Rattle.refusal.proofs.Answers.{hands-is}
-use Rattle.limits.specs.Limits.{frameLimit}
+use Rattle.limits.specs.Limits.{limitLeast}
 use Rattle.frame.proofs.Assembled.{assembled-short}
 use Rattle.frame.proofs.Escapes.{between-short}
 use Rattle.frame.proofs.Judge.{when-lined}
@@ -21,13 +21,13 @@ assemble-requires c κs = search needs
 array-share-prefix-d : tie.Need-array-share-prefix-d
 array-share-prefix-d c =
     let put = c .before in
-    let h = assembled-short frameLimit _ _ _ (put .assemble .ensures) (omega arith) (put .before .before .before .before .pre) in
+    let h = assembled-short limitLeast _ _ _ (put .assemble .ensures) (omega arith) (put .before .before .before .before .pre) in
     omega arith
 
 slice-aggregate-put-between : tie.Need-slice-aggregate-put-between
 slice-aggregate-put-between c =
     let put = c .before .before in
-    let h = assembled-short frameLimit _ _ _ (put .assemble .ensures) (omega arith) (put .before .before .before .before .pre) in
+    let h = assembled-short limitLeast _ _ _ (put .assemble .ensures) (omega arith) (put .before .before .before .before .pre) in
     simp length-take (omega arith)
 
 slice-aggregate-put-between-2 : tie.Need-slice-aggregate-put-between-2
@@ -36,21 +36,21 @@ slice-aggregate-put-between-2 c = search needs
 put-between-requires : tie.Need-put-between-requires
 put-between-requires c κs =
     let put = c .before .before .before in
-    let h = assembled-short frameLimit _ _ _ (put .assemble .ensures) (omega arith) (put .before .before .before .before .pre) in
+    let h = assembled-short limitLeast _ _ _ (put .assemble .ensures) (omega arith) (put .before .before .before .before .pre) in
     simp length-take (omega arith)
 
 array-share-prefix-line : tie.Need-array-share-prefix-line
 array-share-prefix-line c =
     let put = c .before .before .before .before .before in
-    let few = assembled-short frameLimit _ _ _ (put .assemble .ensures) (omega arith) (put .before .before .before .before .pre) in
-    let h = between-short frameLimit _ (c .before .put-between .ensures) (simp length-take (omega arith)) in
+    let few = assembled-short limitLeast _ _ _ (put .assemble .ensures) (omega arith) (put .before .before .before .before .pre) in
+    let h = between-short limitLeast _ (c .before .put-between .ensures) (simp length-take (omega arith)) in
     omega arith
 
 slice-aggregate-hand-out : tie.Need-slice-aggregate-hand-out
 slice-aggregate-hand-out c =
     let put = c .before .before .before .before .before .before in
-    let few = assembled-short frameLimit _ _ _ (put .assemble .ensures) (omega arith) (put .before .before .before .before .pre) in
-    let h = between-short frameLimit _ (c .before .before .put-between .ensures) (simp length-take (omega arith)) in
+    let few = assembled-short limitLeast _ _ _ (put .assemble .ensures) (omega arith) (put .before .before .before .before .pre) in
+    let h = between-short limitLeast _ (c .before .before .put-between .ensures) (simp length-take (omega arith)) in
     simp length-take (omega arith)
 
 hand-out-requires : tie.Need-hand-out-requires
@@ -63,8 +63,8 @@ returns : tie.Need-returns
 returns c =
     let lined = c .before .before .before .before .before .before in
     let put = lined .before .before .before .before in
-    let few = assembled-short frameLimit _ _ _ (put .assemble .ensures) (omega arith) (put .before .before .before .before .pre) in
-    let line = between-short frameLimit _ (lined .put-between .ensures) (simp length-take (omega arith)) in
+    let few = assembled-short limitLeast _ _ _ (put .assemble .ensures) (omega arith) (put .before .before .before .before .pre) in
+    let line = between-short limitLeast _ (lined .put-between .ensures) (simp length-take (omega arith)) in
     let stored = put-back (put .assemble .ensures) (omega arith) in
     hands-is (when-lined _ _ _ _ stored (put-back (lined .put-between .ensures) (omega arith)))
     (c .before .before .hand-out .ensures)
