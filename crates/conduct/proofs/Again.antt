@@ -88,7 +88,8 @@ module _ (d : Device) (f : List ℕ) (s : Session) (n r : ℕ) (w : Accepted d f
         let limit = ap (λ (x : Turn). limitOf (x .device)) turn ∙ keeps .1 in
         info-is e f t n r
         (record {
-          own = own-at d e f n r (ap (λ x. x .desk .address) same ∙ address) (ap (λ x. x .desk .limit) same ∙ limit) (w .numbered .own);
+          own = own-at d e f n r (ap (λ x. x .desk .address) same ∙ address) (ap (λ x. x .desk .limit) same ∙ limit)
+              (w .numbered .own);
           link = ap (λ x. x .link) same ∙ there;
           good = again-good t n r number due;
         })

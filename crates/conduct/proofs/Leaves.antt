@@ -72,7 +72,8 @@ module _ (d : Device) (f : List ℕ) where
   abbrev told : Session → ℕ → Alarms
   told s r = there s r .desk .told
 
-  -- the device as it was; another frame limit; a session ended, or begun; a good N(R) read, and no more; then what an accepted message or RR adds
+  -- the device as it was; another frame limit; a session ended, or begun; a good N(R) read, and no more; then what an
+  -- accepted message or RR adds
   module _ (P : Device → Type 0)
       (same : P d)
       (assigned : (a : ℕ) → Assigns d f a → P (endedAs d a AddressAssigned))

@@ -269,8 +269,8 @@ _also_ a b = (a, b)
 computed : All starred × All further
 unfolding All Holds heard scan.driven scan.fresh scan.ended scan.over scan.reported stateAt step stepIn noted listing
     goOn next carry zeroHalf named word packed rowsOf flat phaseOf stateOf fresh assigned run meets judged
-    judgeRows wrongSize judgedFrame controlledBy addressedBy isOwn everyoneBy xidBy ownBy orderedBy negotiatedBy agreedBy linkedBy assignedBy connectedBy
-    rrBy infoBy rejected released begun renewed pollOf waitingPoll informedBy informOf carriedBy repliedBy polledBy saying
+    judgeRows wrongSize judgedFrame controlledBy addressedBy isOwn everyoneBy xidBy ownBy orderedBy negotiatedBy agreedBy
+    linkedBy assignedBy connectedBy rrBy infoBy rejected released begun renewed pollOf waitingPoll informedBy informOf carriedBy repliedBy polledBy saying
     deviceOf acknowledged sessionAfter stationAfter resent awaiting answersWith heeded acknowledges goodNumber
     accepts taken vsOf countsOf polled nextOf infoOf rrOf numberedBy askedBy unsaidAt emptiedAs limitedTo canBe afterEvent eventRows
     happened freshOf freshFrom plateFrom identityFrom productFrom versionFrom textsAllowed dataAllowed stateAfter

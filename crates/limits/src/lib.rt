@@ -29,7 +29,11 @@ pub const LONGEST_LINE: usize = 2 * LIMIT_MOST + 2;
 pub fn is_limit(n: usize) -> bool
     ensures { λ r. ⌜ r ≡ isLimit n ⌝ }
 {
-    if n < LIMIT_LEAST { false } else { n <= LIMIT_MOST }
+    if n < LIMIT_LEAST {
+        false
+    } else {
+        n <= LIMIT_MOST
+    }
 }
 
 // The most octets of a frame without its check.

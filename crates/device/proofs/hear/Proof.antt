@@ -45,7 +45,8 @@ returns-2 c =
     let decoding = c .before .before .before .before .before .before .before .before .before in
     let a = decoding .before .before .before .before .before .before .args in
     judges-is
-    (heard-judged (a .device) _ (now (a .answer)) _ _ _ (decoding .decode .ensures) (c .before .before .before .before .before .before .handed .given .1))
+    (heard-judged (a .device) _ (now (a .answer)) _ _ _ (decoding .decode .ensures)
+    (c .before .before .before .before .before .before .handed .given .1))
     (c .before .before .judge .ensures)
 
 pub hear-spec : {M : Type 1} → statement M

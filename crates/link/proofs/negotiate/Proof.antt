@@ -17,7 +17,10 @@ agree-requires c κs = search needs
 
 returns : tie.Need-returns
 unfolding negotiatedBy
-returns c = search (tests, sym (c .agree .ensures), sym (c .before .read .ensures), sym (c .before .before .before .has-address .ensures) ∙ c .before .before .if1 .taken)
+returns c =
+    let asked = c .before .before in
+    search
+    (tests, sym (c .agree .ensures), sym (c .before .read .ensures), sym (asked .before .has-address .ensures) ∙ asked .if1 .taken)
 
 say-requires : tie.Need-say-requires
 say-requires c κs = search needs

@@ -51,8 +51,8 @@ returns c =
     let bits = begun .before .before .before in
     let a = bits .before .before .args in
     negotiation-stored (a .asked) (a .limit) (a .out .now) (bits .length-value .ensures)
-    (begun .before .field-length .ensures) (begun .put-opening .ensures) (five .put-if .ensures .0) (six .put-if2 .ensures .0) (seven .put-if3 .ensures .0)
-    (eight .put-if4 .ensures .0)
+    (begun .before .field-length .ensures) (begun .put-opening .ensures) (five .put-if .ensures .0)
+    (six .put-if2 .ensures .0) (seven .put-if3 .ensures .0) (eight .put-if4 .ensures .0)
 
 pub put-negotiation-answer-spec : {M : Type 1} → statement M
 put-negotiation-answer-spec =
