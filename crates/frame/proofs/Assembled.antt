@@ -1,4 +1,5 @@
--- How address, control, payload and check come to stand in a buffer, one behind the other. Assumes nothing.
+-- How address, control, payload and check come to stand in a buffer, one behind the other, and their line.
+-- Assumes nothing.
 use mathlib.Core.Path.{_≡_, refl, ap, _∙_}
 use mathlib.Core.List.{List, [], _∷_, _++_, append-nil}
 use Prim.Native.Nat.{ℕ, _+_, _/_, _%_, _≤_}
@@ -8,8 +9,10 @@ use lib.Seq.{sets}
 use Rattle.octets.specs.Octets.{lowOf, highOf}
 use Rattle.octets.specs.Puts.{Puts}
 use Rattle.octets.proofs.Runs.{Run, run-all, run-one, run-two, run-some, run-done, put-back}
+use Rattle.refusal.specs.Answer.{handedOut}
 use Rattle.fcs.specs.Check.{checkOf, withCheck}
-use Rattle.limits.specs.Limits.{payloadMost}
+use Rattle.frame.specs.Line.{between}
+use Rattle.frame.specs.Write.{lineOf}
 
 pub length-withCheck : (b : List ℕ) → length (withCheck b) ≡ length b + 2
 unfolding withCheck
@@ -33,7 +36,14 @@ module _ (a c : ℕ) (p o : List ℕ) {o₁ o₂ o₃ : List ℕ} (room : length
       let checked = body-run (lowOf check ∷ highOf check ∷ []) in
       rw (← e') (run-done refl (run-two _ _ s₄ s₅ refl checked))
 
--- a frame of at most `payloadMost N` octets of payload, with its check, has at most N
-pub assembled-short : (N a c : ℕ) (p : List ℕ) {o o' : List ℕ} {n : ℕ}
-    → Puts o 0 (withCheck (a ∷ c ∷ p)) n o' → 4 ≤ N → length p ≤ payloadMost N → n ≤ N
-assembled-short N a c p f m h = omega (arith, f .count, length-withCheck (a ∷ c ∷ p))
+module _ (a c : ℕ) (p : List ℕ) {o d : List ℕ} {n : ℕ} (put : Puts o 0 (withCheck (a ∷ c ∷ p)) n d) where
+  -- how many octets were assembled
+  pub assembled-long : n ≡ length p + 4
+  assembled-long = omega (arith, put .count, length-withCheck (a ∷ c ∷ p))
+
+  -- their line is the one to hand out
+  pub assembled-line : (room : ℕ) → length p + 4 ≤ length o
+      → handedOut (between (take n d)) room ≡ handedOut (lineOf (a ∷ c ∷ p)) room
+  unfolding lineOf
+  assembled-line room h =
+      ap (λ (b : List ℕ). handedOut (between b) room) (put-back put (omega (arith, assembled-long)))

@@ -1,16 +1,14 @@
 -- Octets put on the line, one after the other: how many, and which. Assumes nothing.
-use mathlib.Core.Path.{_≡_, refl}
+use mathlib.Core.Path.{_≡_, refl, ap}
 use mathlib.Core.Bool.{Bool, true, false}
 use mathlib.Core.List.{List, [], _∷_, _++_}
-use Prim.Native.Nat.{ℕ, _+_, _-_, _*_, _<_, _≤_}
+use Prim.Native.Nat.{ℕ, _+_, _*_, _<_, _≤_}
 use native.Mathlib.Omega.{arith}
 use lib.Bits.{bitXor}
-use lib.Dec.{lit≤}
-use lib.ListN.{length, getD, drop, drop-of-length-le, length-append, length-drop, set}
+use lib.ListN.{length, getD, drop, drop-of-length-le, length-append, set}
 use Rattle.octets.specs.Puts.{Puts}
 use Rattle.octets.proofs.Rest.{rest}
 use Rattle.octets.proofs.Runs.{run-all, run-one, run-put, run-done}
-use Rattle.limits.specs.Limits.{lineMost}
 use Rattle.frame.specs.Line.{flag, escape, toggle, special, escaped, onLine, between}
 
 pub escaped-special : (x : ℕ) → special x ≡ true → escaped x ≡ escape ∷ bitXor x toggle ∷ []
@@ -21,17 +19,29 @@ pub escaped-other : (x : ℕ) → special x ≡ false → escaped x ≡ x ∷ []
 unfolding escaped
 escaped-other x e = rw e
 
-escaped-short : (x : ℕ) → length (escaped x) ≤ 2
-escaped-short x = go (special x) refl
+-- how many octets one takes: two where it is escaped, else one
+pub special-two : (x : ℕ) → special x ≡ true → length (escaped x) ≡ 2
+special-two x e = ap length (escaped-special x e)
+
+pub other-one : (x : ℕ) → special x ≡ false → length (escaped x) ≡ 1
+other-one x e = ap length (escaped-other x e)
+
+escaped-few : (x : ℕ) → (1 ≤ length (escaped x)) × (length (escaped x) ≤ 2)
+escaped-few x = go (special x) refl
   where
-    go : (b : Bool) → special x ≡ b → length (escaped x) ≤ 2
-    go true e = rw (escaped-special x e) (lit≤ tt)
-    go false e = rw (escaped-other x e) (lit≤ tt)
+    go : (b : Bool) → special x ≡ b → (1 ≤ length (escaped x)) × (length (escaped x) ≤ 2)
+    go true e = (omega (arith, special-two x e), omega (arith, special-two x e))
+    go false e = (omega (arith, other-one x e), omega (arith, other-one x e))
+
+pub onLine-long : (d : List ℕ) → length d ≤ length (onLine d)
+unfolding onLine
+onLine-long [] = omega arith
+onLine-long (x ∷ xs) = rw length-append (omega (arith, escaped-few x, onLine-long xs))
 
 pub onLine-short : (d : List ℕ) → length (onLine d) ≤ 2 * length d
 unfolding onLine
 onLine-short [] = omega arith
-onLine-short (x ∷ xs) = rw length-append (omega (arith, escaped-short x, onLine-short xs))
+onLine-short (x ∷ xs) = rw length-append (omega (arith, escaped-few x, onLine-short xs))
 
 pub length-between : (d : List ℕ) → length (between d) ≡ length (onLine d) + 2
 unfolding between
@@ -45,10 +55,6 @@ module _ (x : ℕ) (o : List ℕ) (at : ℕ) {o₁ : List ℕ} {n y : ℕ} where
 
   pub other-put : special x ≡ false → o₁ ≡ o → n ≡ at → y ≡ x → Puts o at (escaped x) (n + 1) (set o₁ n y)
   other-put e s k v = rw (s, k, v) (run-done refl (run-one _ refl (escaped-other x e) run-all))
-
--- how far it goes
-pub octet-few : (x : ℕ) {o o' : List ℕ} {at n : ℕ} → Puts o at (escaped x) n o' → n ≤ at + 2
-octet-few x p = omega (arith, p .count, escaped-short x)
 
 -- a loop that goes through d by i: one octet more, four, and the end
 module _ (d : List ℕ) where
@@ -67,21 +73,22 @@ module _ (d : List ℕ) where
       let fourth = rw four at (line-more (i + 3) h) in
       rw (line-more i (omega arith), second, third, fourth)
 
+  -- how many octets these take
+  pub more-long : (i : ℕ) → i < length d
+      → length (onLine (drop i d)) ≡ length (escaped (getD d i 0)) + length (onLine (drop (i + 1) d))
+  more-long i h = rw (line-more i h) (length-append (escaped (getD d i 0)) _)
+
+  pub four-long : (i : ℕ) → i + 3 < length d → length (onLine (drop i d)) ≡ length (escaped (getD d i 0))
+      + length (escaped (getD d (i + 1) 0)) + length (escaped (getD d (i + 2) 0)) + length (escaped (getD d (i + 3) 0))
+      + length (onLine (drop (i + 4) d))
+  four-long i h = rw (line-four i h) (simp length-append (omega arith))
+
   pub line-done : (i : ℕ) → length d ≤ i → onLine (drop i d) ≡ []
   unfolding onLine
   line-done i h = rw (drop-of-length-le d h)
-
-  -- how far the octets from i on go
-  pub rest-few : (i : ℕ) {o o' : List ℕ} {at n : ℕ} → Puts o at (onLine (drop i d)) n o' → n ≤ at + 2 * (length d - i)
-  rest-few i p = omega (arith, p .count, onLine-short (drop i d), length-drop i d)
 
 -- the first flag, what lies between, and the last flag
 pub between-put : (d : List ℕ) {o o₁ o₂ o' : List ℕ} {n : ℕ} → o₁ ≡ set o 0 flag → Puts o₁ 1 (onLine d) n o₂
     → o' ≡ set o₂ n flag → Puts o 0 (between d) (n + 1) o'
 unfolding between
 between-put d s p t = run-done refl (run-one _ t refl (run-put (onLine d) p refl (run-one _ s refl run-all)))
-
--- at most N octets take at most `lineMost N` on the line, flags included
-pub between-short : (N : ℕ) (d : List ℕ) {o o' : List ℕ} {n : ℕ}
-    → Puts o 0 (between d) n o' → length d ≤ N → n ≤ lineMost N
-between-short N d p h = omega (arith, p .count, length-between d, onLine-short d)

@@ -1,5 +1,5 @@
 -- Each way out of the decoder's and the writer's tests, over the frame limit N. Assumes nothing.
-use mathlib.Core.Path.{_≡_, sym, ap, _∙_}
+use mathlib.Core.Path.{_≡_, ap, _∙_}
 use mathlib.Core.Bool.{Bool, true, false, not}
 use mathlib.Core.List.{List, _∷_}
 use Prim.Native.Nat.{ℕ, _-_, _<_, _≤_}
@@ -9,10 +9,10 @@ use lib.ListN.{length, getD, take}
 use Rattle.octets.specs.Octets.{pairOf}
 use Rattle.refusal.specs.Answer.{refuses, answered, handedOut}
 use Rattle.refusal.proofs.Answers.{answered-here, answered-later}
-use Rattle.fcs.specs.Check.{checkOf, withCheck}
+use Rattle.fcs.specs.Check.{checkOf}
 use Rattle.limits.specs.Limits.{isLimit, payloadMost, lineMost}
 use Rattle.limits.proofs.Exactly.{is-limit-exactly}
-use Rattle.frame.specs.Line.{broken, plain, between}
+use Rattle.frame.specs.Line.{broken, plain}
 use Rattle.frame.specs.Decode.{body, rightCheck, framed, decodeRows, decoded}
 use Rattle.frame.specs.Write.{lineOf, writeRows, written}
 use Rattle.frame.proofs.Lines.{overlong}
@@ -92,9 +92,3 @@ module _ (N : ℕ) (l : isLimit N ≡ true) (a c : ℕ) (p : List ℕ) (room : �
   pub payload-fits : length p ≤ payloadMost N → written N a c p room ≡ handedOut (lineOf (a ∷ c ∷ p)) room
   unfolding writeRows handedOut
   payload-fits h = limited-write ∙ answered-later _ _ _ (le-ltb (payloadMost N) (length p) h)
-
--- the line of what was assembled is handed out
-pub when-lined : (a c : ℕ) (p : List ℕ) (room : ℕ) {d l : List ℕ} → d ≡ withCheck (a ∷ c ∷ p) → l ≡ between d
-    → handedOut l room ≡ handedOut (lineOf (a ∷ c ∷ p)) room
-unfolding lineOf
-when-lined a c p room e q = ap (λ (x : List ℕ). handedOut x room) (q ∙ ap between e)

@@ -3,10 +3,10 @@
 // between its flags decodes to what was put in (frame/proofs/Trip.antt). Assumes nothing of its caller.
 ghost use mathlib.Core.Path.{_≡_};
 ghost use mathlib.Core.List.{_∷_};
-ghost use Prim.Native.Nat.{_+_, _-_, _*_, _≤_};
+ghost use Prim.Native.Nat.{_+_, _≤_};
 ghost use lib.ListN.{length, drop};
 ghost use Rattle.octets.specs.Puts.{Puts};
-ghost use Rattle.refusal.specs.Answer.{Hands, handedOut};
+ghost use Rattle.refusal.specs.Answer.{Hands, handedOut, shorter};
 ghost use Rattle.limits.specs.Limits.{limitLeast, limitMost, payloadMost};
 ghost use Rattle.frame.specs.Line.{special, escaped, onLine, between};
 ghost use Rattle.frame.specs.Write.{frameOf, lineOf, written};
@@ -16,8 +16,6 @@ use frame::TOGGLE;
 use limits::AROUND;
 use limits::LIMIT_LEAST;
 use limits::LIMIT_MOST;
-use limits::LINE_MOST;
-use limits::LONGEST_LINE;
 use limits::PAYLOAD_MOST;
 use refusal::Handed;
 use refusal::Refusal;
@@ -31,7 +29,7 @@ fn is_special(b: u8) -> bool
 
 // Puts `b`, escaped where it has to be, into `line` at `at`, and gives the place behind it.
 fn put_octet(b: u8, line: &mut [u8], at: usize) -> usize
-    requires { ⌜ at + 2 ≤ length (now line) ⌝ }
+    requires { ⌜ at + length (escaped b) ≤ length (now line) ⌝ }
     ensures { λ r. ⌜ Puts (now (line .entry)) at (escaped b) r (now (line .exit)) ⌝ }
 {
     let mut n = at;
@@ -47,7 +45,7 @@ fn put_octet(b: u8, line: &mut [u8], at: usize) -> usize
 
 // Puts the octets of `d` from `from` on, with their escapes, into `line` at `at`, and gives the place behind them.
 fn put_rest(d: &[u8], from: usize, line: &mut [u8], at: usize) -> usize
-    requires { ⌜ at + 2 * (length (now d) - from) ≤ length (now line) ⌝ }
+    requires { ⌜ at + length (onLine (drop from (now d))) ≤ length (now line) ⌝ }
     ensures { λ r. ⌜ Puts (now (line .entry)) at (onLine (drop from (now (d .entry)))) r (now (line .exit)) ⌝ }
 {
     let mut n = at;
@@ -61,7 +59,7 @@ fn put_rest(d: &[u8], from: usize, line: &mut [u8], at: usize) -> usize
 
 // Puts flag, `d` with its escapes, flag into `line`: four octets a turn, and what is left one by one.
 fn put_between(d: &[u8], line: &mut [u8]) -> usize
-    requires { ⌜ 2 * length (now d) + 2 ≤ length (now line) ⌝ }
+    requires { ⌜ length (between (now d)) ≤ length (now line) ⌝ }
     ensures { λ r. ⌜ Puts (now (line .entry)) 0 (between (now (d .entry))) r (now (line .exit)) ⌝ }
 {
     line[0] = FLAG;
@@ -95,7 +93,42 @@ fn assemble(address: u8, control: u8, payload: &[u8], d: &mut [u8]) -> usize
     n + 2
 }
 
-// A payload that the least limit has room for: small stores, which are soon set to zero.
+// Whether `room` octets are too few for the line of `d`: escapes are counted only where the longest line has no room.
+// The count ends at the first that has none; one to the end is made for sixteen at once, with 48 octets of constants.
+fn is_short(d: &[u8], room: usize) -> bool
+    requires { ⌜ length (now d) ≤ limitMost ⌝ }
+    ensures { λ r. ⌜ r ≡ shorter room (between (now (d .entry))) ⌝ }
+{
+    if 2 * d.len() + 2 <= room {
+        return false;
+    }
+    let mut len = d.len() + 2;
+    let mut i = 0;
+    while i < d.len() {
+        if is_special(d[i]) {
+            len += 1;
+            if room < len {
+                return true;
+            }
+        }
+        i += 1;
+    }
+    room < len
+}
+
+// Hands the line of `d` out, escaped straight into `out`.
+fn hand_line(d: &[u8], out: &mut [u8]) -> Handed
+    requires { ⌜ length (now d) ≤ limitMost ⌝ }
+    ensures { λ r. ⌜ Hands (handedOut (between (now (d .entry))) (length (now (out .entry))))
+        (now (out .entry)) r (now (out .exit)) ⌝ }
+{
+    if is_short(d, out.len()) {
+        return Handed::Refused(Refusal::NoRoom);
+    }
+    Handed::Octets(put_between(d, out))
+}
+
+// A payload that the least limit has room for: a small store, which is soon set to zero.
 fn write_short(address: u8, control: u8, payload: &[u8], out: &mut [u8]) -> Handed
     requires { ⌜ length (now payload) ≤ payloadMost limitLeast ⌝ }
     ensures { λ r. ⌜ Hands (handedOut (lineOf (address ∷ control ∷ now (payload .entry))) (length (now (out .entry))))
@@ -103,9 +136,7 @@ fn write_short(address: u8, control: u8, payload: &[u8], out: &mut [u8]) -> Hand
 {
     let mut d = [0u8; LIMIT_LEAST];
     let n = assemble(address, control, payload, &mut d);
-    let mut line = [0u8; LINE_MOST];
-    let len = put_between(&d[..n], &mut line);
-    refusal::hand_out(&line[..len], out)
+    hand_line(&d[..n], out)
 }
 
 // A longer one. Apart from the other, so that the compiler knows how long each store is.
@@ -116,13 +147,10 @@ fn write_long(address: u8, control: u8, payload: &[u8], out: &mut [u8]) -> Hande
 {
     let mut d = [0u8; LIMIT_MOST];
     let n = assemble(address, control, payload, &mut d);
-    let mut line = [0u8; LONGEST_LINE];
-    let len = put_between(&d[..n], &mut line);
-    refusal::hand_out(&line[..len], out)
+    hand_line(&d[..n], out)
 }
 
-// Writes flag, frame, flag to the start of `out`, with the frame limit `limit`. Where the caller's limit is the least one,
-// the compiler sees that no longer payload is written.
+// Writes flag, frame, flag to the start of `out`, with the frame limit `limit`.
 pub fn write(limit: usize, address: u8, control: u8, payload: &[u8], out: &mut [u8]) -> Handed
     ensures { λ r. ⌜ Hands (written limit address control (now (payload .entry)) (length (now (out .entry))))
         (now (out .entry)) r (now (out .exit)) ⌝ }
@@ -133,6 +161,7 @@ pub fn write(limit: usize, address: u8, control: u8, payload: &[u8], out: &mut [
     if payload.len() <= PAYLOAD_MOST {
         return write_short(address, control, payload, out);
     }
+    // Only for the compiler: a caller with the constant 78 does without the long store.
     if limit <= LIMIT_LEAST {
         return Handed::Refused(Refusal::PayloadTooLong);
     }

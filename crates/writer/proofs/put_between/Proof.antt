@@ -5,15 +5,15 @@ use mathlib.Core.List.{append-nil}
 use Prim.Native.Nat.{ℕ, _+_, _*_, _-_, _/_, _%_, _<_, _≤_}
 use native.Mathlib.Omega.{arith}
 use lib.ListN.{length, drop, length-set}
-use Rattle.octets.proofs.Runs.{Run, run-put, run-done}
+use Rattle.octets.proofs.Runs.{Run, run-all, run-put, run-done}
 use Rattle.frame.specs.Line.{flag, onLine}
-use Rattle.frame.proofs.Escapes.{octet-few, rest-few, line-four, between-put}
+use Rattle.frame.proofs.Escapes.{length-between, line-four, four-long, between-put}
 use Rattle.writer.proofs.put_between.Statement.{statement}
 use Rattle.writer.proofs.put_between.Tie as tie
 
 abbrev Inv-loop : tie.InvT-loop
 Inv-loop d line₀ n₀ i₀ whole line n i =
-    (i ≤ length d) × (i % 4 ≡ 0) × (n ≤ 1 + 2 * i) × (length line ≡ length line₀) × (2 * length d + 2 ≤ length line)
+    (i % 4 ≡ 0) × (length line ≡ length line₀) × (length (onLine d) + 2 ≤ length line)
     × Run line n (onLine (drop i d)) line₀ 1 (onLine d)
 
 abbrev μ-loop : tie.MeasureT-loop
@@ -24,19 +24,25 @@ four-inside : {i n : ℕ} → i < n / 4 * 4 → i % 4 ≡ 0 → i + 3 < n
 four-inside h e = omega (arith, h, e)
 
 slice-write-line : tie.Need-slice-write-line Inv-loop μ-loop
-slice-write-line c = search needs
+slice-write-line c = omega (arith, length-between (c .before .before .args .d .now))
 
 mul-whole : tie.Need-mul-whole Inv-loop μ-loop
 mul-whole c = search needs
 
 loop-holds : tie.Need-loop-holds Inv-loop μ-loop
-loop-holds c = search needs
+loop-holds c =
+    let long = length-between (c .before .before .args .d .now) in
+    (refl, refl, simp length-set (omega arith), run-all)
 
 shared-slice-read-put-octet : tie.Need-shared-slice-read-put-octet Inv-loop μ-loop
 shared-slice-read-put-octet c = search needs
 
 put-octet-requires : tie.Need-put-octet-requires Inv-loop μ-loop
-put-octet-requires c κs = search needs
+put-octet-requires c κs =
+    let test = c .before .before in
+    let at = test .before in
+    let turn = four-inside (test .loop-test .taken) (at .loop .inv .0) in
+    omega (arith, four-long (at .before .before .before .args .d .now) (at .loop .i) turn)
 
 add-put-octet : tie.Need-add-put-octet Inv-loop μ-loop
 add-put-octet c = search needs
@@ -46,8 +52,10 @@ shared-slice-read-put-octet-2 c = search needs
 
 put-octet-requires-2 : tie.Need-put-octet-requires-2 Inv-loop μ-loop
 put-octet-requires-2 c κs =
-    let few = octet-few _ (c .before .before .before .before .put-octet .ensures) in
-    omega arith
+    let test = c .before .before .before .before .before .before .before in
+    let at = test .before in
+    let turn = four-inside (test .loop-test .taken) (at .loop .inv .0) in
+    omega (arith, four-long (at .before .before .before .args .d .now) (at .loop .i) turn)
 
 add-put-octet-2 : tie.Need-add-put-octet-2 Inv-loop μ-loop
 add-put-octet-2 c = search needs
@@ -57,10 +65,11 @@ shared-slice-read-put-octet-3 c = search needs
 
 put-octet-requires-3 : tie.Need-put-octet-requires-3 Inv-loop μ-loop
 put-octet-requires-3 c κs =
-    let second = c .before .before .before .before in
-    let few = octet-few _ (second .put-octet2 .ensures) in
-    let few₁ = octet-few _ (second .before .before .before .before .before .put-octet .ensures) in
-    omega arith
+    let first = c .before .before .before .before .before .before .before .before .before in
+    let test = first .before .before .before in
+    let at = test .before in
+    let turn = four-inside (test .loop-test .taken) (at .loop .inv .0) in
+    omega (arith, four-long (at .before .before .before .args .d .now) (at .loop .i) turn)
 
 add-put-octet-3 : tie.Need-add-put-octet-3 Inv-loop μ-loop
 add-put-octet-3 c = search needs
@@ -70,15 +79,12 @@ shared-slice-read-put-octet-4 c = search needs
 
 put-octet-requires-4 : tie.Need-put-octet-requires-4 Inv-loop μ-loop
 put-octet-requires-4 c κs =
-    let third = c .before .before .before .before in
-    let second = third .before .before .before .before .before in
+    let second = c .before .before .before .before .before .before .before .before .before in
     let first = second .before .before .before .before .before in
     let test = first .before .before .before in
-    let few₃ = octet-few _ (third .put-octet3 .ensures) in
-    let few₂ = octet-few _ (second .put-octet2 .ensures) in
-    let few₁ = octet-few _ (first .put-octet .ensures) in
-    let turn = four-inside (test .loop-test .taken) (test .before .loop .inv .1) in
-    omega (arith, turn, test .before .loop .inv .2, test .before .before .before .before .pre)
+    let at = test .before in
+    let turn = four-inside (test .loop-test .taken) (at .loop .inv .0) in
+    omega (arith, four-long (at .before .before .before .args .d .now) (at .loop .i) turn)
 
 add-i : tie.Need-add-i Inv-loop μ-loop
 add-i c = search needs
@@ -94,47 +100,33 @@ loop-again c =
     let first = second .before .before .before .before .before in
     let test = first .before .before .before in
     let at = test .before .loop .inv in
-    let few₄ = octet-few _ (fourth .put-octet4 .ensures) in
-    let few₃ = octet-few _ (third .put-octet3 .ensures) in
-    let few₂ = octet-few _ (second .put-octet2 .ensures) in
-    let few₁ = octet-few _ (first .put-octet .ensures) in
-    let turn = four-inside (test .loop-test .taken) (at .1) in
-    let run₁ = run-put _ (first .put-octet .ensures) (line-four _ _ turn) (at .5) in
+    let turn = four-inside (test .loop-test .taken) (at .0) in
+    let run₁ = run-put _ (first .put-octet .ensures) (line-four _ _ turn) (at .3) in
     let run₂ = run-put _ (second .put-octet2 .ensures) refl run₁ in
-    let run₃ = run-put _ (third .put-octet3 .ensures) refl run₂ in (
-      omega (arith, turn),
-      search needs,
-      omega (arith, at .2),
-      search needs,
-      search needs,
-      run-put _ (fourth .put-octet4 .ensures) refl run₃,
-    )
+    let run₃ = run-put _ (third .put-octet3 .ensures) refl run₂ in
+    (search needs, search needs, search needs, run-put _ (fourth .put-octet4 .ensures) refl run₃)
 
 put-rest-requires : tie.Need-put-rest-requires Inv-loop μ-loop
 put-rest-requires c κs = search needs
 
 slice-write-line-2 : tie.Need-slice-write-line-2 Inv-loop μ-loop
-slice-write-line-2 c =
-    let at = c .before .before .before .before .before in
-    let few = rest-few (at .before .before .before .args .d .now) (at .loop .i) (c .before .before .put-rest .ensures) in
-    omega (arith, few, at .loop .inv, at .before .before .before .pre, c .before .line5 .given)
+slice-write-line-2 c = search needs
 
 add-result : tie.Need-add-result Inv-loop μ-loop
 add-result c =
-    let at = c .before .before .before .before .before in
-    let few = rest-few (at .before .before .before .args .d .now) (at .loop .i) (c .before .before .put-rest .ensures) in
-    omega (arith, few, at .loop .inv, at .before .before .before .pre)
+    let start = c .before .before .before .before .before .before .before .before in
+    omega (arith, length-between (start .args .d .now), start .pre)
 
 same-length : tie.Need-same-length Inv-loop μ-loop
 same-length c =
     let at = c .before .before .before .before .before in
     let long = length-set (at .before .before .before .args .line .now) 0 flag in
-    simp length-set (omega (arith, c .before .line5 .given, at .loop .inv .3, long))
+    simp length-set (omega (arith, c .before .line5 .given, at .loop .inv .1, long))
 
 returns : tie.Need-returns Inv-loop μ-loop
 returns c =
     let put = c .before .before .put-rest .ensures in
-    let run = c .before .before .before .before .before .loop .inv .5 in
+    let run = c .before .before .before .before .before .loop .inv .3 in
     between-put _ refl (run-done refl (run-put _ put (sym (append-nil _)) run)) refl
 
 pub put-between-spec : {M : Type 1} → statement M

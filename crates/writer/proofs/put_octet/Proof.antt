@@ -4,7 +4,7 @@ use mathlib.Core.Path.{sym, ap, _∙_}
 use mathlib.Core.Logic.{⊎-elim}
 use native.Mathlib.Omega.{arith}
 use lib.ListN.{length, length-set}
-use Rattle.frame.proofs.Escapes.{special-put, other-put}
+use Rattle.frame.proofs.Escapes.{special-two, other-one, special-put, other-put}
 use Rattle.writer.proofs.put_octet.Statement.{statement}
 use Rattle.writer.proofs.put_octet.Tie as tie
 
@@ -12,25 +12,27 @@ is-special-requires : tie.Need-is-special-requires
 is-special-requires c κs = search needs
 
 slice-write-line : tie.Need-slice-write-line
-slice-write-line c = search needs
+slice-write-line c =
+    let two = special-two _ (sym (c .before .is-special .ensures) ∙ c .if1 .taken) in
+    omega arith
 
 add-n : tie.Need-add-n
 add-n c = search needs
 
 slice-write-line-2 : tie.Need-slice-write-line-2
 slice-write-line-2 c =
-    let room = c .before .before .before .pre in
+    let told = sym (c .before .is-special .ensures) in
     ⊎-elim
-    (λ w. omega (arith, w .2, simp length-set at (ap length (w .1)), room))
-    (λ w. omega (arith, w .2, ap length (w .1), room))
+    (λ w. let two = special-two _ (told ∙ w .0 .taken) in omega (arith, simp length-set at (ap length (w .1))))
+    (λ w. let one = other-one _ (told ∙ w .0 .left) in omega (arith, ap length (w .1)))
     (c .if1 .came)
 
 add-result : tie.Need-add-result
 add-result c =
-    let start = c .before .before .before .before in
+    let told = sym (c .before .before .is-special .ensures) in
     ⊎-elim
-    (λ w. omega (arith, w .2, start .pre, start .good))
-    (λ w. omega (arith, w .2, start .pre, start .good))
+    (λ w. let two = special-two _ (told ∙ w .0 .taken) in omega arith)
+    (λ w. let one = other-one _ (told ∙ w .0 .left) in omega arith)
     (c .before .if1 .came)
 
 same-length : tie.Need-same-length

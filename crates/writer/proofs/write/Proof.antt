@@ -29,7 +29,8 @@ returns-2 c =
     let asked = c .before .before .before .before in
     let limit = sym (asked .before .before .is-limit .ensures) ∙ not-false _ (asked .before .if1 .left) in
     let least = is-limit-exactly _ .0 limit in
-    hands-is (sym (payload-fits _ limit _ _ _ _ (omega (arith, asked .if2 .taken)))) (c .before .before .write-short .ensures)
+    hands-is (sym (payload-fits _ limit _ _ _ _ (omega (arith, asked .if2 .taken))))
+    (c .before .before .write-short .ensures)
 
 returns-3 : tie.Need-returns-3
 returns-3 c =
@@ -61,7 +62,8 @@ returns-5 c =
     let asked = c .before .before .before .before in
     let limit = sym (asked .before .before .before .before .is-limit .ensures)
     ∙ not-false _ (asked .before .before .before .if1 .left) in
-    hands-is (sym (payload-fits _ limit _ _ _ _ (omega (arith, asked .if4 .left)))) (c .before .before .write-long .ensures)
+    hands-is (sym (payload-fits _ limit _ _ _ _ (omega (arith, asked .if4 .left))))
+    (c .before .before .write-long .ensures)
 
 pub write-spec : {M : Type 1} → statement M
 write-spec =
