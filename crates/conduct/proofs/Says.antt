@@ -36,7 +36,7 @@ use Rattle.xid_answer.specs.Answer.{scanParams, assignmentParams, scanAnswer, a
 use Rattle.xid_answer.specs.Answer.{lengthValue, negotiationParams, negotiationAnswer}
 use Rattle.xid_answer.proofs.Stored.{negotiation-field, length-negotiation}
 use Rattle.xid_answer.proofs.Lengths.{scan-field, assignment-field}
-use Rattle.control.specs.declared.Asked.{Asked}
+use Rattle.control.specs.declared.AskedFor.{AskedFor}
 use Rattle.station.specs.declared.Say.{Say}
 use Rattle.station.specs.declared.Turn.{Turn}
 use Rattle.station.specs.Station.{resent, awaiting, answersWith}
@@ -357,7 +357,7 @@ module _ (d : Device) (f : List ℕ) where
   unfolding frmr
   rejects s why = ap (λ (k : ℕ). some (d .station .desk .address ∷ 0x97 ∷ controlOf f ∷ k ∷ why ∷ [])) (counts-are s)
 
-  limited-says : (n : ℕ) (a : Asked) → frameBy (limitedTo d n) (Say.Negotiated a)
+  limited-says : (n : ℕ) (a : AskedFor) → frameBy (limitedTo d n) (Say.Negotiated a)
       ≡ some (d .station .desk .address ∷ 0xBF ∷ negotiationAnswer a n)
   unfolding frameBy controlBy payloadBy limitedTo deviceOf
   limited-says n a = refl

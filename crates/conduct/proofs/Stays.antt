@@ -24,7 +24,7 @@ use Rattle.record.specs.Allowed.{linkAllowed, allowedDevice, replyMost}
 use Rattle.record.specs.Desk.{withLimit}
 use Rattle.record.specs.Changes.{unsaidAt, emptiedAs, endedAs, limitedTo}
 use Rattle.record.proofs.Stays.{sound, allowed-by, limit-allowed, emptied-stays, end-stays}
-use Rattle.control.specs.declared.Asked.{Asked}
+use Rattle.control.specs.declared.AskedFor.{AskedFor}
 use Rattle.negotiation.specs.declared.Offer.the-variants.{Agreed}
 use Rattle.negotiation.specs.Negotiation.{offerOf}
 use Rattle.negotiation.proofs.Exactly.{offer-exactly, agreed-least}
@@ -111,7 +111,7 @@ limited-stays d n allowed ok =
       owed = w .owed;
     })
 
-agreed-stays : (d : Device) (m : List ℕ) (n : ℕ) (a : Asked) → allowedDevice d ≡ true
+agreed-stays : (d : Device) (m : List ℕ) (n : ℕ) (a : AskedFor) → allowedDevice d ≡ true
     → offerOf (limitOf d) m ≡ Agreed n a → allowedDevice (limitedTo d n) ≡ true
 agreed-stays d m n a allowed e =
     let (ps, formed, is, asked, one) = offer-exactly (limitOf d) m n a .0 e in

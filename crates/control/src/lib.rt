@@ -19,7 +19,7 @@ pub enum Order {
 
 // Which parameters a negotiation asks, and its answer has: the lengths sent and received, the windows of sending and
 // receiving.
-pub struct Asked {
+pub struct AskedFor {
     pub sent: bool,
     pub received: bool,
     pub sending: bool,

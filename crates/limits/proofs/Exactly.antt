@@ -5,7 +5,7 @@ use mathlib.Core.Logic.{_↔_}
 use Prim.Native.Nat.{ℕ}
 use borrow.Author.Tests.{leb-true, le-leb}
 use Rattle.octets.proofs.Words.{and-parts}
-use Rattle.limits.specs.Limits.{limitLeast, limitMost, isLimit, Limited}
+use Rattle.limits.specs.Limits.{limitLeast, isLimit, Limited}
 
 -- "78 to 260"
 pub is-limit-exactly : (N : ℕ) → isLimit N ≡ true ↔ Limited N
@@ -15,11 +15,7 @@ is-limit-exactly N = (
   λ h. rw (le-leb 78 N (h .0), le-leb N 260 (h .1)),
 )
 
--- 01's limit is one, and so is the largest
+-- 01's limit is one
 pub limit-least : isLimit limitLeast ≡ true
 unfolding isLimit
 limit-least = refl
-
-pub limit-largest : isLimit limitMost ≡ true
-unfolding isLimit
-limit-largest = refl

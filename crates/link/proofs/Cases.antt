@@ -19,7 +19,7 @@ use Rattle.record.specs.declared.Link.the-variants.{NoAddress, AddressAssigned,
 use Rattle.record.specs.declared.Device.{Device}
 use Rattle.record.specs.Allowed.{identityOf, limitOf}
 use Rattle.record.specs.Changes.{endedAs, limitedTo}
-use Rattle.control.specs.declared.Asked.{Asked}
+use Rattle.control.specs.declared.AskedFor.{AskedFor}
 use Rattle.negotiation.specs.declared.Offer.{Offer}
 use Rattle.negotiation.specs.declared.Offer.the-variants.{Malformed, Agreed}
 use Rattle.negotiation.specs.Negotiation.{offerOf}
@@ -132,7 +132,7 @@ module _ (d : Device) (f : List ℕ) (P : Turn → Type 0)
     (scanned : Everyone d f → readOf (identityOf (d .plate)) (drop 2 f) ≡ xids.Xid.Scan → P (saying d Say.Scanned))
     (assigned : (a : ℕ) → Everyone d f → readOf (identityOf (d .plate)) (drop 2 f) ≡ xids.Xid.Assignment a
     → P (saying (endedAs d a AddressAssigned) Say.Assigned))
-    (negotiated : (n : ℕ) (a : Asked) → OwnXid d f → offerOf (limitOf d) (drop 2 f) ≡ Agreed n a
+    (negotiated : (n : ℕ) (a : AskedFor) → OwnXid d f → offerOf (limitOf d) (drop 2 f) ≡ Agreed n a
     → P (saying (limitedTo d n) (Say.Negotiated a)))
     (begins : Own d f Snrm → d .station .link ≡ AddressAssigned → P (saying (begun d) ua))
     (refuses : (o : Order) → Own d f o → isSnrm o ≡ false → d .station .link ≡ AddressAssigned → P (saying d dm))

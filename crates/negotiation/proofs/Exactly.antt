@@ -16,7 +16,7 @@ use Rattle.params.specs.declared.Identifier.{Identifier}
 use Rattle.params.specs.Field.{Param, rightLength, WellFormed, paramsOf, valueFor}
 use Rattle.params.proofs.Exact.{params-exactly, one-reading}
 use Rattle.params.proofs.Kept.{both-of}
-use Rattle.control.specs.declared.Asked.{Asked}
+use Rattle.control.specs.declared.AskedFor.{AskedFor}
 use Rattle.negotiation.specs.declared.Offer.the-variants.{Malformed, Agreed}
 use Rattle.negotiation.specs.Negotiation.{negotiating, bitsIn, smallerOf, limitFor, limitAsked, agreedLimit}
 use Rattle.negotiation.specs.Negotiation.{askedIn, offered, offerOf}
@@ -63,7 +63,7 @@ negotiating-exactly n k = (λ e. there (some-row (negotiating .table) n k e), ba
     back (inr (inr eight, one)) = rw (eight, one)
 
 -- a payload that is no negotiation agrees on nothing
-not-agreed : {N : ℕ} {a : Asked} → Malformed ≡ Agreed N a → ⊥
+not-agreed : {N : ℕ} {a : AskedFor} → Malformed ≡ Agreed N a → ⊥
 not-agreed e = let z : _≡_ {A = ℕ} 0 1 = cc in omega arith
 
 module _ (N : ℕ) (m : List ℕ) where
@@ -88,7 +88,7 @@ module _ (N : ℕ) (m : List ℕ) where
   )
 
   -- an agreement comes of a well-formed payload alone, by its parameters, which are read in one way
-  pub offer-exactly : (L : ℕ) (a : Asked) → offerOf N m ≡ Agreed L a
+  pub offer-exactly : (L : ℕ) (a : AskedFor) → offerOf N m ≡ Agreed L a
       ↔ ((ps : List Param) × WellFormed negotiating m ps × (L ≡ agreedLimit N ps) × (a ≡ askedIn ps)
       × ((qs : List Param) → WellFormed negotiating m qs → ps ≡ qs))
   offer-exactly L a = (there, λ (ps, w, l, b, one). offer-agreed ps w ∙ rw (l, b))

@@ -7,7 +7,7 @@ use Prim.Native.Nat.{ℕ}
 use Rattle.octets.specs.Octets.{holds}
 use Rattle.params.specs.Field.{opened, triplesAfter, before, checked, allRight, rightLength, identifiers}
 use Rattle.params.specs.Field.{noneTwice, paramsOf, valueFor, given}
-use Rattle.control.specs.declared.Asked.{Asked}
+use Rattle.control.specs.declared.AskedFor.{AskedFor}
 use Rattle.negotiation.specs.declared.Offer.{Offer}
 use Rattle.negotiation.specs.declared.Offer.the-variants.{Malformed, Agreed}
 use Rattle.negotiation.specs.Negotiation.{bitsFrom, smallerOf, limitFor, limitAsked, agreedLimit, askedIn}
@@ -18,7 +18,7 @@ pub data Row : Type 0 where
   _gets_ : List ℕ → Offer → Row
 
 -- which of 5, 6, 7 and 8 are asked
-abbrev pub asks : Bool → Bool → Bool → Bool → Asked
+abbrev pub asks : Bool → Bool → Bool → Bool → AskedFor
 asks five six seven eight = record { sent = five; received = six; sending = seven; receiving = eight }
 
 -- each payload comes to that

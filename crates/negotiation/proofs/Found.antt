@@ -13,7 +13,7 @@ use Rattle.params.specs.declared.Part.the-variants.{Absent, At}
 use Rattle.params.specs.Field.{given}
 use Rattle.params.specs.Walk.{placeIn, partIn, isAbsent, foundIn, valueAt}
 use Rattle.params.proofs.Values.{walk-formed, walk-malformed}
-use Rattle.control.specs.declared.Asked.{Asked}
+use Rattle.control.specs.declared.AskedFor.{AskedFor}
 use Rattle.negotiation.specs.declared.Offer.the-variants.{Malformed, Agreed}
 use Rattle.negotiation.specs.Negotiation.{negotiating, bitsIn, smallerOf, limitFor, limitAsked, agreedLimit}
 use Rattle.negotiation.specs.Negotiation.{askedIn, offered, offerOf}
@@ -60,7 +60,7 @@ module _ (m : List ℕ) (N : ℕ) {r : Found} (e : r ≡ foundIn negotiating m) 
   unfolding offerOf offered
   read-malformed f = rw (walk-malformed negotiating m e f)
 
-  pub read-agreed : {a : Asked} {p q : Part} {x : ℕ} → r .formed ≡ true
+  pub read-agreed : {a : AskedFor} {p q : Part} {x : ℕ} → r .formed ≡ true
       → (a .sent ≡ not (isAbsent (partIn (r .parts) 0))) × (a .received ≡ not (isAbsent (partIn (r .parts) 1)))
       × (a .sending ≡ not (isAbsent (partIn (r .parts) 2))) × (a .receiving ≡ not (isAbsent (partIn (r .parts) 3)))
       → p ≡ partIn (r .parts) 0 → q ≡ partIn (r .parts) 1 → x ≡ limitAsked N (smallerOf (valueAt m p) (valueAt m q))

@@ -17,7 +17,7 @@ use Rattle.limits.specs.Limits.{limitLeast, limitMost, around, payloadMost}
 use Rattle.params.specs.declared.Group.{Group}
 use Rattle.params.specs.declared.Identifier.{Identifier}
 use Rattle.params.specs.Field.{Param, _has_to_, paramsOf, valueFor, given}
-use Rattle.control.specs.declared.Asked.{Asked}
+use Rattle.control.specs.declared.AskedFor.{AskedFor}
 use Rattle.negotiation.specs.declared.Offer.{Offer}
 use Rattle.negotiation.specs.declared.Offer.the-variants.{Malformed, Agreed}
 
@@ -78,7 +78,7 @@ limitAsked N (some bits) = limitFor bits
 unfoldable pub agreedLimit : ℕ → List Param → ℕ
 agreedLimit N ps = limitAsked N (smallerOf (valueFor sentId ps) (valueFor receivedId ps))
 
-unfoldable pub askedIn : List Param → Asked
+unfoldable pub askedIn : List Param → AskedFor
 askedIn ps =
     record {
       sent = given (valueFor sentId ps);

@@ -8,7 +8,7 @@ ghost use lib.ListN.{take, drop};
 ghost use Rattle.limits.specs.Limits.{limitMost, payloadMost};
 ghost use Rattle.params.specs.Walk.{partIn, isAbsent, valueAt};
 ghost use Rattle.negotiation.specs.Negotiation.{negotiating, bitsIn, smallerOf, limitFor, limitAsked, offerOf};
-use control::Asked;
+use control::AskedFor;
 use limits::AROUND;
 use limits::LIMIT_LEAST;
 use limits::LIMIT_MOST;
@@ -38,7 +38,7 @@ const WINDOW_OCTETS: usize = 1;
 // What a payload comes to: no negotiation; or the frame limit from now on, and what was asked.
 pub enum Offer {
     Malformed,
-    Agreed { limit: usize, asked: Asked },
+    Agreed { limit: usize, asked: AskedFor },
 }
 
 // The group of a negotiation: its identifiers, and how many octets each may have. A table has five rows, and no length fits the
@@ -149,11 +149,11 @@ fn is_given(part: Part) -> bool
 }
 
 // Which identifiers have a part, each at its place in the table.
-fn asked_by(parts: [Slot; params::ROWS]) -> Asked
+fn asked_by(parts: [Slot; params::ROWS]) -> AskedFor
     ensures { λ r. ⌜ (r .sent ≡ not (isAbsent (partIn parts 0))) × (r .received ≡ not (isAbsent (partIn parts 1)))
         × (r .sending ≡ not (isAbsent (partIn parts 2))) × (r .receiving ≡ not (isAbsent (partIn parts 3))) ⌝ }
 {
-    Asked {
+    AskedFor {
         sent: is_given(params::part_at(parts, 0)),
         received: is_given(params::part_at(parts, 1)),
         sending: is_given(params::part_at(parts, 2)),

@@ -19,7 +19,7 @@ use Rattle.payload.specs.Payloads.{payloadOf}
 use Rattle.payload.proofs.Laws.{payload-says}
 use Rattle.report.specs.Reports.{indicationOf}
 use Rattle.octets.proofs.Takes.{take-within}
-use Rattle.control.specs.declared.Asked.{Asked}
+use Rattle.control.specs.declared.AskedFor.{AskedFor}
 use Rattle.xid_answer.specs.Answer.{scanAnswer, assignmentAnswer, negotiationAnswer}
 use Rattle.station.specs.declared.Say.{Say}
 use Rattle.station.specs.declared.Say.the-variants.{Scanned, Assigned, Negotiated}
@@ -47,7 +47,7 @@ module _ (d : Device) (x : Say) (r : Payload) where
   unfolding payloadBy
   assignment-said e h = holds-said r (assignmentAnswer (identityOf (d .plate))) h ∙ sym (ap (payloadBy d) e)
 
-  pub negotiation-said : (a : Asked) → x ≡ Negotiated a → r ≡ payloadOf (negotiationAnswer a (limitOf d))
+  pub negotiation-said : (a : AskedFor) → x ≡ Negotiated a → r ≡ payloadOf (negotiationAnswer a (limitOf d))
       → octetsHeld r ≡ payloadBy d x
   unfolding payloadBy
   negotiation-said a e h = holds-said r (negotiationAnswer a (limitOf d)) h ∙ sym (ap (payloadBy d) e)

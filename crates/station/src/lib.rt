@@ -2,7 +2,7 @@
 ghost use mathlib.Core.Path.{_≡_};
 ghost use Rattle.station.specs.Station.{resent, answersWith};
 ghost use Rattle.station.specs.Turns.{answering};
-use control::Asked;
+use control::AskedFor;
 use record::Device;
 use record::Link;
 use record::Payload;
@@ -19,7 +19,7 @@ pub enum Say {
     Pend { control: u8 },
     Scanned,
     Assigned,
-    Negotiated { asked: Asked },
+    Negotiated { asked: AskedFor },
 }
 
 // The device after a frame, and what it says.

@@ -18,7 +18,7 @@ use Rattle.params.specs.declared.Identifier.{Identifier}
 use Rattle.params.specs.Field.{Param, _is_, tripleOf, fieldOf, xidPayload, rightLength, identifiers, AllRight}
 use Rattle.params.specs.Field.{WellFormed, noneTwice, valueFor, given}
 use Rattle.params.proofs.Exact.{once-different}
-use Rattle.control.specs.declared.Asked.{Asked}
+use Rattle.control.specs.declared.AskedFor.{AskedFor}
 use Rattle.negotiation.specs.declared.Offer.the-variants.{Agreed}
 use Rattle.negotiation.specs.Negotiation.{receivedId, sendingId, receivingId, negotiating, bitsIn, smallerOf}
 use Rattle.negotiation.specs.Negotiation.{agreedLimit, askedIn, offerOf}
@@ -75,7 +75,7 @@ pub bits-answered : (N : ℕ) → isLimit N ≡ true → bitsIn (lengthValue N) 
 unfolding lengthValue
 bits-answered N ok = bits-two _ _ ∙ omega (arith, is-limit-exactly N .0 ok .0, is-limit-exactly N .0 ok .1)
 
-module _ (a : Asked) (N : ℕ) where
+module _ (a : AskedFor) (N : ℕ) where
   -- the parameters from 8, 7 and 6 on
   abbrev fromEight : List Param
   fromEight = ifAsked (a .receiving) (receivingId is windowValue) []

@@ -15,7 +15,7 @@ use Rattle.record.specs.Allowed.{replyMost}
 use Rattle.params.specs.Field.{xidPayload, rightLength, identifiers, WellFormed, noneTwice}
 use Rattle.params.proofs.Exact.{once-different}
 use Rattle.params.proofs.Kept.{of-both}
-use Rattle.control.specs.declared.Asked.{Asked}
+use Rattle.control.specs.declared.AskedFor.{AskedFor}
 use Rattle.xid.specs.Addressing.{identityId, addressId, kindId, addressing}
 use Rattle.xid_answer.specs.Answer.{scanParams, assignmentParams, scanAnswer, assignmentAnswer, negotiationAnswer}
 use Rattle.xid_answer.proofs.Stored.{scan-length, assignment-length, length-scan, length-assignment}
@@ -32,7 +32,7 @@ unfolding assignmentAnswer xidPayload
 assignment-field i = assignment-length i
 
 -- at most 17 octets, so it fits a reply
-pub negotiation-short : (a : Asked) (N : ℕ) → length (negotiationAnswer a N) ≤ replyMost
+pub negotiation-short : (a : AskedFor) (N : ℕ) → length (negotiationAnswer a N) ≤ replyMost
 negotiation-short a N = omega (arith, length-negotiation a N)
 
 module _ (i : List ℕ) (ok : allowedIdentity i ≡ true) where

@@ -12,7 +12,7 @@ use Rattle.octets.proofs.Stores.{sets-start}
 use Rattle.identity.specs.Identity.{width}
 use Rattle.record.specs.Allowed.{replyMost}
 use Rattle.params.specs.Field.{Param, _is_, format, tripleOf, fieldOf, xidPayload}
-use Rattle.control.specs.declared.Asked.{Asked}
+use Rattle.control.specs.declared.AskedFor.{AskedFor}
 use Rattle.negotiation.specs.Negotiation.{sentId, receivedId, sendingId, receivingId, negotiatingOctet}
 use Rattle.xid.specs.Addressing.{identityId, addressId, kindId, groupOctet}
 use Rattle.xid.specs.Match.{deviceType}
@@ -113,7 +113,7 @@ unfolding ifAsked fieldOf
 field-asked true n v ps = refl
 field-asked false n v ps = refl
 
-module _ (a : Asked) (N : ℕ) where
+module _ (a : AskedFor) (N : ℕ) where
   pub negotiation-field : fieldOf (negotiationParams a N)
       ≡ asking (a .sent) sentId (lengthValue N) ++ (asking (a .received) receivedId (lengthValue N)
       ++ (asking (a .sending) sendingId windowValue ++ (asking (a .receiving) receivingId windowValue ++ [])))
@@ -179,7 +179,7 @@ module _ (row : List ℕ) (count : ℕ) (h : length row ≡ width) {n : ℕ} (e 
       held-is (assignmentAnswer (take count row)) (rw within at w)
       (omega (arith, few, length-assignment (take count row)))
 
-pub length-negotiation : (a : Asked) (N : ℕ) → length (negotiationAnswer a N) ≤ 17
+pub length-negotiation : (a : AskedFor) (N : ℕ) → length (negotiationAnswer a N) ≤ 17
 unfolding negotiationAnswer xidPayload
 length-negotiation a N =
     let long = negotiation-length a N in
@@ -189,7 +189,7 @@ length-negotiation a N =
     most true n = omega arith
     most false n = omega arith
 
-pub negotiation-held : (a : Asked) (N : ℕ) {r : ℕ} {o : List ℕ}
+pub negotiation-held : (a : AskedFor) (N : ℕ) {r : ℕ} {o : List ℕ}
     → Puts (replicate replyMost 0) 0 (negotiationAnswer a N) r o
     → record { octets = o; len = r } ≡ held (negotiationAnswer a N)
 negotiation-held a N w = held-is (negotiationAnswer a N) w (omega (arith, length-negotiation a N))

@@ -12,7 +12,7 @@ use mathlib.Core.List.{List, [], _∷_}
 use Prim.Native.Nat.{ℕ, _*_}
 use Rattle.octets.specs.Octets.{lowOf, highOf}
 use Rattle.limits.specs.Limits.{payloadMost}
-use Rattle.control.specs.declared.Asked.{Asked}
+use Rattle.control.specs.declared.AskedFor.{AskedFor}
 use Rattle.negotiation.specs.Negotiation.{sentId, receivedId, sendingId, receivingId, negotiating}
 use Rattle.params.specs.Field.{Param, _is_, format, xidPayload}
 use Rattle.xid.specs.Addressing.{identityId, addressId, kindId, addressing}
@@ -45,14 +45,14 @@ abbrev pub windowValue : List ℕ
 windowValue = 1 ∷ []
 
 -- each identifier that was asked, ascending
-unfoldable pub negotiationParams : Asked → ℕ → List Param
+unfoldable pub negotiationParams : AskedFor → ℕ → List Param
 negotiationParams a N =
     ifAsked (a .sent) (sentId is lengthValue N)
     (ifAsked (a .received) (receivedId is lengthValue N)
     (ifAsked (a .sending) (sendingId is windowValue) (ifAsked (a .receiving) (receivingId is windowValue) [])))
 
 -- "the device answers": 0x81, 0x80, and what was asked
-unfoldable pub negotiationAnswer : Asked → ℕ → List ℕ
+unfoldable pub negotiationAnswer : AskedFor → ℕ → List ℕ
 negotiationAnswer a N = xidPayload negotiating (negotiationParams a N)
 
 abbrev pub opening : ℕ → ℕ → List ℕ

@@ -13,7 +13,7 @@ ghost use Rattle.params.specs.Field.{_is_, tripleOf};
 ghost use Rattle.xid_answer.specs.Answer.{opening, scanAnswer, assignmentAnswer, lengthValue, negotiationAnswer};
 ghost use Rattle.octets.specs.Puts.{Puts};
 ghost use Rattle.payload.specs.Payloads.{payloadOf as held};
-use control::Asked;
+use control::AskedFor;
 use identity::OCTETS;
 use limits::AROUND;
 use negotiation::NEGOTIATING;
@@ -103,7 +103,7 @@ fn put_if(out: &mut [u8], at: usize, asked: bool, id: u8, value: &[u8]) -> usize
 }
 
 // How many octets the triples of the answer to a negotiation take.
-fn field_length(asked: Asked) -> u8
+fn field_length(asked: AskedFor) -> u8
     ensures { λ r. ⌜ r ≡ cond (asked .sent) 4 0 + cond (asked .received) 4 0 + cond (asked .sending) 3 0
         + cond (asked .receiving) 3 0 ⌝ }
 {
@@ -113,7 +113,7 @@ fn field_length(asked: Asked) -> u8
         + if_asked(asked.receiving, 3)
 }
 
-fn put_negotiation_answer(out: &mut [u8], asked: Asked, limit: usize) -> usize
+fn put_negotiation_answer(out: &mut [u8], asked: AskedFor, limit: usize) -> usize
     ensures { λ r. ⌜ Puts (now (out .entry)) 0 (negotiationAnswer asked limit) r (now (out .exit)) ⌝ }
 {
     let bits = length_value(limit);
@@ -162,7 +162,7 @@ pub fn assignment_answer(plate: Plate) -> Payload
 }
 
 // The payload of the answer to a negotiation that asked these, with the frame limit that was agreed.
-pub fn negotiation_answer(asked: Asked, limit: usize) -> Payload
+pub fn negotiation_answer(asked: AskedFor, limit: usize) -> Payload
     ensures { λ r. ⌜ r ≡ held (negotiationAnswer asked limit) ⌝ }
 {
     let mut octets = [0u8; REPLY];
