@@ -293,19 +293,33 @@ size_t baseline_decode_as(const uint8_t *src, size_t len, uint8_t *out, size_t r
     return delivered(baseline_check_as, LIMIT, d, n, out, room);
 }
 
+/* whether room is too little for the line of n octets: their escapes are counted only where the longest line has none */
+static bool is_short(const uint8_t *d, size_t n, size_t room)
+{
+    size_t line = n + 2;
+    if (2 * n + 2 <= room)
+        return false;
+    for (size_t i = 0; i < n; i++)
+        if ((d[i] == FLAG || d[i] == ESCAPE) && room < ++line)
+            return true;
+    return room < line;
+}
+
 size_t baseline_write_as(uint8_t address, uint8_t control, const uint8_t *payload, size_t len, uint8_t *out, size_t room)
 {
-    uint8_t d[LIMIT], line[2 * LIMIT + 2];
+    uint8_t d[LIMIT];
     size_t n = 0, i;
     if (len > LIMIT - 4)
         return REFUSED + 9;
     assemble(baseline_check_as, address, control, payload, len, d);
-    line[n++] = FLAG;
+    if (is_short(d, len + 4, room))
+        return REFUSED + 5;
+    out[n++] = FLAG;
     size_t whole = (len + 4) / 4 * 4;
     for (i = 0; i < whole; i += 4)
-        n = put(line, put(line, put(line, put(line, n, d[i]), d[i + 1]), d[i + 2]), d[i + 3]);
+        n = put(out, put(out, put(out, put(out, n, d[i]), d[i + 1]), d[i + 2]), d[i + 3]);
     for (; i < len + 4; i++)
-        n = put(line, n, d[i]);
-    line[n++] = FLAG;
-    return handed(line, n, out, room);
+        n = put(out, n, d[i]);
+    out[n++] = FLAG;
+    return n;
 }

@@ -141,11 +141,11 @@ static void decode(decoder *f, long count)
         sink = f(line + 1, n, out, sizeof out);
 }
 
-static void write(writer *f, long count)
+static void write(writer *f, size_t room, long count)
 {
     const size_t n = size - 4;
     while (count--)
-        sink = f(frame[0], frame[1], frame + 2, n, out, sizeof out);
+        sink = f(frame[0], frame[1], frame + 2, n, out, room);
 }
 
 /* these two with the largest limit */
@@ -191,7 +191,9 @@ static int call(const char *what, const char *which, long count)
         if (!strcmp(what, "decode") && calls[k].decode)
             return decode(calls[k].decode, count), 0;
         if (!strcmp(what, "write") && calls[k].write)
-            return write(calls[k].write, count), 0;
+            return write(calls[k].write, sizeof out, count), 0;
+        if (!strcmp(what, "write_exact") && calls[k].write) /* with no octet to spare */
+            return write(calls[k].write, len, count), 0;
         if (!strcmp(what, "decode_n") && calls[k].decode_n)
             return decode_n(calls[k].decode_n, count), 0;
         if (!strcmp(what, "write_n") && calls[k].write_n)

@@ -14,7 +14,7 @@ use Rattle.antenna.specs.Angles.{atMost}
 use Rattle.antenna.specs.Motions.{inRange}
 use Rattle.record.specs.declared.Device.{Device}
 use Rattle.record.specs.Allowed.{allowedDevice}
-use Rattle.record.specs.Changes.{unsaidAt, emptiedAs, endedAs}
+use Rattle.record.specs.Changes.{unsaidAt, emptiedAs}
 use Rattle.record.specs.Fresh.{identityFrom, plateFrom, freshFrom, freshAntenna, level, textsAllowed, dataAllowed}
 use Rattle.record.proofs.Stays.{fresh-allowed}
 use Rattle.xid.proofs.Wild.{wild-formed}

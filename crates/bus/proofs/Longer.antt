@@ -1,5 +1,5 @@
--- Longer frames on the cable: a negotiation, written as a line, is heard and answered, both ends have the same limit then, and
--- frames up to it are heard; a frame is heard as it was put in exactly if it has room in the frame limit of the link, and gets
+-- Longer frames on the cable: a negotiation, written as a line, is heard and answered, both ends have the same limit after one that
+-- gives a length, and frames up to it are heard; a frame is heard as it was put in exactly if it has room in the frame limit of the link, and gets
 -- 2 where it has not. What a device answers in octets is read back with any limit. Assumes nothing.
 use mathlib.Core.Path.{_≡_, refl, sym, ap, ap₂, _∙_}
 use mathlib.Core.Bool.{Bool, true, false}
@@ -17,7 +17,7 @@ use Rattle.refusal.proofs.Answers.{gives-not-refuses, in-room}
 use Rattle.limits.specs.Limits.{isLimit, limitMost, frameMost, payloadMost}
 use Rattle.limits.proofs.Exactly.{is-limit-exactly}
 use Rattle.fcs.specs.Check.{withCheck}
-use Rattle.frame.specs.Line.{broken, plain, onLine, inside}
+use Rattle.frame.specs.Line.{plain, onLine, inside}
 use Rattle.frame.specs.Decode.{decoded}
 use Rattle.frame.specs.Write.{lineOf, written}
 use Rattle.frame.proofs.Assembled.{length-withCheck}
@@ -145,7 +145,7 @@ module _ (d : Device) (allowed : allowedDevice d ≡ true) (has : hasAddress (d 
         let (ok, few, fits, is) = write-line agreed a c p room l .0 e in
         rw (← is) (hears-line later a c p later-allowed os (rw limit-later few))
 
-    -- and it gives one for up to N - 4 octets of payload
+    -- such as the one that `lineWith` has, for up to N - 4 octets of payload
     pub heard-later : (a c : ℕ) (p : List ℕ) → Octets (a ∷ c ∷ p) → length p ≤ payloadMost agreed
         → hears later (lineWith agreed (a ∷ c ∷ p)) ≡ gives (reactionOf (judgedFrame later (a ∷ c ∷ p)))
     heard-later a c p os h = rw (← limit-later) (hears-with later a c p later-allowed os (rw limit-later h))

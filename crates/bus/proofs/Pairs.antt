@@ -11,7 +11,7 @@ use lib.ListN.{getD}
 use Rattle.identity.specs.Order.{lower, Ascending}
 use Rattle.record.specs.declared.Device.{Device}
 use Rattle.record.specs.Allowed.{identityOf, allowedDevice}
-use Rattle.record.specs.Changes.{unsaidAt, emptiedAs, endedAs}
+use Rattle.record.specs.Changes.{unsaidAt, emptiedAs}
 use Rattle.scan.specs.declared.State.the-variants.{Complete}
 use Rattle.scan.specs.Record.{listOf}
 use Rattle.xid.specs.Meaning.{EndOf}

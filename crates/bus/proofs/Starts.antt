@@ -18,7 +18,7 @@ use Rattle.record.specs.declared.Device.{Device}
 use Rattle.record.specs.declared.Link.{Link}
 use Rattle.record.specs.declared.Link.the-variants.{AddressAssigned}
 use Rattle.record.specs.Allowed.{allowedDevice}
-use Rattle.record.specs.Changes.{unsaidAt, emptiedAs, endedAs}
+use Rattle.record.specs.Changes.{unsaidAt, emptiedAs}
 use Rattle.record.proofs.Stays.{sound, limited}
 use Rattle.station.specs.declared.Turn.{Turn}
 use Rattle.station.specs.Turns.{saying, mute}

@@ -27,11 +27,12 @@ handed-crosses h e = record { number = e ∙ ap crossed (h .answer); octets = h 
 module _ {o o' : List ℕ} {r : ℕ} where
   -- a number below the refusals: so many octets, and they stand at the start of the output, whose rest is as it was
   pub low-told : (x : Answer (List ℕ)) → Crosses x o r o' → r < refusals
-      → (x ≡ gives (take r o')) × (o' ≡ take r o' atStartOf o)
+      → (x ≡ gives (take r o')) × (r ≡ length (take r o')) × (o' ≡ take r o' atStartOf o)
   unfolding crossed counted outAfter
   low-told (gives b) c h =
       let these : take r o' ≡ b = rw (c .number, c .octets) (take-start b o) in
-      (ap gives (sym these), c .octets ∙ ap (λ (x : List ℕ). x atStartOf o) (sym these))
+      let back = sym these in
+      (ap gives back, c .number ∙ ap length back, c .octets ∙ ap (λ (x : List ℕ). x atStartOf o) back)
   low-told (refuses k) c h = let e = c .number in absurd (omega arith)
 
   -- any other: that refusal, and the output is as it was

@@ -1,5 +1,5 @@
--- The number that crosses tells the answer: below 0x10000 the octets, at their place, and the rest of the output is as it was;
--- from there on the refusal, and all of it is. Assumes nothing.
+-- The number that crosses tells the answer: below 0x10000 how many octets, which are at their place, and the rest of the output
+-- is as it was; from there on the refusal, and all of it is. Assumes nothing.
 use mathlib.Core.Path.{_≡_}
 use mathlib.Core.List.{List, _∷_}
 use Prim.Native.Nat.{ℕ, _-_, _<_, _≤_}
@@ -19,7 +19,7 @@ use Rattle.capi.proofs.Crosses.{low-told, high-told}
 -- what the number r and the output o', which was o, tell of the answer x
 abbrev pub Tells : Answer (List ℕ) → List ℕ → ℕ → List ℕ → Type 0
 Tells x o r o' =
-    (r < refusals → (x ≡ gives (take r o')) × (o' ≡ take r o' atStartOf o))
+    (r < refusals → (x ≡ gives (take r o')) × (r ≡ length (take r o')) × (o' ≡ take r o' atStartOf o))
     × (refusals ≤ r → (x ≡ refuses (r - refusals)) × (o' ≡ o))
 
 body-short : (d : List ℕ) → length (body d) ≤ length d

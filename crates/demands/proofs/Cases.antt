@@ -247,7 +247,7 @@ further =
     -- room again after DISC
     ∷ refused (pos 0) (frame longest ∷ snrm ∷ []) (7 ∷ 0x53 ∷ []) 5
     ∷ gets (pos 0) (frame longest ∷ snrm ∷ frame (7 ∷ 0x53 ∷ []) ∷ []) (7 ∷ 0x53 ∷ []) (7 ∷ 0x1F ∷ [])
-    -- "refusal 2 means more than N", and no less: a frame of 101 octets is read then, and carried out; with 78 it is silence
+    -- "76 .. become N - 2", for a frame that is read, too: one of 101 octets gets its answer then, and with 78 silence
     ∷ gets-258 (pos 0) (frame longest ∷ snrm ∷ []) block (7 ∷ 0x30 ∷ 0x41 ∷ 0x02 ∷ 0x00 ∷ 0x0B ∷ 0x25 ∷ [])
     ∷ silent (pos 0) (snrm ∷ []) block
     -- in a session: "the device answers", and what was pending is pending

@@ -1,6 +1,6 @@
 -- How what is heard comes of decoding and of judging: the decoder's number at once, else a readable line judged; and
 -- the decoder has room in its own buffer for every frame. Assumes nothing.
-use mathlib.Core.Path.{_≡_, refl, sym, ap, _∙_}
+use mathlib.Core.Path.{_≡_, refl, sym, _∙_}
 use mathlib.Core.Bool.{Bool, true, false, cond}
 use mathlib.Core.List.{List, [], _∷_}
 use mathlib.Core.Logic.{_↔_, _⊎_, inl, inr, ⊎-elim}

@@ -11,11 +11,11 @@ use Rattle.octets.proofs.Rest.{rest}
 use Rattle.octets.proofs.Runs.{run-all, run-one, run-put, run-done}
 use Rattle.frame.specs.Line.{flag, escape, toggle, special, escaped, onLine, between}
 
-pub escaped-special : (x : ℕ) → special x ≡ true → escaped x ≡ escape ∷ bitXor x toggle ∷ []
+escaped-special : (x : ℕ) → special x ≡ true → escaped x ≡ escape ∷ bitXor x toggle ∷ []
 unfolding escaped
 escaped-special x e = rw e
 
-pub escaped-other : (x : ℕ) → special x ≡ false → escaped x ≡ x ∷ []
+escaped-other : (x : ℕ) → special x ≡ false → escaped x ≡ x ∷ []
 unfolding escaped
 escaped-other x e = rw e
 

@@ -2,20 +2,20 @@
 -- does not is the first that does, each number exactly if its condition holds and none before it. Assumes nothing.
 use mathlib.Core.Path.{_≡_, refl, sym, ap, _∙_}
 use mathlib.Core.Bool.{Bool, true, false, cond, not, _||_, or-true}
-use mathlib.Core.Logic.{_↔_, Iff·trans, _⊎_, inl, inr, ⊎-elim}
+use mathlib.Core.Logic.{_↔_, Iff·trans, _⊎_, ⊎-elim}
 use mathlib.Core.List.{List, [], _∷_}
 use mathlib.Core.Option.{Option, none, some}
 use Prim.Native.Nat.{ℕ}
 use native.Mathlib.Omega.{arith}
 use borrow.Author.Tests.{eqb-true, eqb-false, eq-eqb, ne-eqb, not-true, not-false}
 use lib.Dec.{eqb}
-use lib.ListN.{length, getD, drop}
+use lib.ListN.{getD, drop}
 use Rattle.octets.specs.Octets.{holds}
 use Rattle.octets.proofs.Words.{true-not-false, and-parts, or-none}
-use Rattle.refusal.specs.Answer.{Answer, gives, refuses, TestRow, _when_, answered, Clear, numbersOf}
+use Rattle.refusal.specs.Answer.{gives, refuses, TestRow, _when_, answered, Clear, numbersOf}
 use Rattle.refusal.proofs.Answers.{gives-not-refuses, refuses-same}
 use Rattle.refusal.proofs.Exactly.{TestsFor, exactly-tests, exactly-given, answered-all}
-use Rattle.control.specs.Control.{xidControl, askedBy}
+use Rattle.control.specs.Control.{xidControl}
 use Rattle.xid.specs.Addressing.{Values, addressing}
 use Rattle.record.specs.declared.Link.{Link}
 use Rattle.record.specs.declared.Link.the-variants.{NoAddress, AddressAssigned, Connected}
@@ -25,17 +25,15 @@ use Rattle.params.specs.Field.{Param, xidPayload, WellFormed, paramsOf}
 use Rattle.params.proofs.Exact.{params-exactly}
 use Rattle.xid.proofs.Rows.{formed-exactly, malformed-exactly, malformed-read}
 use Rattle.negotiation.specs.Negotiation.{negotiating, offered, offerOf}
-use Rattle.negotiation.specs.declared.Offer.{Offer}
-use Rattle.negotiation.specs.declared.Offer.the-variants.{Malformed, Agreed}
-use Rattle.xid.specs.Match.{isScan, addressOf, noParams, malformed, valuesIn, neither, badAddress, otherIdentity, otherType}
+use Rattle.xid.specs.Match.{isScan, addressOf, noParams, valuesIn, neither, badAddress, otherIdentity, otherType}
 use Rattle.xid.specs.Match.{otherVendor, otherScan, valueRows, payloadRows, meaningOf, orSilence, payloadAnswer, readOf}
 use Rattle.xid.specs.declared.Xid as xids
 use Rattle.station.specs.declared.Say.{Say}
 use Rattle.station.specs.declared.Turn.{Turn}
 use Rattle.station.specs.Turns.{saying, mute}
-use Rattle.link.specs.Link.{allStations, quiet, hasAddress, agreedBy, negotiatedBy, isOwn, xidBy, wrongSize}
+use Rattle.link.specs.Link.{allStations, hasAddress, agreedBy, negotiatedBy, isOwn, xidBy, wrongSize}
 use Rattle.link.specs.Link.{judgedFrame}
-use Rattle.link.specs.Frames.{controlOf, Everyone, OwnXid, missized, unfit, elsewhere, unagreed, unassigned}
+use Rattle.link.specs.Frames.{controlOf, Everyone, OwnXid, missized, unfit, elsewhere, unassigned}
 use Rattle.link.specs.Xids.{toAll, toOwn, wrongAddress, wrongControl, malformedAt, valueRowsAt, xidRows}
 use Rattle.link.specs.Xids.{xidTurn, xidAnswer, orMute}
 use Rattle.link.proofs.Judged.{size-right, size-fits}

@@ -94,7 +94,7 @@ fn assemble(address: u8, control: u8, payload: &[u8], d: &mut [u8]) -> usize
 }
 
 // Whether `room` octets are too few for the line of `d`: escapes are counted only where the longest line has no room.
-// The count ends at the first that has none; one to the end is made for sixteen at once, with 48 octets of constants.
+// The count ends at the first one too many; of one to the end the compiler would make 48 octets of constants.
 fn is_short(d: &[u8], room: usize) -> bool
     requires { ⌜ length (now d) ≤ limitMost ⌝ }
     ensures { λ r. ⌜ r ≡ shorter room (between (now (d .entry))) ⌝ }

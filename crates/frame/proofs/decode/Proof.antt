@@ -3,7 +3,6 @@ use borrow.Author.Needs.{needs}
 use borrow.Author.Tests.{not-true, not-false}
 use mathlib.Core.Path.{sym, _∙_}
 use native.Mathlib.Omega.{arith}
-use lib.ListN.{length}
 use Rattle.refusal.specs.declared.Refusal.the-variants.{NotAllowed, Broken, TooLong}
 use Rattle.refusal.proofs.Answers.{refused, hands-is}
 use Rattle.limits.proofs.Exactly.{is-limit-exactly}

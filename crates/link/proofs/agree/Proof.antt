@@ -1,7 +1,7 @@
 -- `link::agree` meets its promise: each way out, by the tests that lead to it. Assumes nothing.
 use Rattle.link.specs.Link.{agreedBy}
 use Rattle.octets.proofs.Rules.{tests}
-use mathlib.Core.Path.{sym, _∙_}
+use mathlib.Core.Path.{sym}
 use borrow.Author.Needs.{needs}
 use Rattle.link.proofs.agree.Statement.{statement}
 use Rattle.link.proofs.agree.Tie as tie

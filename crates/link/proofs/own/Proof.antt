@@ -1,7 +1,7 @@
 -- `link::own` meets its promise: each way out, by the tests that lead to it. Assumes nothing.
 use Rattle.link.specs.Link.{ownBy}
 use Rattle.octets.proofs.Rules.{tests}
-use mathlib.Core.Path.{sym, _∙_}
+use mathlib.Core.Path.{sym}
 use borrow.Author.Needs.{needs}
 use Rattle.link.proofs.own.Statement.{statement}
 use Rattle.link.proofs.own.Tie as tie
