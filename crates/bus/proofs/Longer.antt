@@ -1,6 +1,7 @@
--- Longer frames on the cable: a negotiation, written as a line, is heard and answered, both ends have the same limit after one that
--- gives a length, and frames up to it are heard; a frame is heard as it was put in exactly if it has room in the frame limit of the link, and gets
--- 2 where it has not. What a device answers in octets is read back with any limit. Assumes nothing.
+-- Longer frames on the cable: a negotiation, written as a line, is heard and answered, both ends have the same limit after
+-- one that gives a length, and frames up to it are heard; a frame is heard as it was put in exactly if it has room in the
+-- frame limit of the link, and gets 2 where it has not. What a device answers in octets is read back with any limit.
+-- Assumes nothing.
 use mathlib.Core.Path.{_≡_, refl, sym, ap, ap₂, _∙_}
 use mathlib.Core.Bool.{Bool, true, false}
 use mathlib.Core.Logic.{_↔_, _⊎_, inl, inr, ⊎-map, ⊎-elim}

@@ -4,7 +4,7 @@ use mathlib.Core.Bool.{Bool, true, false, cond, _||_}
 use mathlib.Core.List.{List, [], _∷_, _++_, append-nil}
 use mathlib.Core.Logic.{_⊎_, inl, inr, ⊎-elim}
 use mathlib.Core.Option.{some}
-use Prim.Native.Nat.{ℕ, _+_, _-_, _*_, _/_, _%_, _<_}
+use Prim.Native.Nat.{ℕ, _+_, _*_, _%_, _<_}
 use native.Mathlib.Omega.{arith}
 use borrow.Author.Tests.{eqb-true}
 use lib.Dec.{eqb, lit<}
@@ -53,7 +53,8 @@ use Rattle.conduct.specs.Comes.{Comes, unread, scans, assigns, negotiate
 use Rattle.conduct.specs.Comes.{miscounts, unknown, starts, clears, subscribes, answers, murmurs, repeats, resends}
 use Rattle.conduct.specs.Comes.{delivers, indicates, rests, pauses, unansweredAs, answeredAs, left, says}
 use Rattle.conduct.specs.Spelt.{rr, info, kept, indication, pendingSaid, again, sentNumber, frmr, resultSaid}
-use Rattle.conduct.specs.Spelt.{scanSaid, assignmentSaid, ifGiven, agreedSaid, negotiationSaid, octetsSaid}
+use Rattle.conduct.specs.Spelt.{scanSaid, assignmentSaid, ifGiven, lengthSaid, windowSaid, agreedSaid}
+use Rattle.conduct.specs.Spelt.{negotiationSaid, octetsSaid}
 use Rattle.conduct.proofs.Settles.{r-kept}
 use Rattle.conduct.proofs.Comes.{comes-so}
 
@@ -193,7 +194,7 @@ assignment-is a i =
 
 field-is : (ps : List Param) (N : ℕ) → fieldOf (negotiationParams (askedIn ps) N) ≡ agreedSaid ps N
 unfolding askedIn agreedSaid ifGiven lengthValue tripleOf
-field-is ps N = rw (negotiation-field (askedIn ps) N, append-nil (ifGiven 8 ps (8 ∷ 1 ∷ 1 ∷ [])))
+field-is ps N = rw (negotiation-field (askedIn ps) N, append-nil (ifGiven 8 ps (windowSaid 8)))
 
 pub negotiation-is : (a : ℕ) (ps : List Param) (N : ℕ) → a ∷ 0xBF ∷ negotiationAnswer (askedIn ps) N ≡ negotiationSaid a ps N
 unfolding negotiationAnswer xidPayload negotiationSaid
@@ -201,26 +202,23 @@ negotiation-is a ps N = ap (λ (t : List ℕ). a ∷ 0xBF ∷ 0x81 ∷ 0x80 ∷ 
 
 -- octets, from an address that is one
 module _ (ps : List Param) (N : ℕ) where
-  abbrev lengthSaid : ℕ → List ℕ
-  lengthSaid n = n ∷ 2 ∷ (N - 4) * 8 / 256 % 256 ∷ (N - 4) * 8 % 256 ∷ []
-
   given-plain : (n : ℕ) (t : List ℕ) → Octets t → Octets (ifGiven n ps t)
   unfolding ifGiven
   given-plain n t os = octets-cond (given (valueFor n ps)) t [] os tt
 
-  length-plain : (n : ℕ) → n < 256 → Octets (ifGiven n ps (lengthSaid n))
-  length-plain n h = given-plain n (lengthSaid n) (h, (lit< tt, (omega arith, (omega arith, tt))))
+  length-plain : (n : ℕ) → n < 256 → Octets (ifGiven n ps (lengthSaid N n))
+  length-plain n h = given-plain n (lengthSaid N n) (h, (lit< tt, (omega arith, (omega arith, tt))))
 
-  window-plain : (n : ℕ) → n < 256 → Octets (ifGiven n ps (n ∷ 1 ∷ 1 ∷ []))
-  window-plain n h = given-plain n (n ∷ 1 ∷ 1 ∷ []) (h, (lit< tt, (lit< tt, tt)))
+  window-plain : (n : ℕ) → n < 256 → Octets (ifGiven n ps (windowSaid n))
+  window-plain n h = given-plain n (windowSaid n) (h, (lit< tt, (lit< tt, tt)))
 
   agreed-plain : Octets (agreedSaid ps N)
   unfolding agreedSaid
   agreed-plain =
-      let windows = ifGiven 7 ps (7 ∷ 1 ∷ 1 ∷ []) ++ ifGiven 8 ps (8 ∷ 1 ∷ 1 ∷ []) in
-      octets-append (ifGiven 5 ps (lengthSaid 5)) (ifGiven 6 ps (lengthSaid 6) ++ windows) (length-plain 5 (lit< tt))
-      (octets-append (ifGiven 6 ps (lengthSaid 6)) windows (length-plain 6 (lit< tt))
-      (octets-append (ifGiven 7 ps (7 ∷ 1 ∷ 1 ∷ [])) (ifGiven 8 ps (8 ∷ 1 ∷ 1 ∷ []))
+      let windows = ifGiven 7 ps (windowSaid 7) ++ ifGiven 8 ps (windowSaid 8) in
+      octets-append (ifGiven 5 ps (lengthSaid N 5)) (ifGiven 6 ps (lengthSaid N 6) ++ windows) (length-plain 5 (lit< tt))
+      (octets-append (ifGiven 6 ps (lengthSaid N 6)) windows (length-plain 6 (lit< tt))
+      (octets-append (ifGiven 7 ps (windowSaid 7)) (ifGiven 8 ps (windowSaid 8))
       (window-plain 7 (lit< tt)) (window-plain 8 (lit< tt))))
 
   pub negotiation-plain : (a : ℕ) → a < 256 → Octets (negotiationSaid a ps N)

@@ -11,8 +11,10 @@
 --   sentNumber s p      == V(S), where S is s and p is pending
 --   frmr a c s why      == FRMR from the address a for the control c, in the session s
 --   resultSaid reached, scanSaid a i, assignmentSaid a i == a tilt's result; the answers to a scan and an assignment
---   ifGiven n ps t, agreedSaid ps N, negotiationSaid a ps N == the triple t, if ps give the identifier n; the triples of the
---                          answer to a negotiation with ps that comes to the frame limit N; that answer
+--   ifGiven n ps t      == the triple t, if ps give the identifier n
+--   lengthSaid N n, windowSaid n == the triple of the identifier n: of a length, for the frame limit N; of a window
+--   agreedSaid ps N, negotiationSaid a ps N == the triples of the answer to a negotiation with ps that comes to the frame
+--                          limit N; that answer
 --   octetsSaid d f c    == address, control and payload that d says of the frame f, whose case is c; none for silence
 -- Numbers are taken round, "0 to 7", so that every record has its row. After a good N(R), S is that N(R) (`good-s` of
 -- proofs/Says). Assumes nothing.
@@ -93,14 +95,21 @@ assignmentSaid a i = a ∷ 0xBF ∷ 0x81 ∷ 0xF0 ∷ (length i + 5) ∷ 1 ∷ l
 unfoldable pub ifGiven : ℕ → List Param → List ℕ → List ℕ
 ifGiven n ps triple = cond (given (valueFor n ps)) triple []
 
--- each identifier that was asked, ascending: 5 and 6 with (N - 4) · 8 as two octets, highest first; 7 and 8 with 1
+-- (N - 4) · 8 as two octets, highest first
+abbrev pub lengthSaid : ℕ → ℕ → List ℕ
+lengthSaid N n = n ∷ 2 ∷ (N - 4) * 8 / 256 % 256 ∷ (N - 4) * 8 % 256 ∷ []
+
+-- "windows are answered 1"
+abbrev pub windowSaid : ℕ → List ℕ
+windowSaid n = n ∷ 1 ∷ 1 ∷ []
+
+-- each identifier that was asked, ascending
 unfoldable pub agreedSaid : List Param → ℕ → List ℕ
 agreedSaid ps N =
-    ifGiven 5 ps (5 ∷ 2 ∷ (N - 4) * 8 / 256 % 256 ∷ (N - 4) * 8 % 256 ∷ [])
-    ++ (ifGiven 6 ps (6 ∷ 2 ∷ (N - 4) * 8 / 256 % 256 ∷ (N - 4) * 8 % 256 ∷ [])
-    ++ (ifGiven 7 ps (7 ∷ 1 ∷ 1 ∷ []) ++ ifGiven 8 ps (8 ∷ 1 ∷ 1 ∷ [])))
+    ifGiven 5 ps (lengthSaid N 5)
+    ++ (ifGiven 6 ps (lengthSaid N 6) ++ (ifGiven 7 ps (windowSaid 7) ++ ifGiven 8 ps (windowSaid 8)))
 
--- 02 (iv): "the device answers"; "windows are answered 1"
+-- 02 (iv): "the device answers"
 unfoldable pub negotiationSaid : ℕ → List Param → ℕ → List ℕ
 negotiationSaid a ps N = a ∷ 0xBF ∷ 0x81 ∷ 0x80 ∷ length (agreedSaid ps N) ∷ agreedSaid ps N
 

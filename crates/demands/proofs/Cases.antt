@@ -270,8 +270,8 @@ computed : All starred × All further
 unfolding All Holds heard scan.driven scan.fresh scan.ended scan.over scan.reported stateAt step stepIn noted listing
     goOn next carry zeroHalf named word packed rowsOf flat phaseOf stateOf fresh assigned run meets judged
     judgeRows wrongSize judgedFrame controlledBy addressedBy isOwn everyoneBy xidBy ownBy orderedBy negotiatedBy agreedBy
-    linkedBy assignedBy connectedBy rrBy infoBy rejected released begun renewed pollOf waitingPoll informedBy informOf carriedBy repliedBy polledBy saying
-    deviceOf acknowledged sessionAfter stationAfter resent awaiting answersWith heeded acknowledges goodNumber
+    linkedBy assignedBy connectedBy rrBy infoBy rejected released begun renewed pollOf waitingPoll informedBy informOf
+    carriedBy repliedBy polledBy saying deviceOf acknowledged sessionAfter stationAfter resent awaiting answersWith heeded acknowledges goodNumber
     accepts taken vsOf countsOf polled nextOf infoOf rrOf numberedBy askedBy unsaidAt emptiedAs limitedTo canBe afterEvent eventRows
     happened freshOf freshFrom plateFrom identityFrom productFrom versionFrom textsAllowed dataAllowed stateAfter
     answered allowedDevice owedAllowed stationAllowed linkAllowed addressed sessionAllowed pendingFits numbersAllowed
