@@ -1,0 +1,2 @@
+-- The laws of the live line.
+pub mod Usable

@@ -1,0 +1,79 @@
+-- The public call, made again and again, each time with the record that the call before left.
+--   afterAll h s     == the record h after the octets s, one by one; handOuts N h s == what is handed out over them
+--   Offer            == one call: how many of the octets that are left are lent, and an output of how many octets
+--   Worked           == how far a caller has come: the record, the octets that are not taken yet, what was handed out
+--   offered N h s cs == one call for each of cs over the octets s
+--   fed N room h rs  == the runs rs one after the other, each lent whole, and again with what was left of it; empty runs, too
+--   Roomy N cs       == no output is shorter than N - 2
+--   Usable h         == the record has a store of 260 places, and holds no more octets
+--   Alike h g        == two records are equal but for places of the store past the count
+-- Assumes nothing.
+use mathlib.Core.Path.{_≡_}
+use mathlib.Core.Bool.{cond}
+use mathlib.Core.List.{List, [], _∷_, _++_}
+use Prim.Native.Nat.{ℕ, zero, suc, _≤_}
+use lib.ListN.{length, take, drop}
+use Rattle.refusal.specs.Answer.{Answer, gives, refuses}
+use Rattle.limits.specs.Limits.{frameMost}
+use Rattle.receiver.specs.Held.{Held, places, after, closes, says}
+use Rattle.receiver.specs.Call.{Told, nothing, handed, Took, received, takenBy, heldBy}
+
+unfoldable pub afterAll : Held → List ℕ → Held
+afterAll h [] = h
+afterAll h (x ∷ xs) = afterAll (after h x) xs
+
+unfoldable pub handOuts : ℕ → Held → List ℕ → List (Answer (List ℕ))
+handOuts N h [] = []
+handOuts N h (x ∷ xs) =
+    cond (closes h x) (says N (frameMost N) h ∷ handOuts N (after h x) xs) (handOuts N (after h x) xs)
+
+pub record Offer : Type 0 where
+  pub octets : ℕ
+  pub room : ℕ
+
+pub record Worked : Type 0 where
+  pub held : Held
+  pub left : List ℕ
+  pub outs : List (Answer (List ℕ))
+
+-- what one call hands out: nothing where it is refused
+unfoldable pub toldOuts : Told (List ℕ) → List (Answer (List ℕ))
+toldOuts nothing = []
+toldOuts (handed a) = a ∷ []
+
+unfoldable pub outsBy : Answer Took → List (Answer (List ℕ))
+outsBy (gives t) = toldOuts (t .told)
+outsBy (refuses k) = []
+
+-- what was handed out before, in front
+unfoldable pub behind : List (Answer (List ℕ)) → Worked → Worked
+behind a w = record { held = w .held; left = w .left; outs = a ++ w .outs }
+
+-- "and to call again with what was left"
+unfoldable pub offered : ℕ → Held → List ℕ → List Offer → Worked
+offered N h s [] = record { held = h; left = s; outs = [] }
+offered N h s (c ∷ cs) =
+    let a : Answer Took = received N h (take (c .octets) s) (c .room) in
+    behind (outsBy a) (offered N (heldBy a h) (drop (takenBy a) s) cs)
+
+-- all that is left of the run, as often as there can be something left of it
+unfoldable pub again : ℕ → ℕ → ℕ → List Offer
+again zero n room = []
+again (suc k) n room = record { octets = n; room = room } ∷ again k n room
+
+unfoldable pub fed : ℕ → ℕ → Held → List (List ℕ) → Worked
+fed N room h [] = record { held = h; left = []; outs = [] }
+fed N room h (r ∷ rs) =
+    let w : Worked = offered N h r (again (suc (length r)) (length r) room) in
+    let v : Worked = fed N room (w .held) rs in
+    record { held = v .held; left = w .left ++ v .left; outs = w .outs ++ v .outs }
+
+unfoldable pub Roomy : ℕ → List Offer → Type 0
+Roomy N [] = Unit {0}
+Roomy N (c ∷ cs) = (frameMost N ≤ c .room) × Roomy N cs
+
+abbrev pub Usable : Held → Type 0
+Usable h = (length (h .store) ≡ places) × (h .marks .count ≤ places)
+
+abbrev pub Alike : Held → Held → Type 0
+Alike h g = (h .marks ≡ g .marks) × (take (h .marks .count) (h .store) ≡ take (g .marks .count) (g .store))

@@ -1,0 +1,3 @@
+-- What the live line carries, and how a caller works through it.
+pub mod Stretches
+pub mod Calls

@@ -1,0 +1,77 @@
+-- The receiver's record, octet by octet: what it holds of the stretch since the last flag. 02 (i): "takes octets in runs of
+-- any length .. and hands out each frame or its refusal number when the closing flag comes".
+--   places      == 260: those of the store, one for each octet of the longest frame
+--   Held        == a record with its store
+--   freshMarks  == the record before any octet; openMarks == right behind a flag
+--   added h x   == the decoded octets that the raw octet x adds to the stretch: one, or none where it is an escape
+--   taken h x   == the record after a raw octet x of the stretch
+--   raw h x     == the record after an octet x that is no flag; opened h == the one after a flag
+--   after h x   == the record after any octet
+--   closes h x  == x is a flag that closes a stretch with at least one raw octet
+--   says N room h == what is handed out where a flag closes the stretch, with the frame limit N and a lent output
+-- Assumes nothing.
+use mathlib.Core.Bool.{Bool, true, false, cond, not, _&&_, _||_}
+use mathlib.Core.List.{List, [], _∷_}
+use Prim.Native.Nat.{ℕ, _+_, min}
+use lib.Dec.{eqb, ltb}
+use lib.ListN.{length, take}
+use lib.Seq.{sets}
+use Rattle.refusal.specs.Answer.{Answer, _when_, answered}
+use Rattle.limits.specs.Limits.{limitMost}
+use Rattle.frame.specs.Line.{flag, escape, plainAfter}
+use Rattle.frame.specs.Decode.{body, decodeRows}
+use Rattle.receiver.specs.declared.Receiver.{Receiver}
+
+abbrev pub places : ℕ
+places = limitMost
+
+pub record Held : Type 0 where
+  pub marks : Receiver
+  pub store : List ℕ
+
+abbrev pub freshMarks : Receiver
+freshMarks = record { count = 0; more = false; escaping = false; last = false; any = false; seen = false }
+
+-- "It also opens the next stretch"
+abbrev pub openMarks : Receiver
+openMarks = record { count = 0; more = false; escaping = false; last = false; any = false; seen = true }
+
+-- 01: "0x7D is removed and the next octet has 0x20 exclusive-ored in, whatever it was"
+unfoldable pub added : Held → ℕ → List ℕ
+added h x = plainAfter (h .marks .escaping) (x ∷ [])
+
+-- into the next place of the store, as far as it has places; past them, that more came
+unfoldable pub taken : Held → ℕ → Held
+taken h x =
+    let n : ℕ = h .marks .count + length (added h x) in
+    record {
+      marks = record {
+        count = min places n;
+        more = h .marks .more || ltb places n;
+        escaping = not (h .marks .escaping) && eqb x escape;
+        last = eqb x escape;
+        any = true;
+        seen = h .marks .seen;
+      };
+      store = sets (h .store) (h .marks .count) (added h x);
+    }
+
+-- 02 (i): "octets before the first flag are dropped"
+unfoldable pub raw : Held → ℕ → Held
+raw h x = cond (h .marks .seen) (taken h x) h
+
+unfoldable pub opened : Held → Held
+opened h = record { marks = openMarks; store = h .store }
+
+unfoldable pub after : Held → ℕ → Held
+after h x = cond (eqb x flag) (opened h) (raw h x)
+
+-- 02 (i): "Two flags side by side hand out nothing"
+unfoldable pub closes : Held → ℕ → Bool
+closes h x = eqb x flag && (h .marks .seen && h .marks .any)
+
+-- the rows of the decoder: 4 where the last raw octet was 0x7D; more octets than the store has places are more than any N
+unfoldable pub says : ℕ → ℕ → Held → Answer (List ℕ)
+says N room h =
+    let d : List ℕ = take (h .marks .count) (h .store) in
+    answered (4 when h .marks .last ∷ 2 when h .marks .more ∷ decodeRows N false d room) (body d)
