@@ -1,8 +1,9 @@
-//! The bench: up to 32 devices on one cable, the scan record, and the scan of
-//! the bench from its start to its end.
+//! The bench: up to 32 devices on one cable, the scan record, the receiver, and
+//! the scan of the bench from its start to its end.
 
 use crate::device;
 use crate::frame::{self, MOST_FRAME, MOST_WRITTEN};
+use crate::receiver::Receiver;
 use crate::record::Record;
 use crate::refusal::Refusal;
 use crate::scan::{Scan, PROBE};
@@ -16,12 +17,15 @@ pub struct Bench {
     pub devices: Vec<Record>,
     /// The scan by hand.
     pub scan: Scan,
+    /// "the bench's one receiver"
+    pub receiver: Receiver,
 }
 
 impl Default for Bench {
-    /// "Before any `begin` the record is one made with limit 0."
+    /// "Before any `begin` the record is one made with limit 0." "Before any
+    /// `listen` the receiver is a fresh one."
     fn default() -> Bench {
-        Bench { devices: Vec::new(), scan: Scan::new(0) }
+        Bench { devices: Vec::new(), scan: Scan::new(0), receiver: Receiver::default() }
     }
 }
 

@@ -15,6 +15,7 @@ pub mod identity;
 pub mod lines;
 pub mod message;
 pub mod negotiation;
+pub mod receiver;
 pub mod record;
 pub mod refusal;
 pub mod scan;

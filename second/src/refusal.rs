@@ -11,7 +11,7 @@ pub enum Refusal {
     CheckWrong,
     /// 4: "0x7E inside, or 0x7D as the last octet"
     BadLine,
-    /// 5: "the lent output is too short"
+    /// 5: "the lent output is too short"; for the receiver "shorter than N - 2"
     OutputTooShort,
     /// 6: "device data, or a device record handed in, not allowed"; from (iv)
     /// on a frame limit N "outside 78 to 260" too

@@ -5,6 +5,7 @@ use crate::device;
 use crate::frame::{self, LEAST_LIMIT};
 use crate::identity::Identity;
 use crate::lines::LONGEST;
+use crate::receiver::Receiver;
 use crate::record::{Answer, Drive, Link, Make, Record};
 use crate::refusal::Refusal;
 use crate::scan::{Beginning, Ending, Scan};
@@ -51,13 +52,15 @@ fn obey(bench: &mut Bench, line: &[u8]) -> Result<String, Fault> {
         [b"probe", room] => probe(bench, room),
         [b"report", b"heard"] => Ok(report(bench, true)),
         [b"report", b"silent"] => Ok(report(bench, false)),
+        [b"listen"] => Ok(listen(bench)),
+        [b"octets", n, run, room] => octets(bench, n, run, room),
         [command, ..] if is_command(command) => Err(Fault::Words),
         _ => Err(Fault::Command),
     }
 }
 
 fn is_command(word: &[u8]) -> bool {
-    const COMMANDS: [&[u8]; 16] = [
+    const COMMANDS: [&[u8]; 18] = [
         b"decode",
         b"decode-n",
         b"write",
@@ -74,6 +77,8 @@ fn is_command(word: &[u8]) -> bool {
         b"begin",
         b"probe",
         b"report",
+        b"listen",
+        b"octets",
     ];
     COMMANDS.contains(&word)
 }
@@ -252,6 +257,32 @@ fn report(bench: &mut Bench, heard: bool) -> String {
         Ok(_) => progress(&bench.scan),
         Err(refusal) => refused(refusal),
     }
+}
+
+/// `listen`: "the bench's one receiver is made anew"
+fn listen(bench: &mut Bench) -> String {
+    bench.receiver = Receiver::default();
+    "listening".to_string()
+}
+
+/// `octets N HEX ROOM`: "one call: the octets are lent to the receiver". Those
+/// it "did not take are forgotten".
+fn octets(bench: &mut Bench, n: &[u8], run: &[u8], room: &[u8]) -> Result<String, Fault> {
+    let limit = words::frame_limit(n)?;
+    let run = words::hex(run)?;
+    let mut output = vec![FILL; words::room(room)?];
+    let call = bench.receiver.take(limit, &run, &mut output);
+    let buffer = written(&output);
+    let taken = match call {
+        Ok(taken) => taken,
+        Err(refusal) => return Ok(format!("{} {buffer}", refused(refusal))),
+    };
+    let handed_out = match taken.handed_out {
+        Some(Ok(length)) => format!("frame {length}"),
+        Some(Err(refusal)) => refused(refusal),
+        None => "nothing".to_string(),
+    };
+    Ok(format!("took {} {handed_out} {buffer}", taken.octets))
 }
 
 /// `going COUNT` or one of the four ends.

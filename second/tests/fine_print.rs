@@ -73,6 +73,31 @@ fn the_order_of_faults() {
         ("write- 05 10 00 80", "command"),
         ("limits 1", "command"),
         ("Limit 1", "command"),
+        ("listen 1", "words"),
+        ("listen ", "words"),
+        ("Listen", "command"),
+        ("listening", "command"),
+        (" listen", "command"),
+        ("octets", "words"),
+        ("octets 78 7e", "words"),
+        ("octets 7e 76", "words"),
+        ("octets 78 7e 76 ", "words"),
+        ("octets 78 7e 76 1", "words"),
+        ("octets  7e 76", "number"),
+        ("octets x zz x", "number"),
+        ("octets - zz x", "number"),
+        ("octets 65536 zz x", "number"),
+        ("octets -1 7e 76", "number"),
+        ("octets 99999999999999999999 7e 76", "number"),
+        ("octets 77 zz x", "hex"),
+        ("octets 65535 7e7 601", "hex"),
+        ("octets 78  76", "hex"),
+        ("octets 78 7e x", "number"),
+        ("octets 78 7e ", "number"),
+        ("octets 261 7e 601", "room"),
+        ("octets 78 - -1", "room"),
+        ("octet 78 7e 76", "command"),
+        ("OCTETS 78 7e 76", "command"),
         ("frame 2 zz x", "device"),
         ("frame x zz x", "number"),
         ("frame 1 zz x", "hex"),
@@ -126,6 +151,11 @@ fn what_is_read_all_the_same() {
     assert_eq!(table.ask("decode-n 65535 - -0"), "refused 6 -");
     assert_eq!(table.ask("write-n 0000000000000000000260 01 3f - 6"), "line 6 7e013febdf7e");
     assert_eq!(table.ask("limit 0000000000000000000001"), "limit 78");
+    assert_eq!(table.ask("octets -0 7E -0"), "refused 6 -");
+    assert_eq!(
+        table.ask("octets 00078 7Ebd7D 0076"),
+        format!("took 3 nothing {}", "a5".repeat(76))
+    );
 }
 
 #[test]
@@ -173,7 +203,7 @@ fn a_scan_by_hand() {
 fn commands_of_other_requests() {
     // "Each comes with its request, not before."
     let mut table = fresh(0);
-    for line in ["listen", "octets 78 - 76", "why 1 0593", "under - 1", "row -", "book"] {
+    for line in ["why 1 0593", "under - 1", "begin-under - 1", "row -", "open-book", "book"] {
         assert_eq!(table.ask(line), "error command");
     }
 }

@@ -1,6 +1,10 @@
 //! What the generator's scripts reach: every kind of state and answer is
 //! counted and must come often enough. `--nocapture` shows the counts.
 
+#[path = "reach/live.rs"]
+mod live;
+use live::Live;
+
 use std::collections::{BTreeMap, BTreeSet};
 use std::thread;
 
@@ -11,7 +15,7 @@ use second::record::{after, Answer, Drive, Link, Record, Session};
 use second::{frame, script, words};
 
 const SEEDS: u64 = 20;
-const LINES: usize = 20_000;
+const LINES: usize = 23_000;
 
 #[derive(Default)]
 struct Tally {
@@ -20,6 +24,7 @@ struct Tally {
     controls: BTreeSet<u8>,
     numbers: BTreeSet<(u8, u8)>,
     shared: Shared,
+    live: Live,
 }
 
 /// The last assignment that was taken by wild card, in this script, and who
@@ -60,6 +65,7 @@ impl Tally {
         let mut line = Vec::new();
         let mut seen = 0;
         self.shared = Shared::default();
+        self.live = Live::default();
         while source.next(&mut line).unwrap() {
             seen += 1;
             let before = device_of(&bench, &line).cloned();
@@ -77,6 +83,9 @@ impl Tally {
         let line = String::from_utf8_lossy(line);
         let asked: Vec<&str> = line.split(' ').collect();
         let given: Vec<&str> = answer.split(' ').collect();
+        for kind in self.live.line(&asked, &given) {
+            self.count(format!("live: {kind}"));
+        }
         if given[0] != "error" {
             self.about_limits(before, bench, &asked, &given);
         }
@@ -1158,6 +1167,12 @@ fn everything_is_reached() {
     for outcome in OUTCOMES {
         let kind = format!("message {outcome}");
         if tally.counts.get(&kind).copied().unwrap_or(0) < 100 {
+            rare.push(kind);
+        }
+    }
+    for (kind, least) in live::OFTEN {
+        let kind = format!("live: {kind}");
+        if tally.counts.get(&kind).copied().unwrap_or(0) < least {
             rare.push(kind);
         }
     }

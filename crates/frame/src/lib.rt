@@ -82,8 +82,9 @@ fn unescape(s: &[u8], store: &mut [u8]) -> usize
     n
 }
 
-// Judges the decoded octets `d`, and hands address, control and payload out.
-fn deliver(limit: usize, d: &[u8], out: &mut [u8]) -> Handed
+// Judges the decoded octets `d`, and hands address, control and payload out: what the decoder and the receiver say of a
+// line that is whole.
+pub fn deliver(limit: usize, d: &[u8], out: &mut [u8]) -> Handed
     ensures { λ r. ⌜ Hands (framed limit (now (d .entry)) (length (now (out .entry))))
         (now (out .entry)) r (now (out .exit)) ⌝ }
 {

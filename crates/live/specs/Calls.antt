@@ -5,7 +5,6 @@
 --   offered N h s cs == one call for each of cs over the octets s
 --   fed N room h rs  == the runs rs one after the other, each lent whole, and again with what was left of it; empty runs, too
 --   Roomy N cs       == no output is shorter than N - 2
---   Usable h         == the record has a store of 260 places, and holds no more octets
 --   Alike h g        == two records are equal but for places of the store past the count
 -- Assumes nothing.
 use mathlib.Core.Path.{_≡_}
@@ -15,7 +14,7 @@ use Prim.Native.Nat.{ℕ, zero, suc, _≤_}
 use lib.ListN.{length, take, drop}
 use Rattle.refusal.specs.Answer.{Answer, gives, refuses}
 use Rattle.limits.specs.Limits.{frameMost}
-use Rattle.receiver.specs.Held.{Held, places, after, closes, says}
+use Rattle.receiver.specs.Held.{Held, after, closes, says}
 use Rattle.receiver.specs.Call.{Told, nothing, handed, Took, received, takenBy, heldBy}
 
 unfoldable pub afterAll : Held → List ℕ → Held
@@ -71,9 +70,6 @@ fed N room h (r ∷ rs) =
 unfoldable pub Roomy : ℕ → List Offer → Type 0
 Roomy N [] = Unit {0}
 Roomy N (c ∷ cs) = (frameMost N ≤ c .room) × Roomy N cs
-
-abbrev pub Usable : Held → Type 0
-Usable h = (length (h .store) ≡ places) × (h .marks .count ≤ places)
 
 abbrev pub Alike : Held → Held → Type 0
 Alike h g = (h .marks ≡ g .marks) × (take (h .marks .count) (h .store) ≡ take (g .marks .count) (g .store))

@@ -1,0 +1,7 @@
+-- The laws of the receiver's record.
+pub mod Usable
+pub mod Steps
+pub mod Passing
+pub mod Ends
+pub mod Refusals
+pub mod Only

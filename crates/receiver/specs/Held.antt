@@ -1,18 +1,20 @@
 -- The receiver's record, octet by octet: what it holds of the stretch since the last flag. 02 (i): "takes octets in runs of
 -- any length .. and hands out each frame or its refusal number when the closing flag comes".
 --   places      == 260: those of the store, one for each octet of the longest frame
---   Held        == a record with its store
+--   Held        == a record with its store; heldOf r m == the one of r and m
+--   Usable h    == a record that is not refused: its store has 260 places, and holds no more octets than those
 --   freshMarks  == the record before any octet; openMarks == right behind a flag
 --   added h x   == the decoded octets that the raw octet x adds to the stretch: one, or none where it is an escape
 --   taken h x   == the record after a raw octet x of the stretch
 --   raw h x     == the record after an octet x that is no flag; opened h == the one after a flag
 --   after h x   == the record after any octet
---   closes h x  == x is a flag that closes a stretch with at least one raw octet
+--   stretched r == a stretch is open that has at least one raw octet; closes h x == x is a flag that closes such a one
 --   says N room h == what is handed out where a flag closes the stretch, with the frame limit N and a lent output
 -- Assumes nothing.
+use mathlib.Core.Path.{_≡_}
 use mathlib.Core.Bool.{Bool, true, false, cond, not, _&&_, _||_}
 use mathlib.Core.List.{List, [], _∷_}
-use Prim.Native.Nat.{ℕ, _+_, min}
+use Prim.Native.Nat.{ℕ, _+_, _≤_, min}
 use lib.Dec.{eqb, ltb}
 use lib.ListN.{length, take}
 use lib.Seq.{sets}
@@ -28,6 +30,12 @@ places = limitMost
 pub record Held : Type 0 where
   pub marks : Receiver
   pub store : List ℕ
+
+abbrev pub heldOf : Receiver → List ℕ → Held
+heldOf r m = record { marks = r; store = m }
+
+abbrev pub Usable : Held → Type 0
+Usable h = (length (h .store) ≡ places) × (h .marks .count ≤ places)
 
 abbrev pub freshMarks : Receiver
 freshMarks = record { count = 0; more = false; escaping = false; last = false; any = false; seen = false }
@@ -67,8 +75,11 @@ unfoldable pub after : Held → ℕ → Held
 after h x = cond (eqb x flag) (opened h) (raw h x)
 
 -- 02 (i): "Two flags side by side hand out nothing"
+abbrev pub stretched : Receiver → Bool
+stretched r = r .seen && r .any
+
 unfoldable pub closes : Held → ℕ → Bool
-closes h x = eqb x flag && (h .marks .seen && h .marks .any)
+closes h x = eqb x flag && stretched (h .marks)
 
 -- the rows of the decoder: 4 where the last raw octet was 0x7D; more octets than the store has places are more than any N
 unfoldable pub says : ℕ → ℕ → Held → Answer (List ℕ)

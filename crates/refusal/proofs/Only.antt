@@ -47,7 +47,7 @@ named-number PayloadTooLong = refl
 pub number-apart : (r q : Refusal) → numberOf r ≡ numberOf q → r ≡ q
 number-apart r q e = sym (named-number r) ∙ ap named e ∙ named-number q
 
-answer-apart : (r q : Handed) → answerOf r ≡ answerOf q → r ≡ q
+pub answer-apart : (r q : Handed) → answerOf r ≡ answerOf q → r ≡ q
 unfolding answerOf
 answer-apart (Octets n) (Octets m) e = ap Octets (gives-same e)
 answer-apart (Octets n) (Refused k) e = absurd (gives-not-refuses e)

@@ -46,7 +46,7 @@ impl Generator<'_> {
     }
 
     /// A frame limit as it is given: those allowed, and about their edges.
-    fn any_limit(&mut self) -> usize {
+    pub(super) fn any_limit(&mut self) -> usize {
         match self.dice.below(24) {
             0 => 77,
             1 => 261,
@@ -77,7 +77,7 @@ impl Generator<'_> {
         self.say(format!("write{} {} {room}", given.words(), words.join(" ")))
     }
 
-    fn head(&mut self) -> (u8, u8) {
+    pub(super) fn head(&mut self) -> (u8, u8) {
         if self.dice.chance(100) {
             (self.dice.pick(&[0x7E, 0x7D]), self.dice.pick(&[0x7E, 0x7D]))
         } else {
@@ -86,7 +86,7 @@ impl Generator<'_> {
     }
 
     /// Short ones, and those about the longest.
-    fn payload_length(&mut self, limit: usize) -> usize {
+    pub(super) fn payload_length(&mut self, limit: usize) -> usize {
         let longest = longest_payload(limit);
         match self.dice.below(10) {
             0..=3 => self.dice.below(12),

@@ -146,6 +146,20 @@ impl Generator<'_> {
             "write-n 65536 zz zz zz x",
             "write-n -1 05 10 - 80",
             "write-n 0 5 10 - 80",
+            "listen 1",
+            "listen ",
+            "Listen",
+            "listens",
+            "octets",
+            "octets 78 7e",
+            "octets 7e 76",
+            "octet 78 7e 76",
+            "octets 65536 zz x",
+            "octets -1 7e 76",
+            "octets 77 zz x",
+            "octets 77 7e x",
+            "octets 261 7e 601",
+            "octets 78 - 76 ",
             "quit",
             "help",
             " ",
@@ -191,6 +205,7 @@ impl Generator<'_> {
             "write 01 93 ",
             "decode-n 260 ",
             "write-n 261 01 93 ",
+            "octets 78 ",
         ]);
         let end = if start.contains("code") { " 80" } else { " 76" };
         let fill = length - start.len() - end.len();
@@ -215,7 +230,7 @@ impl Generator<'_> {
     fn bare_words(&mut self) -> io::Result<()> {
         let commands = [
             "decode", "write", "device", "frame", "hear", "stopped", "raise", "clear", "show",
-            "scan", "begin", "probe", "report", "decode-n", "write-n", "limit",
+            "scan", "begin", "probe", "report", "decode-n", "write-n", "limit", "listen", "octets",
         ];
         let mut line = self.dice.pick(&commands).to_string();
         for _ in 0..self.dice.below(9) {

@@ -9,6 +9,7 @@ pub mod codec;
 pub mod devices;
 pub mod hand;
 pub mod junk;
+pub mod live;
 pub mod messages;
 pub mod negotiation;
 pub mod random;
@@ -116,22 +117,23 @@ impl Generator<'_> {
         Ok(())
     }
 
-    /// The mix. Each weight counts goes, not lines: talks and scans by hand
-    /// are many lines long.
+    /// The mix. Each weight counts goes, not lines: talks, scans by hand and
+    /// live lines are many lines long.
     fn something(&mut self) -> io::Result<()> {
         let scans = match self.bench.devices.len() {
             0..=5 => 100,
             6..=14 => 45,
             _ => 20,
         };
-        match self.dice.weighed(&[420, 700, scans, 25, 500, 100, 70]) {
+        match self.dice.weighed(&[420, 700, scans, 25, 500, 100, 70, 170]) {
             0 => self.talk(),
             1 => self.codec(),
             2 => self.scan_bench(),
             3 => self.hand(),
             4 => self.junk(),
             5 => self.remark(),
-            _ => self.another_device(),
+            6 => self.another_device(),
+            _ => self.live(),
         }
     }
 
