@@ -42,7 +42,7 @@ module _ (b : List ℕ) where
       (sym (pair-parts (checkOf b) (check-lt b os))))
 
 -- d is its first octets and its last two
-split-two : (d : List ℕ) (k : ℕ) → length d ≡ suc (suc k) → take k d ++ getD d k 0 ∷ getD d (suc k) 0 ∷ [] ≡ d
+pub split-two : (d : List ℕ) (k : ℕ) → length d ≡ suc (suc k) → take k d ++ getD d k 0 ∷ getD d (suc k) 0 ∷ [] ≡ d
 split-two d k e =
     ap (λ (l : List ℕ). take k d ++ l)
     (sym

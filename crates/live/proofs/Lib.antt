@@ -1,2 +1,7 @@
 -- The laws of the live line.
-pub mod Usable
+pub mod Steps
+pub mod Answered
+pub mod Cuts
+pub mod Decoder
+pub mod Noise
+pub mod Trip

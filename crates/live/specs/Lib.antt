@@ -1,3 +1,4 @@
 -- What the live line carries, and how a caller works through it.
 pub mod Stretches
 pub mod Calls
+pub mod Sent

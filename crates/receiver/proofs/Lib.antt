@@ -1,5 +1,5 @@
 -- The laws of the receiver's record.
-pub mod Usable
+pub mod After
 pub mod Steps
 pub mod Passing
 pub mod Ends

@@ -18,7 +18,7 @@ use Rattle.receiver.proofs.new.Reads as new-reads
 use Rattle.receiver.proofs.receive_in.Reads as receive-in-reads
 use Rattle.receiver.proofs.receive.Reads as receive-reads
 
-nothing-not-handed : {A : Type 0} {a : Answer A} → nothing ≡ handed a → ⊥
+pub nothing-not-handed : {A : Type 0} {a : Answer A} → nothing ≡ handed a → ⊥
 nothing-not-handed e = let z : _≡_ {A = ℕ} 0 1 = cc in omega arith
 
 handed-same : {A : Type 0} {a b : Answer A} → handed a ≡ handed b → a ≡ b

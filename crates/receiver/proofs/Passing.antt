@@ -19,7 +19,7 @@ use Rattle.receiver.specs.Held.{Held, Usable, heldOf, places, openMarks,
 use Rattle.receiver.specs.Call.{Took, further, takes}
 use Rattle.receiver.specs.Pieces.{Plain, Copies, furtherBy, Passes}
 use Rattle.receiver.specs.declared.Receiver.{Receiver}
-use Rattle.receiver.proofs.Usable.{after-usable}
+use Rattle.receiver.proofs.After.{after-usable, after-flag, after-other, closes-other}
 use Rattle.receiver.proofs.Steps.{marked, marked-is, place-room, raw-plain}
 
 pub pass-none : {h : Held} {s : List ℕ} → Usable h → Passes h s 0 h
@@ -32,22 +32,10 @@ further-one t =
     let n : suc (t .count) ≡ 1 + t .count = omega arith in
     ap (λ (k : ℕ). record { held = t .held; count = k; told = t .told }) n
 
-module _ (h : Held) (x : ℕ) where
-  pub after-flag : x ≡ flag → after h x ≡ opened h
-  unfolding after
-  after-flag e = rw (eq-eqb x flag e)
-
-  after-other : (x ≡ flag → ⊥) → after h x ≡ raw h x
-  unfolding after
-  after-other n = rw (ne-eqb x flag n)
-
-  other-closes-not : (x ≡ flag → ⊥) → closes h x ≡ false
-  unfolding closes
-  other-closes-not n = rw (ne-eqb x flag n)
-
-  flag-closes-not : stretched (h .marks) ≡ false → closes h x ≡ false
-  unfolding closes
-  flag-closes-not e = rw e (and-false (eqb x flag))
+-- a flag that closes nothing
+flag-closes-not : (h : Held) (x : ℕ) → stretched (h .marks) ≡ false → closes h x ≡ false
+unfolding closes
+flag-closes-not h x e = rw e (and-false (eqb x flag))
 
 pub pass-one : (h : Held) (x : ℕ) (xs : List ℕ) → Usable (after h x) → closes h x ≡ false → Passes h (x ∷ xs) 1 (after h x)
 unfolding takes
@@ -80,13 +68,14 @@ module _ {h g : Held} {s : List ℕ} {k : ℕ} (p : Passes h s k g) (i : k < len
   pub flag-passes : getD s k 0 ≡ flag → stretched (g .marks) ≡ false → Passes h s (k + 1) (heldOf openMarks (g .store))
   unfolding opened
   flag-passes e f =
-      let opens : after g (getD s k 0) ≡ heldOf openMarks (g .store) = after-flag g (getD s k 0) e in
+      let opens : after g (getD s k 0) ≡ heldOf openMarks (g .store) = after-flag g (getD s k 0) (eq-eqb (getD s k 0) flag e) in
       rw opens at (one-further (flag-closes-not g (getD s k 0) f))
 
   pub raw-passes : (getD s k 0 ≡ flag → ⊥) → {f : Held} → f ≡ raw g (getD s k 0) → Passes h s (k + 1) f
   raw-passes n {f} e =
-      let same : after g (getD s k 0) ≡ f = after-other g (getD s k 0) n ∙ sym e in
-      rw same at (one-further (other-closes-not g (getD s k 0) n))
+      let other = ne-eqb (getD s k 0) flag n in
+      let same : after g (getD s k 0) ≡ f = after-other g (getD s k 0) other ∙ sym e in
+      rw same at (one-further (closes-other g (getD s k 0) other))
 
 -- after no octets the one, after some the other
 after-some : ℕ → Bool → Bool → Bool

@@ -1,12 +1,12 @@
--- A record that is not refused stays so, octet by octet. Assumes nothing.
-use mathlib.Core.Path.{_∙_}
+-- One octet: a flag, and one that is none; a record that is not refused stays so. Assumes nothing.
+use mathlib.Core.Path.{_≡_, _∙_}
 use mathlib.Core.Bool.{Bool, true, false, cond}
 use Prim.Native.Nat.{ℕ}
 use native.Mathlib.Omega.{arith}
 use lib.Dec.{eqb}
 use lib.Seq.{length-sets}
 use Rattle.frame.specs.Line.{flag}
-use Rattle.receiver.specs.Held.{Held, Usable, added, taken, raw, opened, after}
+use Rattle.receiver.specs.Held.{Held, Usable, added, taken, raw, opened, after, closes}
 
 taken-usable : (h : Held) (x : ℕ) → Usable h → Usable (taken h x)
 unfolding taken
@@ -21,3 +21,16 @@ pub after-usable : (h : Held) (x : ℕ) → Usable h → Usable (after h x)
 unfolding after opened raw
 after-usable h x u =
     either Usable (eqb x flag) (u .0, omega arith) (either Usable (h .marks .seen) (taken-usable h x u) u)
+
+module _ (h : Held) (x : ℕ) where
+  pub after-flag : eqb x flag ≡ true → after h x ≡ opened h
+  unfolding after
+  after-flag e = rw e
+
+  pub after-other : eqb x flag ≡ false → after h x ≡ raw h x
+  unfolding after
+  after-other e = rw e
+
+  pub closes-other : eqb x flag ≡ false → closes h x ≡ false
+  unfolding closes
+  closes-other e = rw e

@@ -1,0 +1,292 @@
+-- One call of the receiver, for any record: when it is refused, what is handed out and where, and how far it goes.
+--   heldOctets h      == the decoded octets that a record holds
+--   fittingRows N h   == the rows of what is handed out, but for that of 5
+--   TookAll, TookUpTo == a call goes over all octets, or up to the flag at the place k; HowFar == one of the two
+-- Assumes nothing.
+use mathlib.Core.Path.{_≡_, refl, sym, ap, _∙_}
+use mathlib.Core.Bool.{Bool, true, false, cond, not}
+use mathlib.Core.List.{List, [], _∷_, _++_}
+use mathlib.Core.Logic.{_↔_, _⊎_, inl, inr, ⊎-elim, ⊎-map}
+use Prim.Native.Nat.{ℕ, suc, _+_, _-_, _<_, _≤_}
+use native.Mathlib.Omega.{arith}
+use borrow.Author.Tests.{ltb-true, ltb-false, lt-ltb, le-ltb, eqb-true, eq-eqb, not-false}
+use lib.Dec.{eqb, ltb}
+use lib.ListN.{length, take, getD, length-take}
+use Rattle.octets.specs.Octets.{Octets, holds, pairOf}
+use Rattle.octets.proofs.Bounds.{octets-take}
+use Rattle.octets.proofs.Words.{true-not-false, and-parts, holds-exactly}
+use Rattle.refusal.specs.Answer.{Answer, gives, refuses, TestRow, _when_, answered, Clear, numbersOf, shorter}
+use Rattle.refusal.proofs.Answers.{gives-not-refuses, refuses-same}
+use Rattle.refusal.proofs.Exactly.{TestsFor, exactly-tests, exactly-given, answered-all}
+use Rattle.fcs.specs.Check.{checkOf, withCheck}
+use Rattle.limits.specs.Limits.{isLimit, Limited, frameMost}
+use Rattle.limits.proofs.Exactly.{is-limit-exactly}
+use Rattle.frame.specs.Line.{flag}
+use Rattle.frame.specs.Decode.{body, rightCheck, decodeRows}
+use Rattle.frame.proofs.Checks.{split-two, check-exactly}
+use Rattle.receiver.specs.Held.{Held, Usable, places, opened, after, closes, says}
+use Rattle.receiver.specs.Call.{nothing, handed, Took, further, takes, receiveRows, received, takenBy, heldBy, outBy}
+use Rattle.receiver.proofs.Refusals.{in-order}
+use Rattle.receiver.proofs.Only.{nothing-not-handed}
+use Rattle.live.specs.Calls.{afterAll, handOuts}
+
+-- what holds on each side of a test holds by it
+pub by-test : {A : Type 0} (P : A → Type 0) (t : Bool) {a b : A}
+    → (t ≡ true → P a) → (t ≡ false → P b) → P (cond t a b)
+by-test P true p q = p refl
+by-test P false p q = q refl
+
+module _ {A : Type 0} (a : A) where
+  -- a number that is given is that of a row
+  numbered : (rows : List TestRow) {k : ℕ} → answered rows a ≡ refuses k → holds k (numbersOf rows) ≡ true
+  numbered rows e =
+      ⊎-elim (λ g. absurd (gives-not-refuses (sym g ∙ e))) (λ q. rw (refuses-same (sym e ∙ q .2)) (q .1))
+      (answered-all rows a)
+
+  -- a last row that does not hold where no other one does is idle
+  idle-row : (rows : List TestRow) (k : ℕ) (t : Bool) → (Clear rows → t ≡ false)
+      → answered (rows ++ k when t ∷ []) a ≡ answered rows a
+  unfolding answered Clear
+  idle-row [] k t f = rw (f tt)
+  idle-row (n when true ∷ rows) k t f = refl
+  idle-row (n when false ∷ rows) k t f = idle-row rows k t (λ c. f (refl, c))
+
+abbrev pub heldOctets : Held → List ℕ
+heldOctets h = take (h .marks .count) (h .store)
+
+unfoldable fittingRows : ℕ → Held → List TestRow
+fittingRows N h =
+    4 when h .marks .last
+    ∷ 2 when h .marks .more
+    ∷ 4 when false
+    ∷ 1 when ltb (length (heldOctets h)) 4
+    ∷ 2 when ltb N (length (heldOctets h))
+    ∷ 3 when not (rightCheck (heldOctets h))
+    ∷ []
+
+body-length : (d : List ℕ) → length (body d) ≡ length d - 2
+unfolding body
+body-length d = omega (arith, length-take (length d - 2) d)
+
+module _ (N room : ℕ) (h : Held) (fits : frameMost N ≤ room) where
+  -- an output of N - 2 octets has room for every frame, so the row of 5 never holds
+  says-fitting : says N room h ≡ answered (fittingRows N h) (body (heldOctets h))
+  unfolding says decodeRows fittingRows Clear
+  says-fitting =
+      let d : List ℕ = heldOctets h in
+      idle-row (body d) (fittingRows N h) 5 (shorter room (body d)) (λ c.
+      let small = ltb-false N (length d) (c .1 .1 .1 .1 .0) in
+      le-ltb room (length (body d)) (omega (arith, body-length d)))
+
+  -- the numbers that are handed out are those of the other rows
+  numbers-said : {k : ℕ} → says N room h ≡ refuses k → holds k (4 ∷ 2 ∷ 4 ∷ 1 ∷ 2 ∷ 3 ∷ []) ≡ true
+  unfolding fittingRows numbersOf
+  numbers-said e = numbered (body (heldOctets h)) (fittingRows N h) (sym says-fitting ∙ e)
+
+  pub says-no-5 : says N room h ≡ refuses 5 → ⊥
+  unfolding holds
+  says-no-5 e = true-not-false (sym (numbers-said e))
+
+  pub says-no-6 : says N room h ≡ refuses 6 → ⊥
+  unfolding holds
+  says-no-6 e = true-not-false (sym (numbers-said e))
+
+-- what is handed out is the same in any output of N - 2 octets or more
+pub says-room : (N room : ℕ) (h : Held) → frameMost N ≤ room → says N room h ≡ says N (frameMost N) h
+says-room N room h fits = says-fitting N room h fits ∙ sym (says-fitting N (frameMost N) h (omega arith))
+
+module _ (N room : ℕ) (h : Held) {b : List ℕ} (frame : says N room h ≡ gives b) where
+  -- no row holds of a frame that is handed out: it has 4 to N octets, with a right check, which is left out
+  frame-said : (4 ≤ length (heldOctets h)) × (length (heldOctets h) ≤ N)
+      × (rightCheck (heldOctets h) ≡ true) × (body (heldOctets h) ≡ b)
+  unfolding says decodeRows Clear
+  frame-said =
+      let rows = 4 when h .marks .last ∷ 2 when h .marks .more ∷ decodeRows N false (heldOctets h) room in
+      let g = exactly-given rows (body (heldOctets h)) b .0 frame in
+      let c = g .0 .1 .1 .1 in
+      (ltb-false _ _ (c .0), ltb-false _ _ (c .1 .0), not-false _ (c .1 .1 .0), g .1)
+
+  pub frame-size : (2 ≤ length b) × (length b + 2 ≤ N)
+  frame-size =
+      let s = frame-said in
+      let n : length b ≡ length (heldOctets h) - 2 = sym (ap length (s .3)) ∙ body-length (heldOctets h) in
+      (omega arith, omega arith)
+
+  -- what is held is the frame with its check behind it, "low one first"
+  pub right-check : (low : ℕ) × (high : ℕ) × (heldOctets h ≡ b ++ low ∷ high ∷ []) × (checkOf b ≡ pairOf low high)
+  unfolding body rightCheck
+  right-check =
+      let s = frame-said in
+      let d : List ℕ = heldOctets h in
+      let k : ℕ = length d - 2 in
+      let n : length d - 1 ≡ suc k = omega arith in (
+        getD d k 0,
+        getD d (suc k) 0,
+        rw (← s .3) (sym (split-two d k (omega arith))),
+        rw (← s .3, ← n) (eqb-true _ _ (s .2)),
+      )
+
+  -- and it is the very octets of the check where the store holds octets
+  pub right-check-octets : Octets (h .store) → heldOctets h ≡ withCheck b
+  right-check-octets os =
+      let s = frame-said in
+      rw (← s .3)
+      (check-exactly (heldOctets h) (octets-take (h .marks .count) (h .store) os) (omega arith) .0 (s .2))
+
+-- one of two tests, in the order of the tests
+first-of : (t : Bool) {A : Type 0} → (t ≡ true) ⊎ A → (t ≡ true) ⊎ ((t ≡ false) × A)
+first-of true w = inl refl
+first-of false w = inr (refl, ⊎-elim (λ e. absurd (true-not-false (sym e))) (λ a. a) w)
+
+-- a test that says no is the negation of what it says yes to
+denied : (t : Bool) {A : Type 0} → (t ≡ true ↔ A) → not t ≡ true ↔ (A → ⊥)
+denied true e = (λ q. absurd (true-not-false (sym q)), λ n. absurd (n (e .0 refl)))
+denied false e = (λ q a. true-not-false (sym (e .1 a)), λ n. refl)
+
+module _ (N : ℕ) (h : Held) (s : List ℕ) (room : ℕ) where
+  limit-denied : not (isLimit N) ≡ true ↔ (Limited N → ⊥)
+  limit-denied = denied (isLimit N) (is-limit-exactly N)
+
+  store-denied : not (eqb (length (h .store)) places) ≡ true ↔ (length (h .store) ≡ 260 → ⊥)
+  store-denied = denied (eqb (length (h .store)) places) (eqb-true _ _, eq-eqb _ _)
+
+  -- 6: "outside 78 to 260", a store of other than 260 places, or "A record holding more octets than its store"
+  pub refused-6 : received N h s room ≡ refuses 6
+      ↔ (Limited N → ⊥) ⊎ ((length (h .store) ≡ 260 → ⊥) ⊎ (260 < h .marks .count))
+  unfolding received receiveRows TestsFor numbersOf holds
+  refused-6 =
+      let rows = exactly-tests 6 (receiveRows N h room) (takes N room h s) in (
+        λ e.
+            ⊎-map (limit-denied .0) (λ w. ⊎-map (store-denied .0) (λ q. ltb-true _ _ (q .1)) (w .1)) (rows .0 e),
+        λ w.
+            rows .1
+            (first-of _ (⊎-map (limit-denied .1) (λ v. first-of _ (⊎-map (store-denied .1) (lt-ltb _ _) v)) w)),
+      )
+
+  -- 5: none of that, and "an output shorter than" N - 2
+  pub refused-5 : received N h s room ≡ refuses 5
+      ↔ Limited N × (length (h .store) ≡ 260) × (h .marks .count ≤ 260) × (room < N - 2)
+  unfolding received receiveRows TestsFor numbersOf holds
+  refused-5 =
+      let rows = exactly-tests 5 (receiveRows N h room) (takes N room h s) in (
+        λ e.
+            let t = rows .0 e in (
+              is-limit-exactly N .0 (not-false _ (t .0)),
+              eqb-true _ _ (not-false _ (t .1 .0)),
+              ltb-false _ _ (t .1 .1 .0),
+              ltb-true _ _ (t .1 .1 .1),
+            ),
+        λ w.
+            rows .1 (
+              ap not (is-limit-exactly N .1 (w .0)),
+              (ap not (eq-eqb _ _ (w .1)), (le-ltb _ _ (w .2), lt-ltb _ _ (w .3))),
+            ),
+      )
+
+  -- no other number
+  pub refused-other : {k : ℕ} → received N h s room ≡ refuses k → (k ≡ 5) ⊎ (k ≡ 6)
+  unfolding received receiveRows numbersOf
+  refused-other e =
+      ⊎-elim inr (⊎-elim inr (⊎-elim inr (⊎-elim inl absurd)))
+      (holds-exactly _ (6 ∷ 6 ∷ 6 ∷ 5 ∷ []) .0 (numbered (takes N room h s) (receiveRows N h room) e))
+
+  pub not-refused : isLimit N ≡ true → Usable h → frameMost N ≤ room → received N h s room ≡ gives (takes N room h s)
+  not-refused l u fits = in-order N h s room l (u .0) (u .1) fits
+
+  -- "nothing is taken", and the record and the output are as they were
+  pub refusal-changes-nothing : {k : ℕ} (o : List ℕ) → received N h s room ≡ refuses k
+      → (takenBy (received N h s room) ≡ 0) × (heldBy (received N h s room) h ≡ h)
+      × (outBy (received N h s room) o ≡ o)
+  unfolding takenBy heldBy outBy
+  refusal-changes-nothing o e = rw e (refl, refl, refl)
+
+-- every octet is taken, and nothing handed out
+pub record TookAll (N : ℕ) (h : Held) (s : List ℕ) (t : Took) : Type 0 where
+  pub told : t .told ≡ nothing
+  pub count : t .count ≡ length s
+  pub held : t .held ≡ afterAll h s
+  pub outs : handOuts N h s ≡ []
+
+-- the flag at the place k is the last one taken, and the only one that hands something out
+pub record TookUpTo (N room : ℕ) (h : Held) (s : List ℕ) (k : ℕ) (t : Took) : Type 0 where
+  pub place : k < length s
+  pub closing : getD s k 0 ≡ flag
+  pub told : t .told ≡ handed (says N room (afterAll h (take k s)))
+  pub count : t .count ≡ suc k
+  pub opens : t .held ≡ opened (afterAll h (take k s))
+  pub held : t .held ≡ afterAll h (take (suc k) s)
+  pub outs : handOuts N h (take (suc k) s) ≡ says N (frameMost N) (afterAll h (take k s)) ∷ []
+
+abbrev pub HowFar : ℕ → ℕ → Held → List ℕ → Took → Type 0
+HowFar N room h s t = TookAll N h s t ⊎ (k : ℕ) × TookUpTo N room h s k t
+
+module _ (N room : ℕ) where
+  module _ (h : Held) (x : ℕ) (xs : List ℕ) where
+    far-here : closes h x ≡ true
+        → HowFar N room h (x ∷ xs) (record { held = after h x; count = 1; told = handed (says N room h) })
+    unfolding closes after afterAll handOuts
+    far-here e =
+        let f = and-parts (eqb x flag) _ e .0 in
+        inr (
+          0,
+          record {
+            place = omega arith;
+            closing = eqb-true x flag f;
+            told = refl;
+            count = refl;
+            opens = rw f;
+            held = refl;
+            outs = rw e;
+          },
+        )
+
+    far-more : (t : Took) → closes h x ≡ false → HowFar N room (after h x) xs t → HowFar N room h (x ∷ xs) (further t)
+    unfolding further afterAll handOuts
+    far-more t e (inl a) =
+        inl (record { told = a .told; count = ap suc (a .count); held = a .held; outs = rw e (a .outs) })
+    far-more t e (inr (k, u)) =
+        inr (
+          suc k,
+          record {
+            place = omega (arith, u .place);
+            closing = u .closing;
+            told = u .told;
+            count = ap suc (u .count);
+            opens = u .opens;
+            held = u .held;
+            outs = rw e (u .outs);
+          },
+        )
+
+  -- a call goes over all octets, or up to and with the first flag that hands something out
+  pub how-far : (h : Held) (s : List ℕ) → HowFar N room h s (takes N room h s)
+  unfolding takes afterAll handOuts
+  how-far h [] = inl (record { told = refl; count = refl; held = refl; outs = refl })
+  how-far h (x ∷ xs) =
+      by-test (HowFar N room h (x ∷ xs)) (closes h x) (far-here h x xs)
+      (λ e. far-more h x xs _ e (how-far (after h x) xs))
+
+module _ (N room : ℕ) (h : Held) (s : List ℕ) where
+  pub takes-at-least-one : 0 < length s → 0 < takes N room h s .count
+  takes-at-least-one some =
+      ⊎-elim (λ a. omega (arith, a .count)) (λ u. omega (arith, u .1 .count)) (how-far N room h s)
+
+  pub takes-at-most : takes N room h s .count ≤ length s
+  takes-at-most =
+      ⊎-elim (λ a. omega (arith, a .count)) (λ u. omega (arith, u .1 .count, u .1 .place)) (how-far N room h s)
+
+  -- a call hands out only at a flag, and only what is to be said of the octets before it
+  pub told-at-flag : {a : Answer (List ℕ)} → takes N room h s .told ≡ handed a
+      → (k : ℕ) × (takes N room h s .count ≡ suc k) × (getD s k 0 ≡ flag)
+      × (a ≡ says N room (afterAll h (take k s))) × (takes N room h s .held ≡ opened (afterAll h (take k s)))
+  told-at-flag e =
+      ⊎-elim (λ a. absurd (nothing-not-handed (sym (a .told) ∙ e)))
+      (λ u. (u .0, u .1 .count, u .1 .closing, cc (u .1 .told), u .1 .opens)) (how-far N room h s)
+
+  -- a call that hands out nothing goes over all octets
+  pub told-nothing : takes N room h s .told ≡ nothing
+      → (takes N room h s .count ≡ length s) × (takes N room h s .held ≡ afterAll h s) × (handOuts N h s ≡ [])
+  told-nothing e =
+      ⊎-elim (λ a. (a .count, a .held, a .outs))
+      (λ u. absurd (nothing-not-handed (sym e ∙ u .1 .told)))
+      (how-far N room h s)

@@ -1,0 +1,46 @@
+-- Frames on the line, one behind the other. 01: "The writer gives flag, frame, flag"; two frames may share a flag.
+--   Sent           == a frame: how many flags stand in front of it beyond the one that closes the frame before it, and its
+--                     address, control and payload
+--   sent fs        == behind a flag: the frames fs, a flag behind each
+--   bodies fs      == address, control and payload of each
+--   Fits N b       == address, control and payload of a frame within the limit N
+--   AllFit N bs    == each of bs is
+--   linesOf bs     == the line of each of bs, each with its own two flags
+--   given bs       == each of bs is handed out
+-- Assumes nothing.
+use mathlib.Core.List.{List, [], _∷_, _++_}
+use Prim.Native.Nat.{ℕ, _+_, _≤_}
+use lib.ListN.{length, replicate}
+use Rattle.octets.specs.Octets.{Octets}
+use Rattle.refusal.specs.Answer.{Answer, gives}
+use Rattle.fcs.specs.Check.{withCheck}
+use Rattle.frame.specs.Line.{flag, onLine}
+use Rattle.frame.specs.Write.{lineOf}
+
+pub record Sent : Type 0 where
+  pub flags : ℕ
+  pub body : List ℕ
+
+unfoldable pub sent : List Sent → List ℕ
+sent [] = []
+sent (f ∷ fs) = replicate (f .flags) flag ++ (onLine (withCheck (f .body)) ++ flag ∷ sent fs)
+
+unfoldable pub bodies : List Sent → List (List ℕ)
+bodies [] = []
+bodies (f ∷ fs) = f .body ∷ bodies fs
+
+-- its two check octets are counted
+abbrev pub Fits : ℕ → List ℕ → Type 0
+Fits N b = Octets b × (2 ≤ length b) × (length b + 2 ≤ N)
+
+unfoldable pub AllFit : ℕ → List (List ℕ) → Type 0
+AllFit N [] = Unit {0}
+AllFit N (b ∷ bs) = Fits N b × AllFit N bs
+
+unfoldable pub linesOf : List (List ℕ) → List ℕ
+linesOf [] = []
+linesOf (b ∷ bs) = lineOf b ++ linesOf bs
+
+unfoldable pub given : List (List ℕ) → List (Answer (List ℕ))
+given [] = []
+given (b ∷ bs) = gives b ∷ given bs
