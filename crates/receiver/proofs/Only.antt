@@ -24,7 +24,7 @@ nothing-not-handed e = let z : _≡_ {A = ℕ} 0 1 = cc in omega arith
 handed-same : {A : Type 0} {a b : Answer A} → handed a ≡ handed b → a ≡ b
 handed-same e = cc
 
-heard-apart : (r q : Heard) → heardOf r ≡ heardOf q → r ≡ q
+pub heard-apart : (r q : Heard) → heardOf r ≡ heardOf q → r ≡ q
 unfolding heardOf
 heard-apart Nothing Nothing e = refl
 heard-apart Nothing (HandedOut b) e = absurd (nothing-not-handed (gives-same e))

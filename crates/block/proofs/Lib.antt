@@ -1,0 +1,3 @@
+-- The laws of a receiver's block.
+pub mod Parts
+pub mod Only
