@@ -12,7 +12,12 @@ use Rattle.refusal.specs.Answer.{Answer, gives, refuses, answerOf, counted, out
 use Rattle.refusal.specs.declared.Refusal.{Refusal}
 use Rattle.refusal.specs.declared.Handed.{Handed}
 use Rattle.refusal.specs.declared.Handed.the-variants.{Refused}
-use Rattle.capi.specs.Crossing.{refusals, crossed, Crosses}
+use Rattle.receiver.specs.Call.{Took, heardOf}
+use Rattle.receiver.specs.declared.Heard.{Heard}
+use Rattle.receiver.specs.declared.Heard.the-variants.{Nothing, HandedOut}
+use Rattle.block.specs.Block.{Blocks}
+use Rattle.block.specs.declared.Told.{Told}
+use Rattle.capi.specs.Crossing.{refusals, crossed, Crosses, heardCrossed, Hears}
 
 pub refusal-crosses : {h : Handed} {k : Refusal} {n : ℕ}
     → h ≡ Refused k → n ≡ numberOf k → refusals + n ≡ crossed (answerOf h)
@@ -41,3 +46,24 @@ module _ {o o' : List ℕ} {r : ℕ} where
   unfolding crossed counted outAfter
   high-told (gives b) short c h = let e = c .number in let s = short b refl in absurd (omega arith)
   high-told (refuses k) short c h = let e = c .number in (ap refuses (omega arith), c .octets)
+
+-- the receiver's answer, by the cases of the code's
+pub heard-none : {h : Heard} → h ≡ Nothing → 0 ≡ heardCrossed (heardOf h)
+unfolding heardCrossed heardOf
+heard-none e = rw e
+
+pub heard-handed : {h : Heard} {a : Handed} {r : ℕ} → h ≡ HandedOut a → r ≡ crossed (answerOf a)
+    → r ≡ heardCrossed (heardOf h)
+unfolding heardCrossed heardOf
+heard-handed e f = rw e f
+
+pub heard-refused : {h : Heard} {k : Refusal} {n : ℕ} → h ≡ Heard.Refused k → n ≡ numberOf k
+    → refusals + n ≡ heardCrossed (heardOf h)
+unfolding heardCrossed heardOf
+heard-refused e f = rw (e, f)
+
+-- the code's answer to a call of the receiver, crossed
+pub told-hears : {x : Answer Took} {b o b' o' : List ℕ} {w : Told} {r : ℕ}
+    → Blocks x b o w b' o' → r ≡ heardCrossed (heardOf (w .heard)) → Hears x b o r (w .taken) b' o'
+told-hears w e =
+    record { number = e ∙ ap heardCrossed (w .answer); taken = w .count; block = w .block; octets = w .octets }

@@ -1,4 +1,5 @@
-// The codec for a program in C: check, decode, write, on numbers and byte slices (include/gorittaem.h).
+// The codec and the receiver for a program in C: check, decode, write, receive, on numbers and byte slices
+// (include/gorittaem.h).
 // An answer crosses as a number: how many octets stand at the start of the lent output, or 0x10000 and the refusal's
 // number. Assumes of a caller in C what a slice is: a pointer that may be read or written for its whole length, and no
 // part of an output in an input.
@@ -9,8 +10,12 @@ ghost use Rattle.fcs.specs.Check.{checkOf};
 ghost use Rattle.limits.specs.Limits.{limitLeast};
 ghost use Rattle.frame.specs.Decode.{decoded};
 ghost use Rattle.frame.specs.Write.{written};
-ghost use Rattle.capi.specs.Crossing.{crossed, Crosses};
+ghost use Rattle.receiver.specs.Call.{received, heardOf};
+ghost use Rattle.block.specs.Block.{heldIn};
+ghost use Rattle.capi.specs.Crossing.{crossed, Crosses, heardCrossed, Hears};
+use block::BLOCK;
 use limits::LIMIT_LEAST;
+use receiver::Heard;
 use refusal::Handed;
 
 // What a refusal's number is added to.
@@ -23,6 +28,17 @@ fn crossing(answer: Handed) -> usize
     match answer {
         Handed::Octets(n) => n,
         Handed::Refused(refusal) => REFUSED + refusal::number(refusal) as usize,
+    }
+}
+
+// The same of a receiver's answer: 0 where nothing was handed out.
+fn crossing_heard(heard: Heard) -> usize
+    ensures { λ r. ⌜ r ≡ heardCrossed (heardOf heard) ⌝ }
+{
+    match heard {
+        Heard::Nothing => 0,
+        Heard::HandedOut(answer) => crossing(answer),
+        Heard::Refused(refusal) => REFUSED + refusal::number(refusal) as usize,
     }
 }
 
@@ -78,4 +94,23 @@ pub extern "C" fn gorittaem_write_n(
 {
     let answer = writer::write(limit, address, control, payload, out);
     crossing(answer)
+}
+
+// Takes octets of `run` into the receiver whose record `block` holds, up to and with the first flag that hands something out,
+// to the start of `out`. `taken` gets how many, 0 where the call is refused.
+#[no_mangle]
+pub extern "C" fn gorittaem_receive(
+    block: &mut [u8; BLOCK],
+    limit: usize,
+    run: &[u8],
+    out: &mut [u8],
+    taken: &mut usize,
+) -> usize
+    ensures { λ r. ⌜ Hears (received limit (heldIn (now (block .entry))) (now (run .entry)) (length (now (out .entry))))
+        (now (block .entry)) (now (out .entry)) r (now (taken .exit)) (now (block .exit)) (now (out .exit)) ⌝ }
+{
+    let told = block::receive(block, limit, run, out);
+    *taken = told.taken;
+    let heard = told.heard;
+    crossing_heard(heard)
 }
