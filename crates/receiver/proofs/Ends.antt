@@ -13,7 +13,7 @@ use Rattle.refusal.proofs.Answers.{answered-here, answered-later}
 use Rattle.limits.specs.Limits.{limitMost}
 use Rattle.frame.specs.Line.{flag}
 use Rattle.frame.specs.Decode.{body, decodeRows, framed}
-use Rattle.receiver.specs.Held.{Held, Usable, heldOf, openMarks, opened, after, stretched, closes, says}
+use Rattle.receiver.specs.Held.{Held, Usable, heldOf, places, openMarks, opened, after, stretched, closes, says}
 use Rattle.receiver.specs.Call.{Told, nothing, handed, takes, received, Receives, heardOf, heardBy, takenBy, heldBy, outBy, toldCounted, outTold}
 use Rattle.receiver.specs.Pieces.{furtherBy, Passes}
 use Rattle.receiver.specs.declared.Receiver.{Receiver}
@@ -33,8 +33,9 @@ module _ (N room : ℕ) (r : Receiver) (m : List ℕ) where
   unfolding says
   says-framed e f = answered-later 4 _ _ e ∙ answered-later 2 _ _ f
 
-pub short-of : {k n : ℕ} → k ≤ n → (k ≡ n → ⊥) → k < n
-short-of h e = omega (arith, e)
+-- a store that is not full has a place
+pub place-free : (h : Held) → Usable h → (h .marks .count ≡ places → ⊥) → h .marks .count < length (h .store)
+place-free h u n = omega (arith, u .0, u .1, n)
 
 -- all of the run was taken
 module _ (N : ℕ) (h g : Held) (s o : List ℕ) {k : ℕ} (p : Passes h s k g) where

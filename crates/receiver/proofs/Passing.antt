@@ -1,6 +1,6 @@
 -- Octets that hand out nothing: none, one, some and then more, and as many as stand for themselves. Assumes nothing.
 use mathlib.Core.Path.{_≡_, refl, sym, ap, _∙_}
-use mathlib.Core.Bool.{Bool, true, false, and-false}
+use mathlib.Core.Bool.{Bool, true, false, and-false, or-true}
 use mathlib.Core.List.{List, [], _∷_, _++_}
 use Prim.Native.Nat.{ℕ, zero, suc, _+_, _-_, _<_, _≤_, min}
 use native.Mathlib.Nat.{zero-add, add-zero, add-assoc}
@@ -13,14 +13,14 @@ use lib.Seq.{sets, drop-drop, take-suc}
 use Rattle.octets.proofs.Rest.{rest}
 use Rattle.octets.proofs.Stores.{sets-append}
 use Rattle.octets.proofs.Takes.{take-rest}
-use Rattle.octets.proofs.Words.{or-none}
+use Rattle.octets.proofs.Words.{true-not-false, or-none}
 use Rattle.frame.specs.Line.{flag, escape, special}
 use Rattle.receiver.specs.Held.{Held, Usable, heldOf, places, openMarks, raw, opened, after, stretched, closes}
 use Rattle.receiver.specs.Call.{Took, further, takes}
 use Rattle.receiver.specs.Pieces.{Plain, Copies, furtherBy, Passes}
 use Rattle.receiver.specs.declared.Receiver.{Receiver}
 use Rattle.receiver.proofs.After.{after-usable, after-flag, after-other, closes-other}
-use Rattle.receiver.proofs.Steps.{marked, marked-is, place-room, raw-plain}
+use Rattle.receiver.proofs.Steps.{marked, raw-plain}
 
 pub pass-none : {h : Held} {s : List ℕ} → Usable h → Passes h s 0 h
 unfolding furtherBy
@@ -94,10 +94,7 @@ module _ (n : ℕ) (p l a : Bool) (m : List ℕ) (x : ℕ) (plain : special x �
 
   after-plain : n < places → after (marked n p false l a true m) x ≡ marked (n + 1) p false false true true (set m n x)
   unfolding after
-  after-plain h =
-      rw (no-special .0)
-      (sym (raw-plain n p l a m x (no-special .1))
-      ∙ rw (no-special .1) (sym (place-room _ m x h)))
+  after-plain h = rw (no-special .0) (sym (raw-plain n p l a m x (no-special .1) h))
 
   plain-open : closes (marked n p false l a true m) x ≡ false
   unfolding closes
@@ -119,23 +116,34 @@ plain-pass (suc k) (x ∷ xs) n p l a m h w r e =
     let d : 1 + k ≡ suc k = omega arith in
     rw (add-one, c, d, after-same k false, after-same k true) at (pass-on f g)
 
--- the same, in the words of the code: no octet was copied, or some were
-pub none-passed : (r : Receiver) (s m : List ℕ) {k : ℕ} {m' : List ℕ} → Usable (heldOf r m) → k ≡ 0
-    → Copies s m (r .count) k m' → Passes (heldOf r m) s k (heldOf r m')
-none-passed r s m u e c = rw (c .octets, e) (pass-none u)
-
-pub some-passed : (r : Receiver) (s m : List ℕ) (k : ℕ) {m' : List ℕ} → Usable (heldOf r m) → r .seen ≡ true
-    → r .escaping ≡ false → (k ≡ 0 → ⊥) → Copies s m (r .count) k m'
-    → Passes (heldOf r m) s k (marked (r .count + k) (r .more) (r .escaping) false true (r .seen) m')
+-- the same, in the words of the code
+pub some-passed : (r : Receiver) (s m : List ℕ) (k x : ℕ) {m' : List ℕ} → Usable (heldOf r m) → r .seen ≡ true
+    → r .escaping ≡ false → (x ≡ escape → ⊥) → Copies s m (r .count) k m'
+    → Passes (heldOf r m) s k (marked (r .count + k) (r .more) (r .escaping) (eqb x escape) true (r .seen) m')
 unfolding after-some
-some-passed r s m zero u e f z c = absurd (z refl)
-some-passed r s m (suc j) u e f z c =
-    rw (c .octets, e, f)
-    (plain-pass (suc j) s (r .count) (r .more) (r .last) (r .any) m (c .few) (c .plain) (omega (arith, c .inside, u .0)) (u .0))
+some-passed r s m zero x u e f g c = absurd (omega (arith, c .some))
+some-passed r s m (suc j) x u e f g c =
+    rw (c .octets, ne-eqb x escape g, e, f)
+    (plain-pass (suc j) s (r .count) (r .more) (r .last) (r .any) m (c .few) (c .plain) (omega (arith, c .inside, u .0))
+    (u .0))
 
 plain-append : (s t : List ℕ) → Plain s → Plain t → Plain (s ++ t)
 plain-append [] t p q = q
 plain-append (x ∷ xs) t p q = (p .0, plain-append xs t (p .1) q)
+
+pub flag-special : (x : ℕ) → x ≡ flag → special x ≡ true
+unfolding special
+flag-special x e = rw (eq-eqb x flag e)
+
+pub escape-special : (x : ℕ) → x ≡ escape → special x ≡ true
+unfolding special
+escape-special x e = rw (eq-eqb x escape e) (or-true (eqb x flag))
+
+-- a flag or an escape is not the first where the first is neither
+pub first-plain : (s : List ℕ) (i : ℕ) → 0 < length s → Plain (take 1 s) → special (getD s i 0) ≡ true → 0 < i
+first-plain [] zero h p e = absurd (omega arith)
+first-plain (x ∷ s) zero h p e = absurd (true-not-false (sym e ∙ p .0))
+first-plain s (suc i) h p e = omega arith
 
 -- below the smaller is below the first
 pub below : {i n : ℕ} (a b : ℕ) → i < n → n ≡ min a b → i < a
@@ -157,3 +165,11 @@ module _ (s : List ℕ) (i : ℕ) (h : i < length s) where
   more-copied o at {m} e =
       let n : length (take i s) ≡ i = omega (arith, length-take i s) in
       rw one-more (rw e (rw n at (sym (sets-append (take i s) (getD s i 0 ∷ []) o at))))
+
+-- what is left from k on, as the code lends it, where an octet stands there that is neither a flag nor an escape
+pub plain-left : (s : List ℕ) (k : ℕ) → k < length s → (getD s k 0 ≡ flag → ⊥) → (getD s k 0 ≡ escape → ⊥)
+    → (0 < length (take (length s - k) (drop k s))) × Plain (take 1 (take (length s - k) (drop k s)))
+unfolding special
+plain-left s k i a b =
+    rw (take-rest k s, rest s k i)
+    (omega arith, (rw (ne-eqb (getD s k 0) flag a, ne-eqb (getD s k 0) escape b) refl, tt))

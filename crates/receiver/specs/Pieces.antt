@@ -1,40 +1,25 @@
 -- What the receiver's functions promise each other: many octets at once come to the same as one by one.
---   placed h x        == the record after the decoded octet x
 --   Plain s           == no octet of s is a flag or an escape
---   Copies s o at n o' == the first n octets of s are such ones, and stand in o' from the place at on
+--   Copies s o at n o' == the first n octets of s, one at least, are such ones, and stand in o' from the place at on
 --   furtherBy k t     == k octets more were taken in front
 --   Passes h s k g    == the first k octets of s take the record h to g, and hand out nothing
 -- Assumes nothing.
 use mathlib.Core.Path.{_≡_}
-use mathlib.Core.Bool.{_||_, false}
+use mathlib.Core.Bool.{false}
 use mathlib.Core.List.{List, [], _∷_}
-use Prim.Native.Nat.{ℕ, _+_, _≤_, min}
-use lib.Dec.{ltb}
+use Prim.Native.Nat.{ℕ, _+_, _<_, _≤_}
 use lib.ListN.{length, take, drop}
 use lib.Seq.{sets}
 use Rattle.frame.specs.Line.{special}
-use Rattle.receiver.specs.Held.{Held, Usable, places}
+use Rattle.receiver.specs.Held.{Held, Usable}
 use Rattle.receiver.specs.Call.{Took, takes}
-
-unfoldable pub placed : Held → ℕ → Held
-placed h x =
-    record {
-      marks = record {
-        count = min places (h .marks .count + 1);
-        more = h .marks .more || ltb places (h .marks .count + 1);
-        escaping = h .marks .escaping;
-        last = h .marks .last;
-        any = h .marks .any;
-        seen = h .marks .seen;
-      };
-      store = sets (h .store) (h .marks .count) (x ∷ []);
-    }
 
 abbrev pub Plain : List ℕ → Type 0
 Plain [] = Unit {0}
 Plain (x ∷ xs) = (special x ≡ false) × Plain xs
 
 pub record Copies (s o : List ℕ) (at n : ℕ) (o' : List ℕ) : Type 0 where
+  pub some : 0 < n
   pub few : n ≤ length s
   pub inside : at + n ≤ length o
   pub plain : Plain (take n s)

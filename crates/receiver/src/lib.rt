@@ -3,13 +3,15 @@
 // Headline: what it hands out is what the decoder says of each stretch between two flags, however the octets are cut
 // (crate live). Assumes nothing of its caller: any record of the type may be handed in.
 ghost use mathlib.Core.Path.{_≡_};
-ghost use Prim.Native.Nat.{_≤_};
-ghost use lib.ListN.{length};
+ghost use mathlib.Core.Bool.{_||_};
+ghost use Prim.Native.Nat.{_+_, _<_};
+ghost use lib.Dec.{ltb};
+ghost use lib.ListN.{length, take};
 ghost use Rattle.refusal.specs.Answer.{gives, Hands};
-ghost use Rattle.receiver.specs.Held.{Usable, heldOf, freshMarks, openMarks, raw, stretched, says};
+ghost use Rattle.receiver.specs.Held.{Usable, heldOf, places, freshMarks, openMarks, stretched, says};
 ghost use Rattle.receiver.specs.Call.{takes, received, Receives};
 ghost use Rattle.receiver.specs.declared.Heard.the-variants.{Refused};
-ghost use Rattle.receiver.specs.Pieces.{placed, Copies, Passes};
+ghost use Rattle.receiver.specs.Pieces.{Plain, Copies};
 use frame::ESCAPE;
 use frame::FLAG;
 use frame::TOGGLE;
@@ -50,12 +52,6 @@ pub struct Received {
     pub heard: Heard,
 }
 
-// How far a stretch was taken in: the record, and how many octets that took.
-struct Piece {
-    receiver: Receiver,
-    taken: usize,
-}
-
 // The record before any octet.
 pub fn new() -> Receiver
     ensures { λ r. ⌜ r ≡ freshMarks ⌝ }
@@ -84,47 +80,16 @@ fn opened() -> Receiver
     }
 }
 
-// Puts a decoded octet into the next place of the store; where it has none, more came.
-fn place(receiver: Receiver, octet: u8, store: &mut [u8]) -> Receiver
-    requires { ⌜ Usable (heldOf receiver (now store)) ⌝ }
-    ensures { λ r. ⌜ heldOf r (now (store .exit)) ≡ placed (heldOf receiver (now (store .entry))) octet ⌝ }
+// Whether more octets came than the store has places, once there is one behind `n` of them.
+fn overflows(more: bool, n: usize) -> bool
+    ensures { λ r. ⌜ r ≡ (more || ltb places (n + 1)) ⌝ }
 {
-    let mut r = receiver;
-    let n = r.count;
-    if n < PLACES {
-        store[n] = octet;
-        r.count = n + 1;
-        return r;
-    }
-    r.more = true;
-    r
+    if n < PLACES { more } else { true }
 }
 
-// Takes in one octet that is no flag.
-fn step(receiver: Receiver, octet: u8, store: &mut [u8]) -> Receiver
-    requires { ⌜ Usable (heldOf receiver (now store)) ⌝ }
-    ensures { λ r. ⌜ heldOf r (now (store .exit)) ≡ raw (heldOf receiver (now (store .entry))) octet ⌝ }
-{
-    let mut r = receiver;
-    if !r.seen {
-        return r;
-    }
-    r.any = true;
-    r.last = octet == ESCAPE;
-    if r.escaping {
-        r.escaping = false;
-        return place(r, octet ^ TOGGLE, store);
-    }
-    if octet == ESCAPE {
-        r.escaping = true;
-        return r;
-    }
-    place(r, octet, store)
-}
-
-// Copies octets of `s` into `store` from `at` on, up to a flag or an escape, and tells how many.
+// Copies octets of `s` into `store` from `at` on, up to a flag or an escape, of which the first is neither, and tells how many.
 fn copy(s: &[u8], store: &mut [u8], at: usize) -> usize
-    requires { ⌜ at ≤ length (now store) ⌝ }
+    requires { ⌜ (0 < length (now s)) × (at < length (now store)) × Plain (take 1 (now s)) ⌝ }
     ensures { λ r. ⌜ Copies (now (s .entry)) (now (store .entry)) at r (now (store .exit)) ⌝ }
 {
     let most = octets::fewer(s.len(), store.len() - at);
@@ -141,36 +106,6 @@ fn copy(s: &[u8], store: &mut [u8], at: usize) -> usize
         i += 1;
     }
     i
-}
-
-// Takes in as many octets as stand for themselves; most do, and one by one they would take three times as long.
-fn take_in(receiver: Receiver, s: &[u8], store: &mut [u8]) -> Piece
-    requires { ⌜ Usable (heldOf receiver (now store)) ⌝ }
-    ensures { λ r. ⌜ Passes (heldOf receiver (now (store .entry))) (now (s .entry)) (r .taken)
-        (heldOf (r .receiver) (now (store .exit))) ⌝ }
-{
-    let mut r = receiver;
-    if !r.seen {
-        return Piece {
-            receiver: r,
-            taken: 0,
-        };
-    }
-    if r.escaping {
-        return Piece {
-            receiver: r,
-            taken: 0,
-        };
-    }
-    let n = r.count;
-    let taken = copy(s, store, n);
-    if taken == 0 {
-        return Piece { receiver: r, taken };
-    }
-    r.count = n + taken;
-    r.last = false;
-    r.any = true;
-    Piece { receiver: r, taken }
 }
 
 // What is handed out where a flag closes the stretch.
@@ -207,7 +142,8 @@ fn refuse(receiver: Receiver, refusal: Refusal) -> Received
     }
 }
 
-// Works through the run: up to and with the first flag that hands something out, or to its end.
+// Works through the run: up to and with the first flag that hands something out, or to its end. Most octets stand for
+// themselves: those are copied as many at once as there are.
 fn listen(
     receiver: Receiver,
     limit: usize,
@@ -223,19 +159,9 @@ fn listen(
     let mut r = receiver;
     let mut at = 0;
     while at < run.len() {
-        let piece = take_in(r, &run[at..], store);
-        r = piece.receiver;
-        at += piece.taken;
-        if at == run.len() {
-            return Received {
-                receiver: r,
-                taken: at,
-                heard: Heard::Nothing,
-            };
-        }
         let b = run[at];
-        at += 1;
         if b == FLAG {
+            at += 1;
             if closing(r) {
                 let handed = close(limit, r, store, out);
                 return Received {
@@ -245,8 +171,29 @@ fn listen(
                 };
             }
             r = opened();
+        } else if !r.seen {
+            at += 1;
         } else {
-            r = step(r, b, store);
+            let n = r.count;
+            r.any = true;
+            r.last = b == ESCAPE;
+            if r.escaping {
+                octets::put(store, n, b ^ TOGGLE);
+                r.count = octets::fewer(PLACES, n + 1);
+                r.more = overflows(r.more, n);
+                r.escaping = false;
+                at += 1;
+            } else if b == ESCAPE {
+                r.escaping = true;
+                at += 1;
+            } else if n == PLACES {
+                r.more = true;
+                at += 1;
+            } else {
+                let taken = copy(&run[at..], store, n);
+                r.count = n + taken;
+                at += taken;
+            }
         }
     }
     Received {

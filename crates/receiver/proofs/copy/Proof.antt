@@ -6,7 +6,7 @@ use lib.ListN.{length, take, length-set}
 use lib.Seq.{sets}
 use borrow.Author.Needs.{needs}
 use Rattle.receiver.specs.Pieces.{Plain}
-use Rattle.receiver.proofs.Passing.{below, more-plain, more-copied}
+use Rattle.receiver.proofs.Passing.{below, first-plain, flag-special, escape-special, more-plain, more-copied}
 use Rattle.receiver.proofs.copy.Statement.{statement}
 use Rattle.receiver.proofs.copy.Tie as tie
 use Rattle.receiver.proofs.copy.Reads as reads
@@ -44,10 +44,12 @@ same-length c = search needs
 returns : tie.Need-returns Inv-loop μ-loop
 returns c =
     let loop = c .before .before .before in
+    let pre = loop .before .before .before .before .pre in
     let most = loop .before .fewer .ensures in
     record {
+      some = first-plain (loop .before .before .before .before .args .s .now) _ (pre .0) (pre .2) (flag-special _ (c .if1 .taken));
       few = omega (arith, loop .loop .inv .0, most);
-      inside = omega (arith, loop .loop .inv .0, most, loop .before .before .before .before .pre);
+      inside = omega (arith, loop .loop .inv .0, most, pre .1);
       plain = loop .loop .inv .1;
       octets = loop .loop .inv .2;
     }
@@ -60,10 +62,12 @@ same-length-2 c = search needs
 returns-2 : tie.Need-returns-2 Inv-loop μ-loop
 returns-2 c =
     let loop = c .before .before .before .before in
+    let pre = loop .before .before .before .before .pre in
     let most = loop .before .fewer .ensures in
     record {
+      some = first-plain (loop .before .before .before .before .args .s .now) _ (pre .0) (pre .2) (escape-special _ (c .if2 .taken));
       few = omega (arith, loop .loop .inv .0, most);
-      inside = omega (arith, loop .loop .inv .0, most, loop .before .before .before .before .pre);
+      inside = omega (arith, loop .loop .inv .0, most, pre .1);
       plain = loop .loop .inv .1;
       octets = loop .loop .inv .2;
     }
@@ -103,10 +107,12 @@ same-length-3 c = search needs
 returns-3 : tie.Need-returns-3 Inv-loop μ-loop
 returns-3 c =
     let loop = c .before in
+    let pre = loop .before .before .before .before .pre in
     let most = loop .before .fewer .ensures in
     record {
+      some = omega (arith, c .loop-test .left, most, pre .0, pre .1);
       few = omega (arith, loop .loop .inv .0, most);
-      inside = omega (arith, loop .loop .inv .0, most, loop .before .before .before .before .pre);
+      inside = omega (arith, loop .loop .inv .0, most, pre .1);
       plain = loop .loop .inv .1;
       octets = loop .loop .inv .2;
     }
