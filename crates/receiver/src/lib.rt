@@ -3,12 +3,13 @@
 // Headline: what it hands out is what the decoder says of each stretch between two flags, however the octets are cut
 // (crate live). Assumes nothing of its caller: any record of the type may be handed in.
 ghost use mathlib.Core.Path.{_≡_};
-ghost use mathlib.Core.Bool.{_||_};
-ghost use Prim.Native.Nat.{_+_, _<_};
-ghost use lib.Dec.{ltb};
+ghost use mathlib.Core.Bool.{not, _&&_};
+ghost use Prim.Native.Nat.{_<_};
+ghost use lib.Dec.{eqb};
 ghost use lib.ListN.{length, take};
 ghost use Rattle.refusal.specs.Answer.{gives, Hands};
-ghost use Rattle.receiver.specs.Held.{Usable, heldOf, places, freshMarks, openMarks, stretched, says};
+ghost use Rattle.frame.specs.Line.{escape};
+ghost use Rattle.receiver.specs.Held.{Usable, heldOf, freshMarks, openMarks, stretched, says};
 ghost use Rattle.receiver.specs.Call.{takes, received, Receives};
 ghost use Rattle.receiver.specs.declared.Heard.the-variants.{Refused};
 ghost use Rattle.receiver.specs.Pieces.{Plain, Copies};
@@ -80,11 +81,11 @@ fn opened() -> Receiver
     }
 }
 
-// Whether more octets came than the store has places, once there is one behind `n` of them.
-fn overflows(more: bool, n: usize) -> bool
-    ensures { λ r. ⌜ r ≡ (more || ltb places (n + 1)) ⌝ }
+// Whether `b` is an escape: behind one it is not.
+fn opens(escaping: bool, b: u8) -> bool
+    ensures { λ r. ⌜ r ≡ (not escaping && eqb b escape) ⌝ }
 {
-    if n < PLACES { more } else { true }
+    if escaping { false } else { b == ESCAPE }
 }
 
 // Copies octets of `s` into `store` from `at` on, up to a flag or an escape, of which the first is neither, and tells how many.
@@ -177,17 +178,17 @@ fn listen(
             let n = r.count;
             r.any = true;
             r.last = b == ESCAPE;
-            if r.escaping {
-                octets::put(store, n, b ^ TOGGLE);
-                r.count = octets::fewer(PLACES, n + 1);
-                r.more = overflows(r.more, n);
-                r.escaping = false;
-                at += 1;
-            } else if b == ESCAPE {
+            if opens(r.escaping, b) {
                 r.escaping = true;
                 at += 1;
             } else if n == PLACES {
+                r.escaping = false;
                 r.more = true;
+                at += 1;
+            } else if r.escaping {
+                r.escaping = false;
+                store[n] = b ^ TOGGLE;
+                r.count = n + 1;
                 at += 1;
             } else {
                 let taken = copy(&run[at..], store, n);
