@@ -71,14 +71,9 @@ pub fn new() -> Receiver
 fn opened() -> Receiver
     ensures { λ r. ⌜ r ≡ openMarks ⌝ }
 {
-    Receiver {
-        count: 0,
-        more: false,
-        escaping: false,
-        last: false,
-        any: false,
-        seen: true,
-    }
+    let mut r = new();
+    r.seen = true;
+    r
 }
 
 // Whether `b` is an escape: behind one it is not.
@@ -132,15 +127,21 @@ fn closing(receiver: Receiver) -> bool
     if receiver.seen { receiver.any } else { false }
 }
 
+fn told(receiver: Receiver, taken: usize, heard: Heard) -> Received
+    ensures { λ r. ⌜ r ≡ record { receiver = receiver; taken = taken; heard = heard } ⌝ }
+{
+    Received {
+        receiver,
+        taken,
+        heard,
+    }
+}
+
 // Nothing is taken, and nothing is changed.
 fn refuse(receiver: Receiver, refusal: Refusal) -> Received
     ensures { λ r. ⌜ r ≡ record { receiver = receiver; taken = 0; heard = Refused refusal } ⌝ }
 {
-    Received {
-        receiver,
-        taken: 0,
-        heard: Heard::Refused(refusal),
-    }
+    told(receiver, 0, Heard::Refused(refusal))
 }
 
 // Works through the run: up to and with the first flag that hands something out, or to its end. Most octets stand for
@@ -165,11 +166,7 @@ fn listen(
             at += 1;
             if closing(r) {
                 let handed = close(limit, r, store, out);
-                return Received {
-                    receiver: opened(),
-                    taken: at,
-                    heard: Heard::HandedOut(handed),
-                };
+                return told(opened(), at, Heard::HandedOut(handed));
             }
             r = opened();
         } else if !r.seen {
@@ -197,11 +194,7 @@ fn listen(
             }
         }
     }
-    Received {
-        receiver: r,
-        taken: at,
-        heard: Heard::Nothing,
-    }
+    told(r, at, Heard::Nothing)
 }
 
 // The same call over a store that is part of something larger: any other number of places is no receiver's.

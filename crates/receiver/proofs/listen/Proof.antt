@@ -19,6 +19,7 @@ use Rattle.receiver.proofs.closing.Reads as closing-reads
 use Rattle.receiver.proofs.copy.Reads as copy-reads
 use Rattle.receiver.proofs.opened.Reads as opened-reads
 use Rattle.receiver.proofs.opens.Reads as opens-reads
+use Rattle.receiver.proofs.told.Reads as told-reads
 
 abbrev Inv-loop : tie.InvT-loop
 Inv-loop limit run store₀ out₀ r₀ at₀ store out r at =
@@ -27,56 +28,60 @@ Inv-loop limit run store₀ out₀ r₀ at₀ store out r at =
 abbrev μ-loop : tie.MeasureT-loop
 μ-loop limit run store₀ out₀ r₀ at₀ store out r at = length run - at
 
--- src/lib.rt:162:5
+-- src/lib.rt:163:5
 loop-holds : tie.Need-loop-holds Inv-loop μ-loop
 loop-holds c = (pass-none (c .before .before .before .pre), refl)
 
--- src/lib.rt:163:17
+-- src/lib.rt:164:17
 shared-slice-read-b : tie.Need-shared-slice-read-b Inv-loop μ-loop
 shared-slice-read-b c = search needs
 
--- src/lib.rt:165:13
+-- src/lib.rt:166:13
 add-at : tie.Need-add-at Inv-loop μ-loop
 add-at c = search needs
 
--- src/lib.rt:166:16
+-- src/lib.rt:167:16
 closing-requires : tie.Need-closing-requires Inv-loop μ-loop
 closing-requires c κs = search needs
 
--- src/lib.rt:167:21
+-- src/lib.rt:168:21
 close-requires : tie.Need-close-requires Inv-loop μ-loop
 close-requires c κs = c .before .before .before .before .before .before .before .loop .inv .0 .usable
 
--- src/lib.rt:169:31
+-- src/lib.rt:169:29
 opened-requires : tie.Need-opened-requires Inv-loop μ-loop
 opened-requires c κs = search needs
 
--- src/lib.rt:168:17
+-- src/lib.rt:169:17
+told-requires : tie.Need-told-requires Inv-loop μ-loop
+told-requires c κs = search needs
+
+-- src/lib.rt:169:17
 same-length : tie.Need-same-length Inv-loop μ-loop
 same-length c = search needs
 
--- src/lib.rt:168:17
+-- src/lib.rt:169:17
 same-length-2 : tie.Need-same-length-2 Inv-loop μ-loop
-same-length-2 c = c .before .before .out .given ∙ ap length (c .before .before .before .before .before .before .before .before .before .before .before .loop .inv .1)
+same-length-2 c = c .before .before .before .out .given ∙ ap length (c .before .before .before .before .before .before .before .before .before .before .before .before .loop .inv .1)
 
--- src/lib.rt:168:17
+-- src/lib.rt:169:17
 returns : tie.Need-returns Inv-loop μ-loop
 returns c =
-    let loop = c .before .before .before .before .before .before .before .before .before .before .before .loop in
-    let some = sym (c .before .before .before .before .before .before .before .closing .ensures) ∙ c .before .before .before .before .before .before .if2 .taken in
-    rw (c .opened .ensures)
-    (flag-closes _ _ _ _ _ (loop .inv .0) (c .before .before .before .before .before .before .before .before .before .before .loop-test .taken) (c .before .before .before .before .before .before .before .before .if1 .taken) some
-    (rw (loop .inv .1) at (c .before .before .before .close .ensures)))
+    let loop = c .before .before .before .before .before .before .before .before .before .before .before .before .loop in
+    let some = sym (c .before .before .before .before .before .before .before .before .closing .ensures) ∙ c .before .before .before .before .before .before .before .if2 .taken in
+    rw (c .told .ensures, c .before .opened .ensures)
+    (flag-closes _ _ _ _ _ (loop .inv .0) (c .before .before .before .before .before .before .before .before .before .before .before .loop-test .taken) (c .before .before .before .before .before .before .before .before .before .if1 .taken) some
+    (rw (loop .inv .1) at (c .before .before .before .before .close .ensures)))
 
--- src/lib.rt:174:13
+-- src/lib.rt:171:13
 opened-requires-2 : tie.Need-opened-requires-2 Inv-loop μ-loop
 opened-requires-2 c κs = search needs
 
--- src/lib.rt:162:5
+-- src/lib.rt:163:5
 loop-less : tie.Need-loop-less Inv-loop μ-loop
 loop-less c = search needs
 
--- src/lib.rt:162:5
+-- src/lib.rt:163:5
 loop-again : tie.Need-loop-again Inv-loop μ-loop
 loop-again c =
     let loop = c .before .before .before .before .before .before .loop in
@@ -86,15 +91,15 @@ loop-again c =
       loop .inv .1,
     )
 
--- src/lib.rt:176:13
+-- src/lib.rt:173:13
 add-at-2 : tie.Need-add-at-2 Inv-loop μ-loop
 add-at-2 c = search needs
 
--- src/lib.rt:162:5
+-- src/lib.rt:163:5
 loop-less-2 : tie.Need-loop-less-2 Inv-loop μ-loop
 loop-less-2 c = search needs
 
--- src/lib.rt:162:5
+-- src/lib.rt:163:5
 loop-again-2 : tie.Need-loop-again-2 Inv-loop μ-loop
 loop-again-2 c =
     let loop = c .before .before .before .before .before .loop in (
@@ -103,19 +108,19 @@ loop-again-2 c =
       loop .inv .1,
     )
 
--- src/lib.rt:181:16
+-- src/lib.rt:178:16
 opens-requires : tie.Need-opens-requires Inv-loop μ-loop
 opens-requires c κs = search needs
 
--- src/lib.rt:183:17
+-- src/lib.rt:180:17
 add-at-3 : tie.Need-add-at-3 Inv-loop μ-loop
 add-at-3 c = search needs
 
--- src/lib.rt:162:5
+-- src/lib.rt:163:5
 loop-less-3 : tie.Need-loop-less-3 Inv-loop μ-loop
 loop-less-3 c = search needs
 
--- src/lib.rt:162:5
+-- src/lib.rt:163:5
 loop-again-3 : tie.Need-loop-again-3 Inv-loop μ-loop
 loop-again-3 c =
     let loop = c .before .before .before .before .before .before .before .loop in (
@@ -124,15 +129,15 @@ loop-again-3 c =
       loop .inv .1,
     )
 
--- src/lib.rt:187:17
+-- src/lib.rt:184:17
 add-at-4 : tie.Need-add-at-4 Inv-loop μ-loop
 add-at-4 c = search needs
 
--- src/lib.rt:162:5
+-- src/lib.rt:163:5
 loop-less-4 : tie.Need-loop-less-4 Inv-loop μ-loop
 loop-less-4 c = search needs
 
--- src/lib.rt:162:5
+-- src/lib.rt:163:5
 loop-again-4 : tie.Need-loop-again-4 Inv-loop μ-loop
 loop-again-4 c =
     let loop = c .before .before .before .before .before .before .before .before .loop in (
@@ -141,25 +146,25 @@ loop-again-4 c =
       loop .inv .1,
     )
 
--- src/lib.rt:190:17
+-- src/lib.rt:187:17
 slice-write-store : tie.Need-slice-write-store Inv-loop μ-loop
 slice-write-store c =
     let loop = c .before .before .before .before .before .before .before .before .before .loop in
     place-free (heldOf (loop .r) (loop .store)) (loop .inv .0 .usable) (c .before .if5 .left)
 
--- src/lib.rt:191:27
+-- src/lib.rt:188:27
 add-r : tie.Need-add-r Inv-loop μ-loop
 add-r c = search needs
 
--- src/lib.rt:192:17
+-- src/lib.rt:189:17
 add-at-5 : tie.Need-add-at-5 Inv-loop μ-loop
 add-at-5 c = search needs
 
--- src/lib.rt:162:5
+-- src/lib.rt:163:5
 loop-less-5 : tie.Need-loop-less-5 Inv-loop μ-loop
 loop-less-5 c = search needs
 
--- src/lib.rt:162:5
+-- src/lib.rt:163:5
 loop-again-5 : tie.Need-loop-again-5 Inv-loop μ-loop
 loop-again-5 c =
     let loop = c .before .before .before .before .before .before .before .before .before .loop in (
@@ -169,19 +174,19 @@ loop-again-5 c =
       loop .inv .1,
     )
 
--- src/lib.rt:194:34
+-- src/lib.rt:191:34
 sub-copy : tie.Need-sub-copy Inv-loop μ-loop
 sub-copy c = search needs
 
--- src/lib.rt:194:34
+-- src/lib.rt:191:34
 part-copy-start : tie.Need-part-copy-start Inv-loop μ-loop
 part-copy-start c = search needs
 
--- src/lib.rt:194:34
+-- src/lib.rt:191:34
 part-copy-end : tie.Need-part-copy-end Inv-loop μ-loop
 part-copy-end c = search needs
 
--- src/lib.rt:194:21
+-- src/lib.rt:191:21
 copy-requires : tie.Need-copy-requires Inv-loop μ-loop
 copy-requires c κs =
     let loop = c .before .before .before .before .before .before .before .before .before .before .before .loop in
@@ -192,21 +197,21 @@ copy-requires c κs =
       left .1,
     )
 
--- src/lib.rt:195:27
+-- src/lib.rt:192:27
 add-r-2 : tie.Need-add-r-2 Inv-loop μ-loop
 add-r-2 c = search needs
 
--- src/lib.rt:196:17
+-- src/lib.rt:193:17
 add-at-6 : tie.Need-add-at-6 Inv-loop μ-loop
 add-at-6 c = search needs
 
--- src/lib.rt:162:5
+-- src/lib.rt:163:5
 loop-less-6 : tie.Need-loop-less-6 Inv-loop μ-loop
 loop-less-6 c =
     let copied = c .before .before .copy .ensures in
     omega (arith, copied .some, c .before .before .before .before .before .before .before .before .before .before .before .before .before .loop-test .taken)
 
--- src/lib.rt:162:5
+-- src/lib.rt:163:5
 loop-again-6 : tie.Need-loop-again-6 Inv-loop μ-loop
 loop-again-6 c =
     let loop = c .before .before .before .before .before .before .before .before .before .before .before .before .before .before .loop in
@@ -217,19 +222,23 @@ loop-again-6 c =
       loop .inv .1,
     )
 
--- src/lib.rt:148:1
+-- src/lib.rt:197:5
+told-requires-2 : tie.Need-told-requires-2 Inv-loop μ-loop
+told-requires-2 c κs = search needs
+
+-- src/lib.rt:149:1
 same-length-3 : tie.Need-same-length-3 Inv-loop μ-loop
 same-length-3 c = search needs
 
--- src/lib.rt:148:1
+-- src/lib.rt:149:1
 same-length-4 : tie.Need-same-length-4 Inv-loop μ-loop
-same-length-4 c = ap length (c .before .loop .inv .1)
+same-length-4 c = ap length (c .before .before .loop .inv .1)
 
--- src/lib.rt:148:1
+-- src/lib.rt:149:1
 returns-2 : tie.Need-returns-2 Inv-loop μ-loop
 returns-2 c =
-    let loop = c .before .loop in
-    rw (loop .inv .1) (all-taken _ _ _ _ _ (loop .inv .0) (c .loop-test .left))
+    let loop = c .before .before .loop in
+    rw (c .told2 .ensures, loop .inv .1) (all-taken _ _ _ _ _ (loop .inv .0) (c .before .loop-test .left))
 
 pub listen-spec : {M : Type 1} → statement M
 listen-spec =
@@ -243,6 +252,7 @@ listen-spec =
     closing-requires
     close-requires
     opened-requires
+    told-requires
     same-length
     same-length-2
     returns
@@ -272,6 +282,7 @@ listen-spec =
     add-at-6
     loop-less-6
     loop-again-6
+    told-requires-2
     same-length-3
     same-length-4
     returns-2)
