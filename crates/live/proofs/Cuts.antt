@@ -79,7 +79,7 @@ module _ (N : ℕ) (limit : isLimit N ≡ true) where
       )
 
   -- offers that leave nothing: all octets, one by one
-  all-passed : (h : Held) (s : List ℕ) (cs : List Offer) → Usable h → Roomy N cs
+  pub all-passed : (h : Held) (s : List ℕ) (cs : List Offer) → Usable h → Roomy N cs
       → offered N h s cs .left ≡ [] → offered N h s cs ≡ passed N h s []
   all-passed h s cs usable roomy none =
       let (t, most, are) = offers-are h s cs usable roomy in

@@ -5,3 +5,4 @@ pub mod Cuts
 pub mod Decoder
 pub mod Noise
 pub mod Trip
+pub mod Called

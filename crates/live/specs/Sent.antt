@@ -7,7 +7,11 @@
 --   AllFit N bs    == each of bs is
 --   linesOf bs     == the line of each of bs, each with its own two flags
 --   given bs       == each of bs is handed out
+--   Written        == what was handed to the writer, with the room that it was lent, and the line that it gave
+--   AllWritten N ws == each line of ws is what the writer with the limit N gave; writtenLines ws == the lines, and
+--                     writtenBodies ws == address, control and payload of each
 -- Assumes nothing.
+use mathlib.Core.Path.{_≡_}
 use mathlib.Core.List.{List, [], _∷_, _++_}
 use Prim.Native.Nat.{ℕ, _+_, _≤_}
 use lib.ListN.{length, replicate}
@@ -15,7 +19,7 @@ use Rattle.octets.specs.Octets.{Octets}
 use Rattle.refusal.specs.Answer.{Answer, gives}
 use Rattle.fcs.specs.Check.{withCheck}
 use Rattle.frame.specs.Line.{flag, onLine}
-use Rattle.frame.specs.Write.{lineOf}
+use Rattle.frame.specs.Write.{lineOf, written}
 
 pub record Sent : Type 0 where
   pub flags : ℕ
@@ -44,3 +48,28 @@ linesOf (b ∷ bs) = lineOf b ++ linesOf bs
 unfoldable pub given : List (List ℕ) → List (Answer (List ℕ))
 given [] = []
 given (b ∷ bs) = gives b ∷ given bs
+
+pub record Written : Type 0 where
+  pub address : ℕ
+  pub control : ℕ
+  pub payload : List ℕ
+  pub room : ℕ
+  pub line : List ℕ
+
+abbrev pub writtenBody : Written → List ℕ
+writtenBody w = w .address ∷ w .control ∷ w .payload
+
+unfoldable pub AllWritten : ℕ → List Written → Type 0
+AllWritten N [] = Unit {0}
+AllWritten N (w ∷ ws) =
+    Octets (writtenBody w)
+    × (written N (w .address) (w .control) (w .payload) (w .room) ≡ gives (w .line))
+    × AllWritten N ws
+
+unfoldable pub writtenBodies : List Written → List (List ℕ)
+writtenBodies [] = []
+writtenBodies (w ∷ ws) = writtenBody w ∷ writtenBodies ws
+
+unfoldable pub writtenLines : List Written → List (List ℕ)
+writtenLines [] = []
+writtenLines (w ∷ ws) = w .line ∷ writtenLines ws
