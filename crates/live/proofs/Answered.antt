@@ -79,7 +79,7 @@ module _ (N room : ℕ) (h : Held) (fits : frameMost N ≤ room) where
       le-ltb room (length (body d)) (omega (arith, body-length d)))
 
   -- the numbers that are handed out are those of the other rows
-  numbers-said : {k : ℕ} → says N room h ≡ refuses k → holds k (4 ∷ 2 ∷ 4 ∷ 1 ∷ 2 ∷ 3 ∷ []) ≡ true
+  pub numbers-said : {k : ℕ} → says N room h ≡ refuses k → holds k (4 ∷ 2 ∷ 4 ∷ 1 ∷ 2 ∷ 3 ∷ []) ≡ true
   unfolding fittingRows numbersOf
   numbers-said e = numbered (body (heldOctets h)) (fittingRows N h) (sym says-fitting ∙ e)
 
@@ -181,6 +181,19 @@ module _ (N : ℕ) (h : Held) (s : List ℕ) (room : ℕ) where
               ap not (is-limit-exactly N .1 (w .0)),
               (ap not (eq-eqb _ _ (w .1)), (le-ltb _ _ (w .2), lt-ltb _ _ (w .3))),
             ),
+      )
+
+  -- neither: what is taken
+  pub call-given : {t : Took} → received N h s room ≡ gives t
+      → Limited N × Usable h × (frameMost N ≤ room) × (takes N room h s ≡ t)
+  unfolding received receiveRows Clear
+  call-given {t} e =
+      let g = exactly-given (receiveRows N h room) (takes N room h s) t .0 e in
+      let c = g .0 in (
+        is-limit-exactly N .0 (not-false _ (c .0)),
+        (eqb-true _ _ (not-false _ (c .1 .0)), ltb-false _ _ (c .1 .1 .0)),
+        ltb-false _ _ (c .1 .1 .1 .0),
+        g .1,
       )
 
   -- no other number

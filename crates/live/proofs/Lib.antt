@@ -6,3 +6,4 @@ pub mod Decoder
 pub mod Noise
 pub mod Trip
 pub mod Called
+pub mod InC

@@ -2,3 +2,4 @@
 pub mod Stretches
 pub mod Calls
 pub mod Sent
+pub mod InC

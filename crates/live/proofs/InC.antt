@@ -1,0 +1,198 @@
+-- A receiver in C: the block that is lent holds the record from call to call, all zeros is a fresh one, the number that
+-- crosses tells what was handed out, and the calls made again and again hand out what the decoder says.
+--   heldLent w == how far a caller in C has come, with the record that the block holds
+-- Assumes nothing.
+use mathlib.Core.Path.{_≡_, refl, sym, ap, ap₂, _∙_}
+use mathlib.Core.Bool.{Bool, true, false, not, cond}
+use mathlib.Core.List.{List, [], _∷_, _++_, flatten}
+use mathlib.Core.Logic.{_↔_, _⊎_, inl, inr, ⊎-elim, ⊎-map}
+use Prim.Native.Nat.{ℕ, suc, _+_, _-_, _<_, _≤_}
+use native.Mathlib.Omega.{arith}
+use borrow.Author.Tests.{eqb-true, eq-eqb, not-false}
+use lib.ListN.{length, take, drop, getD, replicate, length-append, length-take}
+use lib.Seq.{take-at, drop-at, getD-drop}
+use Rattle.octets.specs.Octets.{holds, OneOf, pairOf}
+use Rattle.octets.proofs.Bounds.{pair-parts}
+use Rattle.octets.proofs.Words.{holds-exactly}
+use Rattle.refusal.specs.Answer.{Answer, gives, refuses, counted, outAfter}
+use Rattle.limits.specs.Limits.{isLimit, Limited, frameMost}
+use Rattle.receiver.specs.Held.{Held, Usable, places, says}
+use Rattle.receiver.specs.Call.{Told, nothing, handed, Took, takes, received, toldCounted, heardBy, takenBy, heldBy, outTold, outBy}
+use Rattle.receiver.specs.declared.Receiver.{Receiver}
+use Rattle.block.specs.Block.{yes, yesOctet, marksIn, marksOctets, heldIn, blockAfter}
+use Rattle.capi.specs.Crossing.{refusals, crossed, heardCrossed, Crosses, Hears}
+use Rattle.capi.proofs.Crosses.{low-told}
+use Rattle.live.specs.InC.{blockSize, zeros, Quiet, Frame, Number, Declined}
+use Rattle.live.proofs.Steps.{fresh, afterAll-usable}
+use Rattle.live.proofs.Answered.{refused-6, refused-other, call-given, told-nothing, told-at-flag, numbers-said, frame-size}
+use Rattle.live.proofs.Cuts.{one-call}
+
+-- "All zeros is a fresh one"
+pub zeros-fresh : heldIn zeros ≡ fresh (replicate places 0)
+unfolding heldIn marksIn
+zeros-fresh = refl
+
+-- an octet that stands for a yes or a no is no exactly if 0
+pub yes-exactly : (x : ℕ) → yes x ≡ false ↔ x ≡ 0
+yes-exactly x = (λ e. eqb-true x 0 (not-false _ e), λ e. ap not (eq-eqb x 0 e))
+
+yes-back : (b : Bool) → yes (yesOctet b) ≡ b
+yes-back true = refl
+yes-back false = refl
+
+-- a record is read as it was written
+pub marks-back : (r : Receiver) → r .count < 65536 → marksIn (marksOctets r) ≡ r
+unfolding marksIn marksOctets
+marks-back r few =
+    rw (pair-parts (r .count) few, yes-back (r .more), yes-back (r .escaping), yes-back (r .last), yes-back (r .any),
+    yes-back (r .seen))
+
+module _ (g : Held) (u : Usable g) where
+  -- a record that is not refused, with its store
+  held-back : heldIn (g .store ++ marksOctets (g .marks)) ≡ g
+  unfolding heldIn
+  held-back =
+      rw (take-at (g .store) (marksOctets (g .marks)) places (u .0),
+      drop-at (g .store) (marksOctets (g .marks)) places (u .0),
+      marks-back (g .marks) (omega (arith, u .1)))
+
+  block-long : length (g .store ++ marksOctets (g .marks)) ≡ blockSize
+  unfolding marksOctets
+  block-long = omega (arith, length-append (g .store) (marksOctets (g .marks)), u .0)
+
+module _ (N : ℕ) (b s : List ℕ) (room : ℕ) (size : length b ≡ blockSize) where
+  took-usable : {t : Took} → received N (heldIn b) s room ≡ gives t → Usable (t .held)
+  took-usable e =
+      let (l, u, fits, these) = call-given N (heldIn b) s room e in
+      rw (← these, one-call N room (heldIn b) s fits .0) (afterAll-usable (heldIn b) _ u)
+
+  -- the block after a call holds the record after it, so that a caller that lends it again goes on with that record
+  pub block-holds : (heldIn (blockAfter (received N (heldIn b) s room) b) ≡ heldBy (received N (heldIn b) s room) (heldIn b))
+      × (length (blockAfter (received N (heldIn b) s room) b) ≡ blockSize)
+  unfolding blockAfter heldBy
+  block-holds = go (received N (heldIn b) s room) refl
+    where
+      go : (x : Answer Took) → received N (heldIn b) s room ≡ x
+          → (heldIn (blockAfter x b) ≡ heldBy x (heldIn b)) × (length (blockAfter x b) ≡ blockSize)
+      go (gives t) e = let u = took-usable e in (held-back (t .held) u, block-long (t .held) u)
+      go (refuses k) e = (refl, size)
+
+  -- 6: "an N outside or a count past 260", and for nothing else
+  pub block-refused-6 : received N (heldIn b) s room ≡ refuses 6
+      ↔ (Limited N → ⊥) ⊎ (260 < pairOf (getD b 260 0) (getD b 261 0))
+  unfolding heldIn marksIn
+  block-refused-6 =
+      let r = refused-6 N (heldIn b) s room in
+      let full : length (take places b) ≡ 260 = omega (arith, length-take places b) in
+      let low = getD-drop places b 0 0 in
+      let high = getD-drop places b 1 0 in (
+        λ e. ⊎-map (λ n. n) (⊎-elim (λ n. absurd (n full)) (λ m. omega arith)) (r .0 e),
+        λ w. r .1 (⊎-map (λ n. n) (λ m. inr (omega arith)) w),
+      )
+
+-- what the number r, the count t, the block b' and the output o' tell a caller that lent the block b and the output o
+abbrev pub ReceiveTells : Answer Took → List ℕ → List ℕ → List ℕ → ℕ → ℕ → List ℕ → List ℕ → Type 0
+ReceiveTells x b s o r t b' o' =
+    (r ≡ 0 → Quiet x s o t o')
+    × (0 < r → r < refusals → Frame x o r t o')
+    × (refusals ≤ r → Number (r - refusals) x o t o' ⊎ Declined (r - refusals) x b o t b' o')
+
+-- the numbers that are handed out, each once
+numbers-once : {k : ℕ} → holds k (4 ∷ 2 ∷ 4 ∷ 1 ∷ 2 ∷ 3 ∷ []) ≡ true → OneOf k (1 ∷ 2 ∷ 3 ∷ 4 ∷ [])
+numbers-once {k} e =
+    ⊎-elim (λ q. inr (inr (inr (inl q))))
+    (⊎-elim (λ q. inr (inl q))
+    (⊎-elim (λ q. inr (inr (inr (inl q))))
+    (⊎-elim inl (⊎-elim (λ q. inr (inl q)) (⊎-elim (λ q. inr (inr (inl q))) absurd)))))
+    (holds-exactly k (4 ∷ 2 ∷ 4 ∷ 1 ∷ 2 ∷ 3 ∷ []) .0 e)
+
+-- a call that was not refused
+module _ (N : ℕ) (h : Held) (s : List ℕ) (room : ℕ) {u : Took} (e : received N h s room ≡ gives u) where
+  these : takes N room h s ≡ u
+  these = call-given N h s room e .3
+
+  -- handed out nothing: every octet is taken
+  quiet-all : u .told ≡ nothing → u .count ≡ length s
+  quiet-all q =
+      sym (ap (λ (w : Took). w .count) these)
+      ∙ told-nothing N room h s (ap (λ (w : Took). w .told) these ∙ q) .0
+
+  -- handed out what was to be said of a record: a flag is taken
+  told-said : {a : Answer (List ℕ)} → u .told ≡ handed a → (0 < u .count) × (g : Held) × (says N room g ≡ a)
+  told-said q =
+      let (k, n, f, said, opens) = told-at-flag N room h s (ap (λ (w : Took). w .told) these ∙ q) in
+      let taken = sym (ap (λ (w : Took). w .count) these) ∙ n in
+      (omega arith, _, sym said)
+
+module _ (N : ℕ) (b s o : List ℕ) {r t : ℕ} {b' o' : List ℕ} where
+  -- a call that was not refused, by what it told
+  module _ (u : Took) (e : received N (heldIn b) s (length o) ≡ gives u) (count : t ≡ u .count) where
+    quiet-tells : u .told ≡ nothing → r ≡ 0 → o' ≡ o → ReceiveTells (gives u) b s o r t b' o'
+    quiet-tells q number octets =
+        let all = count ∙ quiet-all N (heldIn b) s (length o) e q in (
+          λ z. record { took = u; answer = refl; told = q; count = all; octets = octets },
+          λ p l. absurd (omega arith),
+          λ l. absurd (omega arith),
+        )
+
+    frame-tells : (f : List ℕ) → u .told ≡ handed (gives f) → Crosses (gives f) o r o' → ReceiveTells (gives u) b s o r t b' o'
+    unfolding crossed counted
+    frame-tells f q c =
+        let (n, g, said) = told-said N (heldIn b) s (length o) e q in
+        let some : 0 < t = omega arith in
+        let size = frame-size N (length o) g said in
+        let limit = call-given N (heldIn b) s (length o) e .0 in
+        let number = c .number in (
+          λ z. absurd (omega arith),
+          λ p l.
+              let (this, long, octets) = low-told (gives f) c l in
+              record { took = u; answer = refl; told = q ∙ ap handed this; size = long; some = some; octets = octets },
+          λ l. absurd (omega arith),
+        )
+
+    number-tells : (k : ℕ) → u .told ≡ handed (refuses k) → Crosses (refuses k) o r o'
+        → ReceiveTells (gives u) b s o r t b' o'
+    unfolding crossed counted outAfter
+    number-tells k q c =
+        let (n, g, said) = told-said N (heldIn b) s (length o) e q in
+        let some : 0 < t = omega arith in
+        let fits = call-given N (heldIn b) s (length o) e .2 in
+        let among = numbers-once (numbers-said N (length o) g fits said) in
+        let number = c .number in
+        let same : k ≡ r - refusals = omega arith in (
+          λ z. absurd (omega arith),
+          λ p l. absurd (omega arith),
+          λ l.
+              inl (rw (← same)
+              (record { among = among; took = u; answer = refl; told = q; some = some; octets = c .octets })),
+        )
+
+    took-tells : (d : Told (List ℕ)) → u .told ≡ d → r ≡ heardCrossed (gives (toldCounted d)) → o' ≡ outTold d o
+        → ReceiveTells (gives u) b s o r t b' o'
+    unfolding heardCrossed toldCounted outTold
+    took-tells nothing q number octets = quiet-tells q number octets
+    took-tells (handed (gives f)) q number octets = frame-tells f q (record { number = number; octets = octets })
+    took-tells (handed (refuses k)) q number octets = number-tells k q (record { number = number; octets = octets })
+
+  -- a call that was
+  declined-tells : (k : ℕ) → received N (heldIn b) s (length o) ≡ refuses k → r ≡ refusals + k → t ≡ 0 → b' ≡ b → o' ≡ o
+      → ReceiveTells (refuses k) b s o r t b' o'
+  declined-tells k e number none block octets =
+      let among : OneOf k (5 ∷ 6 ∷ []) = ⊎-map (λ q. q) inl (refused-other N (heldIn b) s (length o) e) in
+      let same : k ≡ r - refusals = omega arith in (
+        λ z. absurd (omega arith),
+        λ p l. absurd (omega arith),
+        λ l. inr (rw (← same) (record { among = among; answer = refl; none = none; block = block; octets = octets })),
+      )
+
+  -- 0: nothing was handed out; below 0x10000: a frame of so many octets, at the start of the output; from there on a number,
+  -- of a stretch (1 to 4) or of the call (5, 6), which then took and changed nothing
+  pub receive-tells : Hears (received N (heldIn b) s (length o)) b o r t b' o'
+      → ReceiveTells (received N (heldIn b) s (length o)) b s o r t b' o'
+  unfolding heardCrossed heardBy takenBy blockAfter outBy
+  receive-tells = go (received N (heldIn b) s (length o)) refl
+    where
+      go : (x : Answer Took) → received N (heldIn b) s (length o) ≡ x → Hears x b o r t b' o'
+          → ReceiveTells x b s o r t b' o'
+      go (gives u) e c = took-tells u e (c .taken) (u .told) refl (c .number) (c .octets)
+      go (refuses k) e c = declined-tells k e (c .number) (c .taken) (c .block) (c .octets)
