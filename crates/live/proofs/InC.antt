@@ -22,10 +22,13 @@ use Rattle.receiver.specs.declared.Receiver.{Receiver}
 use Rattle.block.specs.Block.{yes, yesOctet, marksIn, marksOctets, heldIn, blockAfter}
 use Rattle.capi.specs.Crossing.{refusals, crossed, heardCrossed, Crosses, Hears}
 use Rattle.capi.proofs.Crosses.{low-told}
-use Rattle.live.specs.InC.{blockSize, zeros, Quiet, Frame, Number, Declined}
+use Rattle.live.specs.Stretches.{heard}
+use Rattle.live.specs.Calls.{Offer, Worked, outsBy, behind, offered, again, fed}
+use Rattle.live.specs.InC.{blockSize, zeros, Quiet, Frame, Number, Declined, Lent, behindC, lentC, fedC}
 use Rattle.live.proofs.Steps.{fresh, afterAll-usable}
 use Rattle.live.proofs.Answered.{refused-6, refused-other, call-given, told-nothing, told-at-flag, numbers-said, frame-size}
 use Rattle.live.proofs.Cuts.{one-call}
+use Rattle.live.proofs.Called.{called-decoder}
 
 -- "All zeros is a fresh one"
 pub zeros-fresh : heldIn zeros ≡ fresh (replicate places 0)
@@ -196,3 +199,47 @@ module _ (N : ℕ) (b s o : List ℕ) {r t : ℕ} {b' o' : List ℕ} where
           → ReceiveTells x b s o r t b' o'
       go (gives u) e c = took-tells u e (c .taken) (u .told) refl (c .number) (c .octets)
       go (refuses k) e c = declined-tells k e (c .number) (c .taken) (c .block) (c .octets)
+
+abbrev heldLent : Lent → Worked
+heldLent w = record { held = heldIn (w .block); left = w .left; outs = w .outs }
+
+module _ (N : ℕ) where
+  -- calls with a block are those with the record that it holds, and it stays a block
+  pub lent-holds : (b s : List ℕ) (cs : List Offer) → length b ≡ blockSize
+      → (heldLent (lentC N b s cs) ≡ offered N (heldIn b) s cs) × (length (lentC N b s cs .block) ≡ blockSize)
+  unfolding lentC behindC offered behind
+  lent-holds b s [] size = (refl, size)
+  lent-holds b s (c ∷ cs) size =
+      let s' : List ℕ = take (c .octets) s in
+      let a : Answer Took = received N (heldIn b) s' (c .room) in
+      let held = block-holds N b s' (c .room) size in
+      let less = lent-holds (blockAfter a b) (drop (takenBy a) s) cs (held .1) in (
+        ap (behind (outsBy a))
+            (less .0 ∙ ap (λ (h : Held). offered N h (drop (takenBy a) s) cs) (held .0)),
+        less .1,
+      )
+
+  pub fed-holds : (room : ℕ) (b : List ℕ) (rs : List (List ℕ)) → length b ≡ blockSize
+      → (heldLent (fedC N room b rs) ≡ fed N room (heldIn b) rs) × (length (fedC N room b rs .block) ≡ blockSize)
+  unfolding fedC fed
+  fed-holds room b [] size = (refl, size)
+  fed-holds room b (r ∷ rs) size =
+      let k : List Offer = again (suc (length r)) (length r) room in
+      let w : Lent = lentC N b r k in
+      let first = lent-holds b r k size in
+      let less = fed-holds room (w .block) rs (first .1) in
+      let front : Worked → Worked → Worked =
+      λ u v. record { held = v .held; left = u .left ++ v .left; outs = u .outs ++ v .outs } in (
+        ap (front (heldLent w)) (less .0)
+            ∙ ap (λ (u : Worked). front u (fed N room (u .held) rs)) (first .0),
+        less .1,
+      )
+
+  -- (a), in C: from a block of zeros, runs of any length hand out what the decoder says, and no octet is left
+  pub c-decoder : isLimit N ≡ true → (room : ℕ) → frameMost N ≤ room → (rs : List (List ℕ))
+      → (fedC N room zeros rs .outs ≡ heard N (flatten rs)) × (fedC N room zeros rs .left ≡ [])
+  c-decoder limit room fits rs =
+      let held : heldLent (fedC N room zeros rs) ≡ fed N room (fresh (replicate places 0)) rs =
+      fed-holds room zeros rs refl .0 ∙ ap (λ (h : Held). fed N room h rs) zeros-fresh in
+      let all = called-decoder N limit (replicate places 0) refl room fits rs in
+      (ap (λ (w : Worked). w .outs) held ∙ all .0, ap (λ (w : Worked). w .left) held ∙ all .1)
