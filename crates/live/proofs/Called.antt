@@ -1,12 +1,11 @@
--- The laws of the live line, over the public call made again and again with what it left: from a fresh receiver, with any
--- store of 260 places, a frame limit N and outputs of at least N - 2. And calls with other limits over the same octets.
---   Likewise t u == two calls go equally far, with the same record behind them, and both hand something out or neither does
+-- The laws of the live line, over the public call made again and again with what it left: from a fresh receiver, with
+-- any store of 260 places, a frame limit N and outputs of at least N - 2. And calls with other limits over the same octets.
 -- Assumes nothing.
 use mathlib.Core.Path.{_≡_, refl, sym, ap, ap₂, _∙_}
 use mathlib.Core.Bool.{Bool, true, false, cond}
 use mathlib.Core.List.{List, [], _∷_, _++_, flatten}
-use mathlib.Core.Logic.{_⊎_, inl, inr}
-use Prim.Native.Nat.{ℕ, suc, _+_, _<_, _≤_}
+use mathlib.Core.Logic.{inl, inr}
+use Prim.Native.Nat.{ℕ, suc, _<_, _≤_}
 use native.Mathlib.Nat.{not-suc-le-zero}
 use native.Mathlib.Omega.{arith}
 use lib.ListN.{length}
@@ -20,16 +19,16 @@ use Rattle.frame.specs.Decode.{decoded}
 use Rattle.frame.specs.Write.{lineOf, written}
 use Rattle.frame.proofs.Exact.{write-line}
 use Rattle.receiver.specs.Held.{Held, Usable, places, opened, after, closes, says}
-use Rattle.receiver.specs.Call.{Told, nothing, handed, Took, further, takes}
+use Rattle.receiver.specs.Call.{nothing, handed, further, takes}
 use Rattle.receiver.proofs.After.{after-flag, closes-other}
 use Rattle.live.specs.Stretches.{heard}
-use Rattle.live.specs.Calls.{afterAll, handOuts, Offer, Worked, offered, fed, Roomy, Alike}
+use Rattle.live.specs.Calls.{afterAll, handOuts, Offer, Worked, offered, fed, Roomy, Alike, Likewise}
 use Rattle.live.specs.Sent.{Sent, sent, bodies, Fits, AllFit, linesOf, given}
 use Rattle.live.specs.Sent.{Written, writtenBody, AllWritten, writtenBodies, writtenLines}
 use Rattle.live.proofs.Steps.{fresh, closes-flag, other-first}
 use Rattle.live.proofs.Answered.{says-room}
 use Rattle.live.proofs.Cuts.{all-passed, fed-all}
-use Rattle.live.proofs.Decoder.{Holds, some, says-decoded, it-is-the-decoder, holds-always}
+use Rattle.live.proofs.Decoder.{some, says-decoded, it-is-the-decoder, holds-always}
 use Rattle.live.proofs.Noise.{Resynchronised, resynchronised}
 use Rattle.live.proofs.Trip.{lines-come-through, written-lines}
 
@@ -59,7 +58,8 @@ module _ (N : ℕ) (limit : isLimit N ≡ true) where
       fresh-outs = fed-outs room fits (fresh m) rs (fresh-usable m store)
 
       -- (a): runs of any length; no octet is left
-      pub called-decoder : (fed N room (fresh m) rs .outs ≡ heard N (flatten rs)) × (fed N room (fresh m) rs .left ≡ [])
+      pub called-decoder :
+          (fed N room (fresh m) rs .outs ≡ heard N (flatten rs)) × (fed N room (fresh m) rs .left ≡ [])
       called-decoder = (
         fresh-outs ∙ it-is-the-decoder N limit m store (flatten rs),
         ap (λ (w : Worked). w .left) (fed-all N limit room fits (fresh m) rs (fresh-usable m store)),
@@ -116,8 +116,8 @@ module _ (N : ℕ) where
       let less = all-written ws (all .2) in
       ((f .0, less .0), ap₂ _++_ (sym (f .1)) (less .1))
 
-  -- (d), from the writer's answers: the lines that it gave, one behind the other and cut in any way, hand out exactly what
-  -- was handed to it, in order
+  -- (d), from the writer's answers: the lines that it gave, one behind the other and cut in any way, hand out exactly
+  -- what was handed to it, in order
   pub written-called : isLimit N ≡ true → (m : List ℕ) → length m ≡ places → (room : ℕ) → frameMost N ≤ room
       → (rs : List (List ℕ)) (ws : List Written) → AllWritten N ws → flatten rs ≡ flatten (writtenLines ws)
       → fed N room (fresh m) rs .outs ≡ given (writtenBodies ws)
@@ -125,14 +125,8 @@ module _ (N : ℕ) where
       let both = all-written ws all in
       called-lines-of N limit m store room fits rs (writtenBodies ws) (both .0) (e ∙ both .1)
 
-pub record Likewise (t u : Took) : Type 0 where
-  pub held : t .held ≡ u .held
-  pub count : t .count ≡ u .count
-  pub told : ((t .told ≡ nothing) × (u .told ≡ nothing))
-      ⊎ ((a : Answer (List ℕ)) × (b : Answer (List ℕ)) × (t .told ≡ handed a) × (u .told ≡ handed b))
-
 module _ (N M room room' : ℕ) where
-  -- "no octet is dropped because of an earlier call's N": how far a call goes, and its record, do not depend on N
+  -- how far a call goes, and the record after it, do not depend on N: no octet is dropped because of an earlier call's N
   pub change-of-limit : (h : Held) (s : List ℕ) → Likewise (takes N room h s) (takes M room' h s)
   unfolding takes further
   change-of-limit h [] = record { held = refl; count = refl; told = inl (refl, refl) }
@@ -155,7 +149,7 @@ flagless-taken N room h [] f = refl
 flagless-taken N room h (x ∷ p) f =
     rw (closes-other h x (other-first x p f), flagless-taken N room (after h x) p (holds-tail flag x p f))
 
--- "A hand-out goes by the N of the call that takes the flag": whatever calls took the octets p of the stretch
+-- a hand-out goes by the N of the call that takes the flag, whatever that of the calls before it that took the octets p
 pub limit-at-flag : (M room : ℕ) (h : Held) (p s : List ℕ) → isLimit M ≡ true → frameMost M ≤ room
     → length (h .store) ≡ places → holds flag p ≡ false → 0 < length p
     → takes M room (afterAll (opened h) p) (flag ∷ s)

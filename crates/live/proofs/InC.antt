@@ -1,9 +1,8 @@
 -- A receiver in C: the block that is lent holds the record from call to call, all zeros is a fresh one, the number that
 -- crosses tells what was handed out, and the calls made again and again hand out what the decoder says.
---   heldLent w == how far a caller in C has come, with the record that the block holds
 -- Assumes nothing.
-use mathlib.Core.Path.{_≡_, refl, sym, ap, ap₂, _∙_}
-use mathlib.Core.Bool.{Bool, true, false, not, cond}
+use mathlib.Core.Path.{_≡_, refl, sym, ap, _∙_}
+use mathlib.Core.Bool.{Bool, true, false, not}
 use mathlib.Core.List.{List, [], _∷_, _++_, flatten}
 use mathlib.Core.Logic.{_↔_, _⊎_, inl, inr, ⊎-elim, ⊎-map}
 use Prim.Native.Nat.{ℕ, suc, _+_, _-_, _<_, _≤_}
@@ -17,16 +16,19 @@ use Rattle.octets.proofs.Words.{holds-exactly}
 use Rattle.refusal.specs.Answer.{Answer, gives, refuses, counted, outAfter}
 use Rattle.limits.specs.Limits.{isLimit, Limited, frameMost}
 use Rattle.receiver.specs.Held.{Held, Usable, places, says}
-use Rattle.receiver.specs.Call.{Told, nothing, handed, Took, takes, received, toldCounted, heardBy, takenBy, heldBy, outTold, outBy}
+use Rattle.receiver.specs.Call.{Told, nothing, handed, Took, takes, received}
+use Rattle.receiver.specs.Call.{toldCounted, heardBy, takenBy, heldBy, outTold, outBy}
 use Rattle.receiver.specs.declared.Receiver.{Receiver}
 use Rattle.block.specs.Block.{yes, yesOctet, marksIn, marksOctets, heldIn, blockAfter}
 use Rattle.capi.specs.Crossing.{refusals, crossed, heardCrossed, Crosses, Hears}
 use Rattle.capi.proofs.Crosses.{low-told}
 use Rattle.live.specs.Stretches.{heard}
 use Rattle.live.specs.Calls.{Offer, Worked, outsBy, behind, offered, again, fed}
-use Rattle.live.specs.InC.{blockSize, zeros, Quiet, Frame, Number, Declined, Lent, behindC, lentC, fedC}
+use Rattle.live.specs.InC.{blockSize, zeros, ReceiveTells}
+use Rattle.live.specs.InC.{Lent, heldLent, behindC, offeredC, fedC}
 use Rattle.live.proofs.Steps.{fresh, afterAll-usable}
-use Rattle.live.proofs.Answered.{refused-6, refused-other, call-given, told-nothing, told-at-flag, numbers-said, frame-size}
+use Rattle.live.proofs.Answered.{numbers-said, frame-size, refused-6, refused-other, call-given}
+use Rattle.live.proofs.Answered.{told-nothing, told-at-flag}
 use Rattle.live.proofs.Cuts.{one-call}
 use Rattle.live.proofs.Called.{called-decoder}
 
@@ -47,17 +49,25 @@ yes-back false = refl
 pub marks-back : (r : Receiver) → r .count < 65536 → marksIn (marksOctets r) ≡ r
 unfolding marksIn marksOctets
 marks-back r few =
-    rw (pair-parts (r .count) few, yes-back (r .more), yes-back (r .escaping), yes-back (r .last), yes-back (r .any),
-    yes-back (r .seen))
+    rw (
+      pair-parts (r .count) few,
+      yes-back (r .more),
+      yes-back (r .escaping),
+      yes-back (r .last),
+      yes-back (r .any),
+      yes-back (r .seen),
+    )
 
 module _ (g : Held) (u : Usable g) where
   -- a record that is not refused, with its store
   held-back : heldIn (g .store ++ marksOctets (g .marks)) ≡ g
   unfolding heldIn
   held-back =
-      rw (take-at (g .store) (marksOctets (g .marks)) places (u .0),
-      drop-at (g .store) (marksOctets (g .marks)) places (u .0),
-      marks-back (g .marks) (omega (arith, u .1)))
+      rw (
+        take-at (g .store) (marksOctets (g .marks)) places (u .0),
+        drop-at (g .store) (marksOctets (g .marks)) places (u .0),
+        marks-back (g .marks) (omega (arith, u .1)),
+      )
 
   block-long : length (g .store ++ marksOctets (g .marks)) ≡ blockSize
   unfolding marksOctets
@@ -70,7 +80,8 @@ module _ (N : ℕ) (b s : List ℕ) (room : ℕ) (size : length b ≡ blockSize)
       rw (← these, one-call N room (heldIn b) s fits .0) (afterAll-usable (heldIn b) _ u)
 
   -- the block after a call holds the record after it, so that a caller that lends it again goes on with that record
-  pub block-holds : (heldIn (blockAfter (received N (heldIn b) s room) b) ≡ heldBy (received N (heldIn b) s room) (heldIn b))
+  pub block-holds :
+      (heldIn (blockAfter (received N (heldIn b) s room) b) ≡ heldBy (received N (heldIn b) s room) (heldIn b))
       × (length (blockAfter (received N (heldIn b) s room) b) ≡ blockSize)
   unfolding blockAfter heldBy
   block-holds = go (received N (heldIn b) s room) refl
@@ -80,7 +91,7 @@ module _ (N : ℕ) (b s : List ℕ) (room : ℕ) (size : length b ≡ blockSize)
       go (gives t) e = let u = took-usable e in (held-back (t .held) u, block-long (t .held) u)
       go (refuses k) e = (refl, size)
 
-  -- 6: "an N outside or a count past 260", and for nothing else
+  -- 6 for an N outside 78 to 260 or a count past 260, and for nothing else
   pub block-refused-6 : received N (heldIn b) s room ≡ refuses 6
       ↔ (Limited N → ⊥) ⊎ (260 < pairOf (getD b 260 0) (getD b 261 0))
   unfolding heldIn marksIn
@@ -92,13 +103,6 @@ module _ (N : ℕ) (b s : List ℕ) (room : ℕ) (size : length b ≡ blockSize)
         λ e. ⊎-map (λ n. n) (⊎-elim (λ n. absurd (n full)) (λ m. omega arith)) (r .0 e),
         λ w. r .1 (⊎-map (λ n. n) (λ m. inr (omega arith)) w),
       )
-
--- what the number r, the count t, the block b' and the output o' tell a caller that lent the block b and the output o
-abbrev pub ReceiveTells : Answer Took → List ℕ → List ℕ → List ℕ → ℕ → ℕ → List ℕ → List ℕ → Type 0
-ReceiveTells x b s o r t b' o' =
-    (r ≡ 0 → Quiet x s o t o')
-    × (0 < r → r < refusals → Frame x o r t o')
-    × (refusals ≤ r → Number (r - refusals) x o t o' ⊎ Declined (r - refusals) x b o t b' o')
 
 -- the numbers that are handed out, each once
 numbers-once : {k : ℕ} → holds k (4 ∷ 2 ∷ 4 ∷ 1 ∷ 2 ∷ 3 ∷ []) ≡ true → OneOf k (1 ∷ 2 ∷ 3 ∷ 4 ∷ [])
@@ -138,7 +142,8 @@ module _ (N : ℕ) (b s o : List ℕ) {r t : ℕ} {b' o' : List ℕ} where
           λ l. absurd (omega arith),
         )
 
-    frame-tells : (f : List ℕ) → u .told ≡ handed (gives f) → Crosses (gives f) o r o' → ReceiveTells (gives u) b s o r t b' o'
+    frame-tells : (f : List ℕ) → u .told ≡ handed (gives f) → Crosses (gives f) o r o'
+        → ReceiveTells (gives u) b s o r t b' o'
     unfolding crossed counted
     frame-tells f q c =
         let (n, g, said) = told-said N (heldIn b) s (length o) e q in
@@ -178,8 +183,8 @@ module _ (N : ℕ) (b s o : List ℕ) {r t : ℕ} {b' o' : List ℕ} where
     took-tells (handed (refuses k)) q number octets = number-tells k q (record { number = number; octets = octets })
 
   -- a call that was
-  declined-tells : (k : ℕ) → received N (heldIn b) s (length o) ≡ refuses k → r ≡ refusals + k → t ≡ 0 → b' ≡ b → o' ≡ o
-      → ReceiveTells (refuses k) b s o r t b' o'
+  declined-tells : (k : ℕ) → received N (heldIn b) s (length o) ≡ refuses k → r ≡ refusals + k → t ≡ 0 → b' ≡ b
+      → o' ≡ o → ReceiveTells (refuses k) b s o r t b' o'
   declined-tells k e number none block octets =
       let among : OneOf k (5 ∷ 6 ∷ []) = ⊎-map (λ q. q) inl (refused-other N (heldIn b) s (length o) e) in
       let same : k ≡ r - refusals = omega arith in (
@@ -188,8 +193,8 @@ module _ (N : ℕ) (b s o : List ℕ) {r t : ℕ} {b' o' : List ℕ} where
         λ l. inr (rw (← same) (record { among = among; answer = refl; none = none; block = block; octets = octets })),
       )
 
-  -- 0: nothing was handed out; below 0x10000: a frame of so many octets, at the start of the output; from there on a number,
-  -- of a stretch (1 to 4) or of the call (5, 6), which then took and changed nothing
+  -- 0: nothing was handed out; below 0x10000: a frame of so many octets, at the start of the output; from there on a
+  -- number, of a stretch (1 to 4) or of the call (5, 6), which then took and changed nothing
   pub receive-tells : Hears (received N (heldIn b) s (length o)) b o r t b' o'
       → ReceiveTells (received N (heldIn b) s (length o)) b s o r t b' o'
   unfolding heardCrossed heardBy takenBy blockAfter outBy
@@ -200,20 +205,17 @@ module _ (N : ℕ) (b s o : List ℕ) {r t : ℕ} {b' o' : List ℕ} where
       go (gives u) e c = took-tells u e (c .taken) (u .told) refl (c .number) (c .octets)
       go (refuses k) e c = declined-tells k e (c .number) (c .taken) (c .block) (c .octets)
 
-abbrev heldLent : Lent → Worked
-heldLent w = record { held = heldIn (w .block); left = w .left; outs = w .outs }
-
 module _ (N : ℕ) where
   -- calls with a block are those with the record that it holds, and it stays a block
-  pub lent-holds : (b s : List ℕ) (cs : List Offer) → length b ≡ blockSize
-      → (heldLent (lentC N b s cs) ≡ offered N (heldIn b) s cs) × (length (lentC N b s cs .block) ≡ blockSize)
-  unfolding lentC behindC offered behind
-  lent-holds b s [] size = (refl, size)
-  lent-holds b s (c ∷ cs) size =
+  pub offered-holds : (b s : List ℕ) (cs : List Offer) → length b ≡ blockSize
+      → (heldLent (offeredC N b s cs) ≡ offered N (heldIn b) s cs) × (length (offeredC N b s cs .block) ≡ blockSize)
+  unfolding offeredC behindC offered behind
+  offered-holds b s [] size = (refl, size)
+  offered-holds b s (c ∷ cs) size =
       let s' : List ℕ = take (c .octets) s in
       let a : Answer Took = received N (heldIn b) s' (c .room) in
       let held = block-holds N b s' (c .room) size in
-      let less = lent-holds (blockAfter a b) (drop (takenBy a) s) cs (held .1) in (
+      let less = offered-holds (blockAfter a b) (drop (takenBy a) s) cs (held .1) in (
         ap (behind (outsBy a))
             (less .0 ∙ ap (λ (h : Held). offered N h (drop (takenBy a) s) cs) (held .0)),
         less .1,
@@ -225,8 +227,8 @@ module _ (N : ℕ) where
   fed-holds room b [] size = (refl, size)
   fed-holds room b (r ∷ rs) size =
       let k : List Offer = again (suc (length r)) (length r) room in
-      let w : Lent = lentC N b r k in
-      let first = lent-holds b r k size in
+      let w : Lent = offeredC N b r k in
+      let first = offered-holds b r k size in
       let less = fed-holds room (w .block) rs (first .1) in
       let front : Worked → Worked → Worked =
       λ u v. record { held = v .held; left = u .left ++ v .left; outs = u .outs ++ v .outs } in (

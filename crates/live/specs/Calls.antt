@@ -6,10 +6,12 @@
 --   fed N room h rs  == the runs rs one after the other, each lent whole, and again with what was left of it; empty runs, too
 --   Roomy N cs       == no output is shorter than N - 2
 --   Alike h g        == two records are equal but for places of the store past the count
+--   Likewise t u     == two calls go equally far, with the same record behind them, and both hand something out or neither
 -- Assumes nothing.
 use mathlib.Core.Path.{_≡_}
 use mathlib.Core.Bool.{cond}
 use mathlib.Core.List.{List, [], _∷_, _++_}
+use mathlib.Core.Logic.{_⊎_}
 use Prim.Native.Nat.{ℕ, zero, suc, _≤_}
 use lib.ListN.{length, take, drop}
 use Rattle.refusal.specs.Answer.{Answer, gives, refuses}
@@ -73,3 +75,9 @@ Roomy N (c ∷ cs) = (frameMost N ≤ c .room) × Roomy N cs
 
 abbrev pub Alike : Held → Held → Type 0
 Alike h g = (h .marks ≡ g .marks) × (take (h .marks .count) (h .store) ≡ take (g .marks .count) (g .store))
+
+pub record Likewise (t u : Took) : Type 0 where
+  pub held : t .held ≡ u .held
+  pub count : t .count ≡ u .count
+  pub told : ((t .told ≡ nothing) × (u .told ≡ nothing))
+      ⊎ ((a : Answer (List ℕ)) × (b : Answer (List ℕ)) × (t .told ≡ handed a) × (u .told ≡ handed b))

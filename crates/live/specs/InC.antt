@@ -1,23 +1,27 @@
--- A caller in C, that lends a block for the record and an output: what the number that crosses tells it, and the call made
--- again and again with the same block.
---   blockSize        == 267: the octets of a block; zeros == the block that C programs begin with
---   Quiet x s o t o' == the call was not refused, took all of the run s and handed out nothing; x is its answer, o the output,
---                       t the count that crosses, o' the output after it
+-- A caller in C, that lends a block for the record and an output: what the number that crosses tells it, and the call
+-- made again and again with the same block.
+--   blockSize        == 267: the octets of a block; zeros == such a block of zeros
+--   of a call with the answer x that had the run s, the block b and the output o, took t octets and left b' and o':
+--   Quiet x s o t o' == it handed out nothing, and took the whole run
 --   Frame x o r t o' == it handed out a frame, of r octets at the start of o'
 --   Number k x o t o' == it handed out the refusal k of a stretch
---   Declined k x b o t b' o' == the call itself was refused, with k: nothing is taken, nothing is changed
---   Lent             == how far such a caller has come: the block, the octets that are not taken yet, what was handed out
---   lentC N b s cs, fedC N room b rs == as `offered` and `fed`, with the block for the record
+--   Declined k x b o t b' o' == it was refused itself, with k: nothing is taken, and nothing is changed
+--   ReceiveTells x b s o r t b' o' == what the number r tells of it
+--   Lent             == how far such a caller has come: the block, the octets that are not taken yet, what was handed out;
+--                       heldLent w == the same, with the record that the block holds
+--   offeredC N b s cs, fedC N room b rs == as `offered` and `fed` of Calls, with the block for the record
 -- Assumes nothing.
 use mathlib.Core.Path.{_≡_}
 use mathlib.Core.List.{List, [], _∷_, _++_}
-use Prim.Native.Nat.{ℕ, suc, _<_}
+use mathlib.Core.Logic.{_⊎_}
+use Prim.Native.Nat.{ℕ, suc, _-_, _<_, _≤_}
 use lib.ListN.{length, take, drop, replicate}
 use Rattle.octets.specs.Octets.{OneOf, _atStartOf_}
 use Rattle.refusal.specs.Answer.{Answer, gives, refuses}
 use Rattle.receiver.specs.Call.{nothing, handed, Took, received, takenBy}
 use Rattle.block.specs.Block.{heldIn, blockAfter}
-use Rattle.live.specs.Calls.{Offer, outsBy, again}
+use Rattle.capi.specs.Crossing.{refusals}
+use Rattle.live.specs.Calls.{Offer, Worked, outsBy, again}
 
 abbrev pub blockSize : ℕ
 blockSize = 267
@@ -55,24 +59,33 @@ pub record Declined (k : ℕ) (x : Answer Took) (b o : List ℕ) (t : ℕ) (b' o
   pub block : b' ≡ b
   pub octets : o' ≡ o
 
+abbrev pub ReceiveTells : Answer Took → List ℕ → List ℕ → List ℕ → ℕ → ℕ → List ℕ → List ℕ → Type 0
+ReceiveTells x b s o r t b' o' =
+    (r ≡ 0 → Quiet x s o t o')
+    × (0 < r → r < refusals → Frame x o r t o')
+    × (refusals ≤ r → Number (r - refusals) x o t o' ⊎ Declined (r - refusals) x b o t b' o')
+
 pub record Lent : Type 0 where
   pub block : List ℕ
   pub left : List ℕ
   pub outs : List (Answer (List ℕ))
 
+abbrev pub heldLent : Lent → Worked
+heldLent w = record { held = heldIn (w .block); left = w .left; outs = w .outs }
+
 -- what was handed out before, in front
 unfoldable pub behindC : List (Answer (List ℕ)) → Lent → Lent
 behindC a w = record { block = w .block; left = w .left; outs = a ++ w .outs }
 
-unfoldable pub lentC : ℕ → List ℕ → List ℕ → List Offer → Lent
-lentC N b s [] = record { block = b; left = s; outs = [] }
-lentC N b s (c ∷ cs) =
+unfoldable pub offeredC : ℕ → List ℕ → List ℕ → List Offer → Lent
+offeredC N b s [] = record { block = b; left = s; outs = [] }
+offeredC N b s (c ∷ cs) =
     let a : Answer Took = received N (heldIn b) (take (c .octets) s) (c .room) in
-    behindC (outsBy a) (lentC N (blockAfter a b) (drop (takenBy a) s) cs)
+    behindC (outsBy a) (offeredC N (blockAfter a b) (drop (takenBy a) s) cs)
 
 unfoldable pub fedC : ℕ → ℕ → List ℕ → List (List ℕ) → Lent
 fedC N room b [] = record { block = b; left = []; outs = [] }
 fedC N room b (r ∷ rs) =
-    let w : Lent = lentC N b r (again (suc (length r)) (length r) room) in
+    let w : Lent = offeredC N b r (again (suc (length r)) (length r) room) in
     let v : Lent = fedC N room (w .block) rs in
     record { block = v .block; left = w .left ++ v .left; outs = w .outs ++ v .outs }
