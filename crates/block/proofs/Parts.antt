@@ -15,7 +15,7 @@ use Rattle.refusal.specs.Answer.{Answer, gives, refuses}
 use Rattle.receiver.specs.declared.Receiver.{Receiver}
 use Rattle.receiver.specs.declared.Received.{Received}
 use Rattle.receiver.specs.Held.{Held, heldOf, places}
-use Rattle.receiver.specs.Call.{Took, heardOf, heardBy, heldBy, Receives}
+use Rattle.receiver.specs.Call.{Took, heardOf, toldBy, heldBy, Receives}
 use Rattle.block.specs.Block.{marksIn, marksOctets, refusedCall, heldIn, blockAfter, Blocks}
 
 -- as many octets as there are places
@@ -49,7 +49,7 @@ module _ (b : List ℕ) {o o' m : List ℕ} {r : Received} where
   -- a refused call leaves the block as it was
   pub block-refused : (x : Answer Took) → Receives x (heldIn b) o r m o' → refusedCall (heardOf (r .heard)) ≡ true
       → Blocks x b o (record { taken = r .taken; heard = r .heard }) (m ++ drop places b) o'
-  unfolding heardBy heldBy blockAfter heldIn
+  unfolding toldBy heldBy blockAfter heldIn
   block-refused (gives t) w e = absurd (true-not-false (sym e ∙ ap refusedCall (w .answer)))
   block-refused (refuses k) w e =
       record {
@@ -64,7 +64,7 @@ module _ (b : List ℕ) {o o' m : List ℕ} {r : Received} where
       → length m ≡ places → {t : List ℕ} → t ≡ marksOctets (r .receiver)
       → Blocks x b o (record { taken = r .taken; heard = r .heard })
       (putMid places (length (m ++ drop places b) - places) (m ++ drop places b) t) o'
-  unfolding heardBy heldBy blockAfter
+  unfolding toldBy heldBy blockAfter
   block-taken (refuses k) w e n {t} f = absurd (true-not-false (sym (ap refusedCall (w .answer)) ∙ e))
   block-taken (gives u) w e n {t} f =
       record {

@@ -19,7 +19,7 @@ use Rattle.octets.specs.Octets.{lowOf, highOf, pairOf}
 use Rattle.refusal.specs.Answer.{Answer, gives, refuses}
 use Rattle.receiver.specs.declared.Receiver.{Receiver}
 use Rattle.receiver.specs.Held.{Held, heldOf, places}
-use Rattle.receiver.specs.Call.{Took, heardOf, heardBy, takenBy, outBy}
+use Rattle.receiver.specs.Call.{Took, heardOf, toldBy, tookBy, outBy}
 use Rattle.block.specs.declared.Told.{Told}
 
 abbrev pub yes : ℕ → Bool
@@ -64,7 +64,7 @@ blockAfter (refuses k) b = b
 
 -- as `Receives` of receiver/specs/Call, with the block for the record
 pub record Blocks (right : Answer Took) (b o : List ℕ) (r : Told) (b' o' : List ℕ) : Type 0 where
-  pub answer : heardOf (r .heard) ≡ heardBy right
-  pub count : r .taken ≡ takenBy right
+  pub answer : heardOf (r .heard) ≡ toldBy right
+  pub count : r .taken ≡ tookBy right
   pub block : b' ≡ blockAfter right b
   pub octets : o' ≡ outBy right o

@@ -10,7 +10,7 @@ use mathlib.Core.Path.{_≡_}
 use mathlib.Core.List.{List}
 use Prim.Native.Nat.{ℕ, _+_}
 use Rattle.refusal.specs.Answer.{Answer, gives, refuses, counted, outAfter}
-use Rattle.receiver.specs.Call.{Told, nothing, handed, Took, heardBy, takenBy, outBy}
+use Rattle.receiver.specs.Call.{Told, nothing, handed, Took, toldBy, tookBy, outBy}
 use Rattle.block.specs.Block.{blockAfter}
 
 abbrev pub refusals : ℕ
@@ -34,7 +34,7 @@ heardCrossed (refuses k) = refusals + k
 
 -- as `Blocks` of block/specs/Block, with the number for the code's answer
 pub record Hears (right : Answer Took) (b o : List ℕ) (r t : ℕ) (b' o' : List ℕ) : Type 0 where
-  pub number : r ≡ heardCrossed (heardBy right)
-  pub taken : t ≡ takenBy right
+  pub number : r ≡ heardCrossed (toldBy right)
+  pub taken : t ≡ tookBy right
   pub block : b' ≡ blockAfter right b
   pub octets : o' ≡ outBy right o

@@ -24,8 +24,8 @@ use Rattle.limits.proofs.Exactly.{is-limit-exactly}
 use Rattle.frame.specs.Line.{flag}
 use Rattle.frame.specs.Decode.{body, rightCheck, decodeRows}
 use Rattle.frame.proofs.Checks.{split-two, check-exactly}
-use Rattle.receiver.specs.Held.{Held, Usable, places, opened, after, closes, says}
-use Rattle.receiver.specs.Call.{nothing, handed, Took, further, takes, receiveRows, received, takenBy, heldBy, outBy}
+use Rattle.receiver.specs.Held.{Held, Usable, places, afterFlag, afterOctet, closes, stretchSays}
+use Rattle.receiver.specs.Call.{nothing, handed, Took, further, takes, receiveRows, received, tookBy, heldBy, outBy}
 use Rattle.receiver.proofs.Refusals.{in-order}
 use Rattle.receiver.proofs.Only.{nothing-not-handed}
 use Rattle.live.specs.Calls.{afterAll, handOuts}
@@ -70,8 +70,8 @@ body-length d = omega (arith, length-take (length d - 2) d)
 
 module _ (N room : ℕ) (h : Held) (fits : frameMost N ≤ room) where
   -- an output of N - 2 octets has room for every frame, so the row of 5 never holds
-  says-fitting : says N room h ≡ answered (fittingRows N h) (body (heldOctets h))
-  unfolding says decodeRows fittingRows Clear
+  says-fitting : stretchSays N room h ≡ answered (fittingRows N h) (body (heldOctets h))
+  unfolding stretchSays decodeRows fittingRows Clear
   says-fitting =
       let d : List ℕ = heldOctets h in
       idle-row (body d) (fittingRows N h) 5 (shorter room (body d)) (λ c.
@@ -79,27 +79,27 @@ module _ (N room : ℕ) (h : Held) (fits : frameMost N ≤ room) where
       le-ltb room (length (body d)) (omega (arith, body-length d)))
 
   -- the numbers that are handed out are those of the other rows
-  pub numbers-said : {k : ℕ} → says N room h ≡ refuses k → holds k (4 ∷ 2 ∷ 4 ∷ 1 ∷ 2 ∷ 3 ∷ []) ≡ true
+  pub numbers-said : {k : ℕ} → stretchSays N room h ≡ refuses k → holds k (4 ∷ 2 ∷ 4 ∷ 1 ∷ 2 ∷ 3 ∷ []) ≡ true
   unfolding fittingRows numbersOf
   numbers-said e = numbered (body (heldOctets h)) (fittingRows N h) (sym says-fitting ∙ e)
 
-  pub says-no-5 : says N room h ≡ refuses 5 → ⊥
+  pub says-no-5 : stretchSays N room h ≡ refuses 5 → ⊥
   unfolding holds
   says-no-5 e = true-not-false (sym (numbers-said e))
 
-  pub says-no-6 : says N room h ≡ refuses 6 → ⊥
+  pub says-no-6 : stretchSays N room h ≡ refuses 6 → ⊥
   unfolding holds
   says-no-6 e = true-not-false (sym (numbers-said e))
 
 -- what is handed out is the same in any output of N - 2 octets or more
-pub says-room : (N room : ℕ) (h : Held) → frameMost N ≤ room → says N room h ≡ says N (frameMost N) h
+pub says-room : (N room : ℕ) (h : Held) → frameMost N ≤ room → stretchSays N room h ≡ stretchSays N (frameMost N) h
 says-room N room h fits = says-fitting N room h fits ∙ sym (says-fitting N (frameMost N) h (omega arith))
 
-module _ (N room : ℕ) (h : Held) {b : List ℕ} (frame : says N room h ≡ gives b) where
+module _ (N room : ℕ) (h : Held) {b : List ℕ} (frame : stretchSays N room h ≡ gives b) where
   -- no row holds of a frame that is handed out: it has 4 to N octets, with a right check, which is left out
   frame-said : (4 ≤ length (heldOctets h)) × (length (heldOctets h) ≤ N)
       × (rightCheck (heldOctets h) ≡ true) × (body (heldOctets h) ≡ b)
-  unfolding says decodeRows Clear
+  unfolding stretchSays decodeRows Clear
   frame-said =
       let rows = 4 when h .marks .last ∷ 2 when h .marks .more ∷ decodeRows N false (heldOctets h) room in
       let g = exactly-given rows (body (heldOctets h)) b .0 frame in
@@ -208,9 +208,9 @@ module _ (N : ℕ) (h : Held) (s : List ℕ) (room : ℕ) where
 
   -- "nothing is taken", and the record and the output are as they were
   pub refusal-changes-nothing : {k : ℕ} (o : List ℕ) → received N h s room ≡ refuses k
-      → (takenBy (received N h s room) ≡ 0) × (heldBy (received N h s room) h ≡ h)
+      → (tookBy (received N h s room) ≡ 0) × (heldBy (received N h s room) h ≡ h)
       × (outBy (received N h s room) o ≡ o)
-  unfolding takenBy heldBy outBy
+  unfolding tookBy heldBy outBy
   refusal-changes-nothing o e = rw e (refl, refl, refl)
 
 -- every octet is taken, and nothing handed out
@@ -224,11 +224,11 @@ pub record TookAll (N : ℕ) (h : Held) (s : List ℕ) (t : Took) : Type 0 where
 pub record TookUpTo (N room : ℕ) (h : Held) (s : List ℕ) (k : ℕ) (t : Took) : Type 0 where
   pub place : k < length s
   pub closing : getD s k 0 ≡ flag
-  pub told : t .told ≡ handed (says N room (afterAll h (take k s)))
+  pub told : t .told ≡ handed (stretchSays N room (afterAll h (take k s)))
   pub count : t .count ≡ suc k
-  pub opens : t .held ≡ opened (afterAll h (take k s))
+  pub opens : t .held ≡ afterFlag (afterAll h (take k s))
   pub held : t .held ≡ afterAll h (take (suc k) s)
-  pub outs : handOuts N h (take (suc k) s) ≡ says N (frameMost N) (afterAll h (take k s)) ∷ []
+  pub outs : handOuts N h (take (suc k) s) ≡ stretchSays N (frameMost N) (afterAll h (take k s)) ∷ []
 
 abbrev pub HowFar : ℕ → ℕ → Held → List ℕ → Took → Type 0
 HowFar N room h s t = TookAll N h s t ⊎ (k : ℕ) × TookUpTo N room h s k t
@@ -236,8 +236,8 @@ HowFar N room h s t = TookAll N h s t ⊎ (k : ℕ) × TookUpTo N room h s k t
 module _ (N room : ℕ) where
   module _ (h : Held) (x : ℕ) (xs : List ℕ) where
     far-here : closes h x ≡ true
-        → HowFar N room h (x ∷ xs) (record { held = after h x; count = 1; told = handed (says N room h) })
-    unfolding closes after afterAll handOuts
+        → HowFar N room h (x ∷ xs) (record { held = afterOctet h x; count = 1; told = handed (stretchSays N room h) })
+    unfolding closes afterOctet afterAll handOuts
     far-here e =
         let f = and-parts (eqb x flag) _ e .0 in
         inr (
@@ -253,7 +253,7 @@ module _ (N room : ℕ) where
           },
         )
 
-    far-more : (t : Took) → closes h x ≡ false → HowFar N room (after h x) xs t → HowFar N room h (x ∷ xs) (further t)
+    far-more : (t : Took) → closes h x ≡ false → HowFar N room (afterOctet h x) xs t → HowFar N room h (x ∷ xs) (further t)
     unfolding further afterAll handOuts
     far-more t e (inl a) =
         inl (record { told = a .told; count = ap suc (a .count); held = a .held; outs = rw e (a .outs) })
@@ -277,7 +277,7 @@ module _ (N room : ℕ) where
   how-far h [] = inl (record { told = refl; count = refl; held = refl; outs = refl })
   how-far h (x ∷ xs) =
       by-test (HowFar N room h (x ∷ xs)) (closes h x) (far-here h x xs)
-      (λ e. far-more h x xs _ e (how-far (after h x) xs))
+      (λ e. far-more h x xs _ e (how-far (afterOctet h x) xs))
 
 module _ (N room : ℕ) (h : Held) (s : List ℕ) where
   pub takes-at-least-one : 0 < length s → 0 < takes N room h s .count
@@ -291,7 +291,7 @@ module _ (N room : ℕ) (h : Held) (s : List ℕ) where
   -- a call hands out only at a flag, and only what is to be said of the octets before it
   pub told-at-flag : {a : Answer (List ℕ)} → takes N room h s .told ≡ handed a
       → (k : ℕ) × (takes N room h s .count ≡ suc k) × (getD s k 0 ≡ flag)
-      × (a ≡ says N room (afterAll h (take k s))) × (takes N room h s .held ≡ opened (afterAll h (take k s)))
+      × (a ≡ stretchSays N room (afterAll h (take k s))) × (takes N room h s .held ≡ afterFlag (afterAll h (take k s)))
   told-at-flag e =
       ⊎-elim (λ a. absurd (nothing-not-handed (sym (a .told) ∙ e)))
       (λ u. (u .0, u .1 .count, u .1 .closing, cc (u .1 .told), u .1 .opens)) (how-far N room h s)

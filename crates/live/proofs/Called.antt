@@ -18,12 +18,12 @@ use Rattle.frame.specs.Line.{flag}
 use Rattle.frame.specs.Decode.{decoded}
 use Rattle.frame.specs.Write.{lineOf, written}
 use Rattle.frame.proofs.Exact.{write-line}
-use Rattle.receiver.specs.Held.{Held, Usable, places, opened, after, closes, says}
+use Rattle.receiver.specs.Held.{Held, Usable, places, afterFlag, afterOctet, closes, stretchSays}
 use Rattle.receiver.specs.Call.{nothing, handed, further, takes}
 use Rattle.receiver.proofs.After.{after-flag, closes-other}
-use Rattle.live.specs.Stretches.{heard}
-use Rattle.live.specs.Calls.{afterAll, handOuts, Offer, Worked, offered, fed, Roomy, Alike, Likewise}
-use Rattle.live.specs.Sent.{Sent, sent, bodies, Fits, AllFit, linesOf, given}
+use Rattle.live.specs.Stretches.{heardLine}
+use Rattle.live.specs.Calls.{afterAll, handOuts, Offer, Worked, offers, fed, Roomy, Alike, Likewise}
+use Rattle.live.specs.Sent.{Sent, sent, bodies, Fits, FitEach, linesOf, allGiven}
 use Rattle.live.specs.Sent.{Written, writtenBody, AllWritten, writtenBodies, writtenLines}
 use Rattle.live.proofs.Steps.{fresh, closes-flag, other-first}
 use Rattle.live.proofs.Answered.{says-room}
@@ -47,8 +47,8 @@ module _ (N : ℕ) (limit : isLimit N ≡ true) where
 
   module _ (m : List ℕ) (store : length m ≡ places) where
     -- octets offered in any way that leaves none
-    pub offered-decoder : (s : List ℕ) (cs : List Offer) → Roomy N cs → offered N (fresh m) s cs .left ≡ []
-        → offered N (fresh m) s cs .outs ≡ heard N s
+    pub offered-decoder : (s : List ℕ) (cs : List Offer) → Roomy N cs → offers N (fresh m) s cs .left ≡ []
+        → offers N (fresh m) s cs .outs ≡ heardLine N s
     offered-decoder s cs roomy none =
         ap (λ (w : Worked). w .outs) (all-passed N limit (fresh m) s cs (fresh-usable m store) roomy none)
         ∙ it-is-the-decoder N limit m store s
@@ -59,21 +59,21 @@ module _ (N : ℕ) (limit : isLimit N ≡ true) where
 
       -- (a): runs of any length; no octet is left
       pub called-decoder :
-          (fed N room (fresh m) rs .outs ≡ heard N (flatten rs)) × (fed N room (fresh m) rs .left ≡ [])
+          (fed N room (fresh m) rs .outs ≡ heardLine N (flatten rs)) × (fed N room (fresh m) rs .left ≡ [])
       called-decoder = (
         fresh-outs ∙ it-is-the-decoder N limit m store (flatten rs),
         ap (λ (w : Worked). w .left) (fed-all N limit room fits (fresh m) rs (fresh-usable m store)),
       )
 
       -- (d): frames behind a flag, with one flag between two of them or any number more
-      pub called-lines : (fs : List Sent) → AllFit N (bodies fs) → flatten rs ≡ flag ∷ sent fs
-          → fed N room (fresh m) rs .outs ≡ given (bodies fs)
+      pub called-lines : (fs : List Sent) → FitEach N (bodies fs) → flatten rs ≡ flag ∷ sent fs
+          → fed N room (fresh m) rs .outs ≡ allGiven (bodies fs)
       called-lines fs fit e =
           fresh-outs ∙ ap (handOuts N (fresh m)) e ∙ lines-come-through N limit fs m fit store
 
       -- lines, each with its own two flags
-      pub called-lines-of : (bs : List (List ℕ)) → AllFit N bs → flatten rs ≡ linesOf bs
-          → fed N room (fresh m) rs .outs ≡ given bs
+      pub called-lines-of : (bs : List (List ℕ)) → FitEach N bs → flatten rs ≡ linesOf bs
+          → fed N room (fresh m) rs .outs ≡ allGiven bs
       called-lines-of bs fit e =
           fresh-outs ∙ ap (handOuts N (fresh m)) e ∙ written-lines N limit bs m fit store
 
@@ -108,8 +108,8 @@ module _ (N : ℕ) where
       ((os, omega arith, omega arith), f .3)
 
   all-written : (ws : List Written) → AllWritten N ws
-      → AllFit N (writtenBodies ws) × (flatten (writtenLines ws) ≡ linesOf (writtenBodies ws))
-  unfolding AllWritten AllFit writtenBodies writtenLines linesOf flatten
+      → FitEach N (writtenBodies ws) × (flatten (writtenLines ws) ≡ linesOf (writtenBodies ws))
+  unfolding AllWritten FitEach writtenBodies writtenLines linesOf flatten
   all-written [] all = (tt, refl)
   all-written (w ∷ ws) all =
       let f = written-fits w (all .0) (all .1) in
@@ -120,7 +120,7 @@ module _ (N : ℕ) where
   -- what was handed to it, in order
   pub written-called : isLimit N ≡ true → (m : List ℕ) → length m ≡ places → (room : ℕ) → frameMost N ≤ room
       → (rs : List (List ℕ)) (ws : List Written) → AllWritten N ws → flatten rs ≡ flatten (writtenLines ws)
-      → fed N room (fresh m) rs .outs ≡ given (writtenBodies ws)
+      → fed N room (fresh m) rs .outs ≡ allGiven (writtenBodies ws)
   written-called limit m store room fits rs ws all e =
       let both = all-written ws all in
       called-lines-of N limit m store room fits rs (writtenBodies ws) (both .0) (e ∙ both .1)
@@ -130,15 +130,15 @@ module _ (N M room room' : ℕ) where
   pub change-of-limit : (h : Held) (s : List ℕ) → Likewise (takes N room h s) (takes M room' h s)
   unfolding takes further
   change-of-limit h [] = record { held = refl; count = refl; told = inl (refl, refl) }
-  change-of-limit h (x ∷ xs) = go (closes h x) (change-of-limit (after h x) xs)
+  change-of-limit h (x ∷ xs) = go (closes h x) (change-of-limit (afterOctet h x) xs)
     where
-      go : (t : Bool) → Likewise (takes N room (after h x) xs) (takes M room' (after h x) xs)
+      go : (t : Bool) → Likewise (takes N room (afterOctet h x) xs) (takes M room' (afterOctet h x) xs)
           → Likewise
-          (cond t (record { held = after h x; count = 1; told = handed (says N room h) })
-          (further (takes N room (after h x) xs)))
-          (cond t (record { held = after h x; count = 1; told = handed (says M room' h) })
-          (further (takes M room' (after h x) xs)))
-      go true less = record { held = refl; count = refl; told = inr (says N room h, says M room' h, refl, refl) }
+          (cond t (record { held = afterOctet h x; count = 1; told = handed (stretchSays N room h) })
+          (further (takes N room (afterOctet h x) xs)))
+          (cond t (record { held = afterOctet h x; count = 1; told = handed (stretchSays M room' h) })
+          (further (takes M room' (afterOctet h x) xs)))
+      go true less = record { held = refl; count = refl; told = inr (stretchSays N room h, stretchSays M room' h, refl, refl) }
       go false less = record { held = less .held; count = ap suc (less .count); told = less .told }
 
 -- octets without a flag are taken whole, whatever N is
@@ -147,19 +147,19 @@ pub flagless-taken : (N room : ℕ) (h : Held) (p : List ℕ) → holds flag p �
 unfolding takes further afterAll
 flagless-taken N room h [] f = refl
 flagless-taken N room h (x ∷ p) f =
-    rw (closes-other h x (other-first x p f), flagless-taken N room (after h x) p (holds-tail flag x p f))
+    rw (closes-other h x (other-first x p f), flagless-taken N room (afterOctet h x) p (holds-tail flag x p f))
 
 -- a hand-out goes by the N of the call that takes the flag, whatever that of the calls before it that took the octets p
 pub limit-at-flag : (M room : ℕ) (h : Held) (p s : List ℕ) → isLimit M ≡ true → frameMost M ≤ room
     → length (h .store) ≡ places → holds flag p ≡ false → 0 < length p
-    → takes M room (afterAll (opened h) p) (flag ∷ s)
-    ≡ record { held = opened (afterAll (opened h) p); count = 1; told = handed (decoded M p (frameMost M)) }
+    → takes M room (afterAll (afterFlag h) p) (flag ∷ s)
+    ≡ record { held = afterFlag (afterAll (afterFlag h) p); count = 1; told = handed (decoded M p (frameMost M)) }
 unfolding takes
 limit-at-flag M room h p s limit fits store f n =
-    let g : Held = afterAll (opened h) p in
+    let g : Held = afterAll (afterFlag h) p in
     let was = holds-always h p store f in
     rw (closes-flag g flag refl (was .seen) (was .any ∙ some-octets p n), after-flag g flag refl)
-    (ap (λ (a : Answer (List ℕ)). record { held = opened g; count = 1; told = handed a })
+    (ap (λ (a : Answer (List ℕ)). record { held = afterFlag g; count = 1; told = handed a })
     (says-room M room g fits ∙ says-decoded M limit p g (frameMost M) was))
   where
     some-octets : (p : List ℕ) → 0 < length p → some p ≡ true

@@ -12,8 +12,8 @@ use lib.ListN.{length, take, drop, take-append-drop, length-take, length-drop, d
 use lib.Seq.{take-take, take-length, take-add, drop-drop}
 use Rattle.limits.specs.Limits.{isLimit, frameMost}
 use Rattle.receiver.specs.Held.{Held, Usable}
-use Rattle.receiver.specs.Call.{Took, takes, takenBy, heldBy}
-use Rattle.live.specs.Calls.{afterAll, handOuts, Offer, Worked, toldOuts, outsBy, behind, offered, again, fed}
+use Rattle.receiver.specs.Call.{Took, takes, tookBy, heldBy}
+use Rattle.live.specs.Calls.{afterAll, handOuts, Offer, Worked, toldOuts, outsBy, withOuts, offers, runAgain, fed}
 use Rattle.live.specs.Calls.{Roomy}
 use Rattle.live.proofs.Steps.{afterAll-usable, after-append, outs-append}
 use Rattle.live.proofs.Answered.{says-room, not-refused, how-far, takes-at-least-one, takes-at-most}
@@ -33,8 +33,8 @@ passed N h p q = record { held = afterAll h p; left = q; outs = handOuts N h p }
 
 -- what is passed in two parts
 passed-append : (N : ℕ) (h : Held) (p q r : List ℕ)
-    → behind (handOuts N h p) (passed N (afterAll h p) q r) ≡ passed N h (p ++ q) r
-unfolding behind
+    → withOuts (handOuts N h p) (passed N (afterAll h p) q r) ≡ passed N h (p ++ q) r
+unfolding withOuts
 passed-append N h p q r = rw (after-append h p q, outs-append N h p q)
 
 -- something taken where there is something leaves less
@@ -46,8 +46,8 @@ module _ (N : ℕ) (limit : isLimit N ≡ true) where
   -- one call, and then others; one that is lent all that is left leaves less of it
   call-first : (h : Held) (s : List ℕ) (c : Offer) (cs : List Offer) → Usable h → frameMost N ≤ c .room
       → (t : ℕ) × (t ≤ length s) × (length s ≤ c .octets → length s - t ≤ length s - 1)
-      × (offered N h s (c ∷ cs) ≡ behind (handOuts N h (take t s)) (offered N (afterAll h (take t s)) (drop t s) cs))
-  unfolding offered takenBy heldBy outsBy
+      × (offers N h s (c ∷ cs) ≡ withOuts (handOuts N h (take t s)) (offers N (afterAll h (take t s)) (drop t s) cs))
+  unfolding offers tookBy heldBy outsBy
   call-first h s c cs usable fits =
       let s' : List ℕ = take (c .octets) s in
       let t : Took = takes N (c .room) h s' in
@@ -63,8 +63,8 @@ module _ (N : ℕ) (limit : isLimit N ≡ true) where
 
   -- every octet that is not left is taken once, in order
   pub offers-are : (h : Held) (s : List ℕ) (cs : List Offer) → Usable h → Roomy N cs
-      → (t : ℕ) × (t ≤ length s) × (offered N h s cs ≡ passed N h (take t s) (drop t s))
-  unfolding offered Roomy afterAll handOuts
+      → (t : ℕ) × (t ≤ length s) × (offers N h s cs ≡ passed N h (take t s) (drop t s))
+  unfolding offers Roomy afterAll handOuts
   offers-are h s [] usable roomy = (0, omega arith, refl)
   offers-are h s (c ∷ cs) usable roomy =
       let (n, most, less, first) = call-first h s c cs usable (roomy .0) in
@@ -73,14 +73,14 @@ module _ (N : ℕ) (limit : isLimit N ≡ true) where
         n + m,
         omega (arith, length-drop n s),
         first
-            ∙ ap (behind (handOuts N h p)) others
+            ∙ ap (withOuts (handOuts N h p)) others
             ∙ passed-append N h p (take m (drop n s)) (drop m (drop n s))
             ∙ ap₂ (passed N h) (sym (take-add n m s)) (drop-drop m n s),
       )
 
   -- offers that leave nothing: all octets, one by one
   pub all-passed : (h : Held) (s : List ℕ) (cs : List Offer) → Usable h → Roomy N cs
-      → offered N h s cs .left ≡ [] → offered N h s cs ≡ passed N h s []
+      → offers N h s cs .left ≡ [] → offers N h s cs ≡ passed N h s []
   all-passed h s cs usable roomy none =
       let (t, most, are) = offers-are h s cs usable roomy in
       let d : drop t s ≡ [] = sym (ap (λ (w : Worked). w .left) are) ∙ none in
@@ -89,24 +89,24 @@ module _ (N : ℕ) (limit : isLimit N ≡ true) where
 
   -- two ways to offer the same octets end with the same record, and hand out the same
   pub any-way : (h : Held) (s : List ℕ) (cs ds : List Offer) → Usable h → Roomy N cs → Roomy N ds
-      → offered N h s cs .left ≡ [] → offered N h s ds .left ≡ [] → offered N h s cs ≡ offered N h s ds
+      → offers N h s cs .left ≡ [] → offers N h s ds .left ≡ [] → offers N h s cs ≡ offers N h s ds
   any-way h s cs ds usable roomy roomy' none none' =
       all-passed h s cs usable roomy none ∙ sym (all-passed h s ds usable roomy' none')
 
   module _ (room : ℕ) (fits : frameMost N ≤ room) where
-    again-roomy : (k n : ℕ) → Roomy N (again k n room)
-    unfolding Roomy again
+    again-roomy : (k n : ℕ) → Roomy N (runAgain k n room)
+    unfolding Roomy runAgain
     again-roomy zero n = tt
     again-roomy (suc k) n = (fits, again-roomy k n)
 
     -- as many calls as there are octets, each with all that are left, leave none
     again-all : (h : Held) (s : List ℕ) (k n : ℕ) → Usable h → length s ≤ k → length s ≤ n
-        → offered N h s (again k n room) .left ≡ []
-    unfolding offered behind again
+        → offers N h s (runAgain k n room) .left ≡ []
+    unfolding offers withOuts runAgain
     again-all h s zero n usable short within = drop-of-length-le s {i = 0} short
     again-all h s (suc k) n usable short within =
         let c : Offer = record { octets = n; room = room } in
-        let (t, most, less, first) = call-first h s c (again k n room) usable fits in
+        let (t, most, less, first) = call-first h s c (runAgain k n room) usable fits in
         let l = length-drop t s in
         ap (λ (w : Worked). w .left) first
         ∙ again-all (afterAll h (take t s)) (drop t s) k n (afterAll-usable h (take t s) usable)
@@ -114,15 +114,15 @@ module _ (N : ℕ) (limit : isLimit N ≡ true) where
 
     -- a run that is lent again and again is taken whole
     run-passed : (h : Held) (r : List ℕ) → Usable h
-        → offered N h r (again (suc (length r)) (length r) room) ≡ passed N h r []
+        → offers N h r (runAgain (suc (length r)) (length r) room) ≡ passed N h r []
     run-passed h r usable =
         let k : ℕ = suc (length r) in
-        all-passed h r (again k (length r) room) usable (again-roomy k (length r))
+        all-passed h r (runAgain k (length r) room) usable (again-roomy k (length r))
         (again-all h r k (length r) usable (omega arith) (omega arith))
 
     -- 02 (i): runs of any length, empty ones too, are taken whole, in order
     pub fed-all : (h : Held) (rs : List (List ℕ)) → Usable h → fed N room h rs ≡ passed N h (flatten rs) []
-    unfolding fed flatten afterAll handOuts behind
+    unfolding fed flatten afterAll handOuts withOuts
     fed-all h [] usable = refl
     fed-all h (r ∷ rs) usable =
         rw (run-passed h r usable, fed-all (afterAll h r) rs (afterAll-usable h r usable))

@@ -26,9 +26,9 @@ use Rattle.frame.specs.Line.{flag, escape, toggle, broken, plainAfter, plain}
 use Rattle.frame.specs.Decode.{body, decodeRows, decoded}
 use Rattle.frame.proofs.Judge.{long, when-stored, when-broken, when-whole}
 use Rattle.frame.proofs.Lines.{unbroken}
-use Rattle.receiver.specs.Held.{Held, places, added, taken, opened, after, says}
+use Rattle.receiver.specs.Held.{Held, places, addedBy, takenIn, afterFlag, afterOctet, stretchSays}
 use Rattle.receiver.proofs.After.{after-flag, closes-other}
-use Rattle.live.specs.Stretches.{stretchesAfter, stretches, answersTo, heard}
+use Rattle.live.specs.Stretches.{stretchesAfter, stretches, answersTo, heardLine}
 use Rattle.live.specs.Calls.{afterAll, handOuts}
 use Rattle.live.proofs.Steps.{fresh, after-taken, after-dropped, closes-flag}
 use Rattle.live.proofs.Steps.{outs-closed, outs-open, other-first}
@@ -120,8 +120,8 @@ pub record Holds (p : List ℕ) (h : Held) : Type 0 where
   pub seen : h .marks .seen ≡ true
   pub store : length (h .store) ≡ places
 
-pub holds-opened : (h : Held) → length (h .store) ≡ places → Holds [] (opened h)
-unfolding opened holds plainAfter removedAfter lastOf
+pub holds-opened : (h : Held) → length (h .store) ≡ places → Holds [] (afterFlag h)
+unfolding afterFlag holds plainAfter removedAfter lastOf
 holds-opened h e =
     record {
       flagless = refl;
@@ -146,38 +146,38 @@ more-added P n k = go (ltb P n) refl
 
 -- an octet of the stretch that is no flag
 module _ (p : List ℕ) (h : Held) (x : ℕ) (was : Holds p h) where
-  plain-added : plain (p ++ x ∷ []) ≡ plain p ++ added h x
-  unfolding added
+  plain-added : plain (p ++ x ∷ []) ≡ plain p ++ addedBy h x
+  unfolding addedBy
   plain-added =
       plain-append false p (x ∷ [])
       ∙ ap (λ (b : Bool). plain p ++ plainAfter b (x ∷ [])) (sym (was .escaping))
 
-  long-added : length (plain (p ++ x ∷ [])) ≡ length (plain p) + length (added h x)
-  long-added = ap length plain-added ∙ length-append (plain p) (added h x)
+  long-added : length (plain (p ++ x ∷ [])) ≡ length (plain p) + length (addedBy h x)
+  long-added = ap length plain-added ∙ length-append (plain p) (addedBy h x)
 
-  holds-taken : eqb x flag ≡ false → Holds (p ++ x ∷ []) (taken h x)
-  unfolding taken holds
+  holds-taken : eqb x flag ≡ false → Holds (p ++ x ∷ []) (takenIn h x)
+  unfolding takenIn holds
   holds-taken other =
       record {
         flagless = holds-append flag p (x ∷ []) (was .flagless) (rw other);
         count = omega (arith, was .count, long-added);
         octets =
-            take-sets places (added h x) (h .store) (h .marks .count) (was .store) (omega (arith, was .count))
-            ∙ ap (λ (l : List ℕ). take places (l ++ added h x)) (was .octets)
-            ∙ take-behind places (plain p) (added h x)
+            take-sets places (addedBy h x) (h .store) (h .marks .count) (was .store) (omega (arith, was .count))
+            ∙ ap (λ (l : List ℕ). take places (l ++ addedBy h x)) (was .octets)
+            ∙ take-behind places (plain p) (addedBy h x)
             ∙ ap (take places) (sym plain-added);
         more =
-            ap₂ (λ (b : Bool) (n : ℕ). b || ltb places (n + length (added h x))) (was .more) (was .count)
-            ∙ more-added places (length (plain p)) (length (added h x))
+            ap₂ (λ (b : Bool) (n : ℕ). b || ltb places (n + length (addedBy h x))) (was .more) (was .count)
+            ∙ more-added places (length (plain p)) (length (addedBy h x))
             ∙ ap (ltb places) (sym long-added);
         escaping = ap (λ (b : Bool). not b && eqb x escape) (was .escaping) ∙ sym (removed-append false p x);
         last = ap (λ (y : ℕ). eqb y escape) (sym (last-append 0 p x));
         any = sym (some-append p x);
         seen = was .seen;
-        store = length-sets (h .store) (h .marks .count) (added h x) ∙ was .store;
+        store = length-sets (h .store) (h .marks .count) (addedBy h x) ∙ was .store;
       }
 
-  pub holds-after : eqb x flag ≡ false → Holds (p ++ x ∷ []) (after h x)
+  pub holds-after : eqb x flag ≡ false → Holds (p ++ x ∷ []) (afterOctet h x)
   holds-after other = rw (after-taken h x other (was .seen)) (holds-taken other)
 
 -- the rows of a receiver are those of the decoder
@@ -196,15 +196,15 @@ rows-decoded N l p d room false false f e m q =
 
 module _ (N : ℕ) (l : isLimit N ≡ true) where
   -- what is handed out at a flag
-  pub says-decoded : (p : List ℕ) (h : Held) (room : ℕ) → Holds p h → says N room h ≡ decoded N p room
-  unfolding says
+  pub says-decoded : (p : List ℕ) (h : Held) (room : ℕ) → Holds p h → stretchSays N room h ≡ decoded N p room
+  unfolding stretchSays
   says-decoded p h room was =
       rows-decoded N l p (take (h .marks .count) (h .store)) room (h .marks .last) (h .marks .more) (was .flagless)
       (was .last) (was .more) (was .octets)
 
   -- a flag behind the octets p
   at-flag : (p : List ℕ) (h : Held) (x : ℕ) (xs : List ℕ) → Holds p h → eqb x flag ≡ true
-      → handOuts N (opened h) xs ≡ answersTo N (stretchesAfter [] xs)
+      → handOuts N (afterFlag h) xs ≡ answersTo N (stretchesAfter [] xs)
       → handOuts N h (x ∷ xs) ≡ answersTo N (p ∷ stretchesAfter [] xs)
   unfolding answersTo
   at-flag [] h x xs was e less =
@@ -221,19 +221,19 @@ module _ (N : ℕ) (l : isLimit N ≡ true) where
   unfolding handOuts stretchesAfter answersTo
   outs-behind p h [] was = refl
   outs-behind p h (x ∷ xs) was =
-      go (eqb x flag) refl (outs-behind [] (opened h) xs (holds-opened h (was .store)))
-      (λ other. outs-behind (p ++ x ∷ []) (after h x) xs (holds-after p h x was other))
+      go (eqb x flag) refl (outs-behind [] (afterFlag h) xs (holds-opened h (was .store)))
+      (λ other. outs-behind (p ++ x ∷ []) (afterOctet h x) xs (holds-after p h x was other))
     where
-      go : (t : Bool) → eqb x flag ≡ t → handOuts N (opened h) xs ≡ answersTo N (stretchesAfter [] xs)
-          → (eqb x flag ≡ false → handOuts N (after h x) xs ≡ answersTo N (stretchesAfter (p ++ x ∷ []) xs))
+      go : (t : Bool) → eqb x flag ≡ t → handOuts N (afterFlag h) xs ≡ answersTo N (stretchesAfter [] xs)
+          → (eqb x flag ≡ false → handOuts N (afterOctet h x) xs ≡ answersTo N (stretchesAfter (p ++ x ∷ []) xs))
           → handOuts N h (x ∷ xs)
           ≡ answersTo N (cond t (p ∷ stretchesAfter [] xs) (stretchesAfter (p ++ x ∷ []) xs))
       go true e less more = at-flag p h x xs was e less
       go false e less more = outs-open h x N xs (closes-other h x e) ∙ more e
 
   -- before the first flag
-  outs-before : (h : Held) (s : List ℕ) → h .marks .seen ≡ false → length (h .store) ≡ places → handOuts N h s ≡ heard N s
-  unfolding handOuts heard stretches answersTo
+  outs-before : (h : Held) (s : List ℕ) → h .marks .seen ≡ false → length (h .store) ≡ places → handOuts N h s ≡ heardLine N s
+  unfolding handOuts heardLine stretches answersTo
   outs-before h [] none e = refl
   outs-before h (x ∷ xs) none e = go (eqb x flag) refl (outs-before h xs none e)
     where
@@ -242,14 +242,14 @@ module _ (N : ℕ) (l : isLimit N ≡ true) where
       go true t less =
           outs-open h x N xs (closes-flag h x t none refl)
           ∙ ap (λ (g : Held). handOuts N g xs) (after-flag h x t)
-          ∙ outs-behind [] (opened h) xs (holds-opened h e)
+          ∙ outs-behind [] (afterFlag h) xs (holds-opened h e)
       go false t less =
           outs-open h x N xs (closes-other h x t)
           ∙ ap (λ (g : Held). handOuts N g xs) (after-dropped h x t none)
           ∙ less
 
   -- (a): over any octets, what is handed out is what the decoder says of each stretch between two flags, in order
-  pub it-is-the-decoder : (m : List ℕ) → length m ≡ places → (s : List ℕ) → handOuts N (fresh m) s ≡ heard N s
+  pub it-is-the-decoder : (m : List ℕ) → length m ≡ places → (s : List ℕ) → handOuts N (fresh m) s ≡ heardLine N s
   it-is-the-decoder m e s = outs-before (fresh m) s refl e
 
 -- what a receiver holds behind a flag and octets without one
@@ -258,11 +258,11 @@ unfolding afterAll
 holds-more q [] h was f = rw append-nil was
 holds-more q (x ∷ p) h was f =
     rw append-assoc at
-    (holds-more (q ++ x ∷ []) p (after h x) (holds-after q h x was (other-first x p f)) (holds-tail flag x p f))
+    (holds-more (q ++ x ∷ []) p (afterOctet h x) (holds-after q h x was (other-first x p f)) (holds-tail flag x p f))
 
 pub holds-always : (h : Held) (p : List ℕ) → length (h .store) ≡ places → holds flag p ≡ false
-    → Holds p (afterAll (opened h) p)
-holds-always h p e f = holds-more [] p (opened h) (holds-opened h e) f
+    → Holds p (afterAll (afterFlag h) p)
+holds-always h p e f = holds-more [] p (afterFlag h) (holds-opened h e) f
 
 unfoldable pub flagged : List (List ℕ) → List ℕ → List ℕ
 flagged [] rest = rest

@@ -15,17 +15,17 @@ use Rattle.octets.proofs.Bounds.{pair-parts}
 use Rattle.octets.proofs.Words.{holds-exactly}
 use Rattle.refusal.specs.Answer.{Answer, gives, refuses, counted, outAfter}
 use Rattle.limits.specs.Limits.{isLimit, Limited, frameMost}
-use Rattle.receiver.specs.Held.{Held, Usable, places, says}
+use Rattle.receiver.specs.Held.{Held, Usable, places, stretchSays}
 use Rattle.receiver.specs.Call.{Told, nothing, handed, Took, takes, received}
-use Rattle.receiver.specs.Call.{toldCounted, heardBy, takenBy, heldBy, outTold, outBy}
+use Rattle.receiver.specs.Call.{toldCounted, toldBy, tookBy, heldBy, outTold, outBy}
 use Rattle.receiver.specs.declared.Receiver.{Receiver}
 use Rattle.block.specs.Block.{yes, yesOctet, marksIn, marksOctets, heldIn, blockAfter}
 use Rattle.capi.specs.Crossing.{refusals, crossed, heardCrossed, Crosses, Hears}
 use Rattle.capi.proofs.Crosses.{low-told}
-use Rattle.live.specs.Stretches.{heard}
-use Rattle.live.specs.Calls.{Offer, Worked, outsBy, behind, offered, again, fed}
+use Rattle.live.specs.Stretches.{heardLine}
+use Rattle.live.specs.Calls.{Offer, Worked, outsBy, withOuts, offers, runAgain, fed}
 use Rattle.live.specs.InC.{blockSize, zeros, ReceiveTells}
-use Rattle.live.specs.InC.{Lent, heldLent, behindC, offeredC, fedC}
+use Rattle.live.specs.InC.{Lent, heldLent, withOutsC, offersC, fedC}
 use Rattle.live.proofs.Steps.{fresh, afterAll-usable}
 use Rattle.live.proofs.Answered.{numbers-said, frame-size, refused-6, refused-other, call-given}
 use Rattle.live.proofs.Answered.{told-nothing, told-at-flag}
@@ -125,7 +125,7 @@ module _ (N : ℕ) (h : Held) (s : List ℕ) (room : ℕ) {u : Took} (e : receiv
       ∙ told-nothing N room h s (ap (λ (w : Took). w .told) these ∙ q) .0
 
   -- handed out what was to be said of a record: a flag is taken
-  told-said : {a : Answer (List ℕ)} → u .told ≡ handed a → (0 < u .count) × (g : Held) × (says N room g ≡ a)
+  told-said : {a : Answer (List ℕ)} → u .told ≡ handed a → (0 < u .count) × (g : Held) × (stretchSays N room g ≡ a)
   told-said q =
       let (k, n, f, said, opens) = told-at-flag N room h s (ap (λ (w : Took). w .told) these ∙ q) in
       let taken = sym (ap (λ (w : Took). w .count) these) ∙ n in
@@ -197,7 +197,7 @@ module _ (N : ℕ) (b s o : List ℕ) {r t : ℕ} {b' o' : List ℕ} where
   -- number, of a stretch (1 to 4) or of the call (5, 6), which then took and changed nothing
   pub receive-tells : Hears (received N (heldIn b) s (length o)) b o r t b' o'
       → ReceiveTells (received N (heldIn b) s (length o)) b s o r t b' o'
-  unfolding heardCrossed heardBy takenBy blockAfter outBy
+  unfolding heardCrossed toldBy tookBy blockAfter outBy
   receive-tells = go (received N (heldIn b) s (length o)) refl
     where
       go : (x : Answer Took) → received N (heldIn b) s (length o) ≡ x → Hears x b o r t b' o'
@@ -208,16 +208,16 @@ module _ (N : ℕ) (b s o : List ℕ) {r t : ℕ} {b' o' : List ℕ} where
 module _ (N : ℕ) where
   -- calls with a block are those with the record that it holds, and it stays a block
   pub offered-holds : (b s : List ℕ) (cs : List Offer) → length b ≡ blockSize
-      → (heldLent (offeredC N b s cs) ≡ offered N (heldIn b) s cs) × (length (offeredC N b s cs .block) ≡ blockSize)
-  unfolding offeredC behindC offered behind
+      → (heldLent (offersC N b s cs) ≡ offers N (heldIn b) s cs) × (length (offersC N b s cs .block) ≡ blockSize)
+  unfolding offersC withOutsC offers withOuts
   offered-holds b s [] size = (refl, size)
   offered-holds b s (c ∷ cs) size =
       let s' : List ℕ = take (c .octets) s in
       let a : Answer Took = received N (heldIn b) s' (c .room) in
       let held = block-holds N b s' (c .room) size in
-      let less = offered-holds (blockAfter a b) (drop (takenBy a) s) cs (held .1) in (
-        ap (behind (outsBy a))
-            (less .0 ∙ ap (λ (h : Held). offered N h (drop (takenBy a) s) cs) (held .0)),
+      let less = offered-holds (blockAfter a b) (drop (tookBy a) s) cs (held .1) in (
+        ap (withOuts (outsBy a))
+            (less .0 ∙ ap (λ (h : Held). offers N h (drop (tookBy a) s) cs) (held .0)),
         less .1,
       )
 
@@ -226,8 +226,8 @@ module _ (N : ℕ) where
   unfolding fedC fed
   fed-holds room b [] size = (refl, size)
   fed-holds room b (r ∷ rs) size =
-      let k : List Offer = again (suc (length r)) (length r) room in
-      let w : Lent = offeredC N b r k in
+      let k : List Offer = runAgain (suc (length r)) (length r) room in
+      let w : Lent = offersC N b r k in
       let first = offered-holds b r k size in
       let less = fed-holds room (w .block) rs (first .1) in
       let front : Worked → Worked → Worked =
@@ -239,7 +239,7 @@ module _ (N : ℕ) where
 
   -- (a), in C: from a block of zeros, runs of any length hand out what the decoder says, and no octet is left
   pub c-decoder : isLimit N ≡ true → (room : ℕ) → frameMost N ≤ room → (rs : List (List ℕ))
-      → (fedC N room zeros rs .outs ≡ heard N (flatten rs)) × (fedC N room zeros rs .left ≡ [])
+      → (fedC N room zeros rs .outs ≡ heardLine N (flatten rs)) × (fedC N room zeros rs .left ≡ [])
   c-decoder limit room fits rs =
       let held : heldLent (fedC N room zeros rs) ≡ fed N room (fresh (replicate places 0)) rs =
       fed-holds room zeros rs refl .0 ∙ ap (λ (h : Held). fed N room h rs) zeros-fresh in

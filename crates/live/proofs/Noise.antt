@@ -14,7 +14,7 @@ use Rattle.refusal.specs.Answer.{Answer, _when_, answered}
 use Rattle.limits.specs.Limits.{frameMost}
 use Rattle.frame.specs.Line.{flag, plainAfter}
 use Rattle.frame.specs.Decode.{body, decodeRows}
-use Rattle.receiver.specs.Held.{Held, Usable, places, added, taken, raw, opened, after, closes, says}
+use Rattle.receiver.specs.Held.{Held, Usable, places, addedBy, takenIn, raw, afterFlag, afterOctet, closes, stretchSays}
 use Rattle.receiver.specs.declared.Receiver.{Receiver}
 use Rattle.receiver.proofs.After.{after-usable}
 use Rattle.live.specs.Calls.{afterAll, handOuts, Alike}
@@ -28,21 +28,21 @@ either-two R true e a b = rw (← e) a
 either-two R false e a b = rw (← e) b
 
 module _ (h g : Held) (x : ℕ) (u : Usable h) (v : Usable g) (a : Alike h g) where
-  alike-added : added h x ≡ added g x
-  unfolding added
+  alike-added : addedBy h x ≡ addedBy g x
+  unfolding addedBy
   alike-added = ap (λ (k : Receiver). plainAfter (k .escaping) (x ∷ [])) (a .0)
 
-  alike-taken : Alike (taken h x) (taken g x)
-  unfolding taken added
+  alike-taken : Alike (takenIn h x) (takenIn g x)
+  unfolding takenIn addedBy
   alike-taken = (
-    ap (λ (k : Receiver). taken (record { marks = k; store = [] }) x .marks) (a .0),
-    take-sets places (added h x) (h .store) (h .marks .count) (u .0) (u .1)
+    ap (λ (k : Receiver). takenIn (record { marks = k; store = [] }) x .marks) (a .0),
+    take-sets places (addedBy h x) (h .store) (h .marks .count) (u .0) (u .1)
         ∙ ap₂ (λ (l w : List ℕ). take places (l ++ w)) (a .1) alike-added
-        ∙ sym (take-sets places (added g x) (g .store) (g .marks .count) (v .0) (v .1)),
+        ∙ sym (take-sets places (addedBy g x) (g .store) (g .marks .count) (v .0) (v .1)),
   )
 
-  pub alike-after : Alike (after h x) (after g x)
-  unfolding after raw opened
+  pub alike-after : Alike (afterOctet h x) (afterOctet g x)
+  unfolding afterOctet raw afterFlag
   alike-after =
       either-two Alike (eqb x flag) refl (refl, refl)
       (either-two Alike (h .marks .seen) (ap (λ (k : Receiver). k .seen) (a .0)) alike-taken a)
@@ -51,8 +51,8 @@ module _ (h g : Held) (x : ℕ) (u : Usable h) (v : Usable g) (a : Alike h g) wh
   unfolding closes
   alike-closes = ap (λ (k : Receiver). closes (record { marks = k; store = [] }) x) (a .0)
 
-pub alike-says : (N room : ℕ) (h g : Held) → Alike h g → says N room h ≡ says N room g
-unfolding says
+pub alike-says : (N room : ℕ) (h g : Held) → Alike h g → stretchSays N room h ≡ stretchSays N room g
+unfolding stretchSays
 alike-says N room h g a =
     ap₂ (λ (k : Receiver) (d : List ℕ). answered (4 when k .last ∷ 2 when k .more ∷ decodeRows N false d room) (body d))
     (a .0) (a .1)
@@ -63,12 +63,12 @@ pub alike-outs : (N : ℕ) (h g : Held) (s : List ℕ) → Usable h → Usable g
 unfolding handOuts afterAll
 alike-outs N h g [] u v a = (refl, a)
 alike-outs N h g (x ∷ s) u v a =
-    let less = alike-outs N (after h x) (after g x) s (after-usable h x u) (after-usable g x v) (alike-after h g x u v a) in
+    let less = alike-outs N (afterOctet h x) (afterOctet g x) s (after-usable h x u) (after-usable g x v) (alike-after h g x u v a) in
     (rw (alike-closes h g x u v a, alike-says N (frameMost N) h g a, less .0), less .1)
 
 pub record Resynchronised (N : ℕ) (h fresh : Held) (noise s : List ℕ) : Type 0 where
   pub first : List (Answer (List ℕ))
-  pub closed : first ≡ cond (closes (afterAll h noise) flag) (says N (frameMost N) (afterAll h noise) ∷ []) []
+  pub closed : first ≡ cond (closes (afterAll h noise) flag) (stretchSays N (frameMost N) (afterAll h noise) ∷ []) []
   pub most-one : length first ≤ 1
   pub none-before : handOuts N h noise ≡ []
   pub outs : handOuts N h (noise ++ flag ∷ s) ≡ first ++ handOuts N fresh (flag ∷ s)
@@ -80,8 +80,8 @@ length-cond true a = omega arith
 length-cond false a = omega arith
 
 -- a flag makes all records alike
-alike-flag : (h g : Held) → Alike (after h flag) (after g flag)
-unfolding after opened
+alike-flag : (h g : Held) → Alike (afterOctet h flag) (afterOctet g flag)
+unfolding afterOctet afterFlag
 alike-flag h g = (refl, refl)
 
 -- (c): over octets without a flag nothing is handed out, at the flag at most one answer, and from there on what a fresh
@@ -91,13 +91,13 @@ pub resynchronised : (N : ℕ) (h : Held) (m noise s : List ℕ) → Usable h �
 unfolding handOuts afterAll closes
 resynchronised N h m noise s u e f =
     let g : Held = afterAll h noise in
-    let both = alike-outs N (after g flag) (after (fresh m) flag) s
+    let both = alike-outs N (afterOctet g flag) (afterOctet (fresh m) flag) s
     (after-usable g flag (afterAll-usable h noise u)) (after-usable (fresh m) flag (e, omega arith))
     (alike-flag g (fresh m)) in
     record {
       first = handOuts N g (flag ∷ []);
       closed = refl;
-      most-one = length-cond (closes g flag) (says N (frameMost N) g);
+      most-one = length-cond (closes g flag) (stretchSays N (frameMost N) g);
       none-before = outs-none N h noise f;
       outs =
           outs-append N h noise (flag ∷ s)

@@ -11,7 +11,7 @@ use Rattle.octets.specs.Octets.{holds}
 use Rattle.octets.proofs.Words.{holds-head, holds-tail}
 use Rattle.limits.specs.Limits.{frameMost}
 use Rattle.frame.specs.Line.{flag}
-use Rattle.receiver.specs.Held.{Held, Usable, freshMarks, taken, raw, after, closes, says}
+use Rattle.receiver.specs.Held.{Held, Usable, freshMarks, takenIn, raw, afterOctet, closes, stretchSays}
 use Rattle.receiver.proofs.After.{after-usable, after-other, closes-other}
 use Rattle.live.specs.Calls.{afterAll, handOuts}
 
@@ -19,13 +19,13 @@ abbrev pub fresh : List ℕ → Held
 fresh m = record { marks = freshMarks; store = m }
 
 module _ (h : Held) (x : ℕ) where
-  pub after-taken : eqb x flag ≡ false → h .marks .seen ≡ true → after h x ≡ taken h x
+  pub after-taken : eqb x flag ≡ false → h .marks .seen ≡ true → afterOctet h x ≡ takenIn h x
   unfolding raw
-  after-taken e s = after-other h x e ∙ ap (λ (b : Bool). cond b (taken h x) h) s
+  after-taken e s = after-other h x e ∙ ap (λ (b : Bool). cond b (takenIn h x) h) s
 
-  pub after-dropped : eqb x flag ≡ false → h .marks .seen ≡ false → after h x ≡ h
+  pub after-dropped : eqb x flag ≡ false → h .marks .seen ≡ false → afterOctet h x ≡ h
   unfolding raw
-  after-dropped e s = after-other h x e ∙ ap (λ (b : Bool). cond b (taken h x) h) s
+  after-dropped e s = after-other h x e ∙ ap (λ (b : Bool). cond b (takenIn h x) h) s
 
   pub closes-flag : {s a : Bool} → eqb x flag ≡ true → h .marks .seen ≡ s → h .marks .any ≡ a → closes h x ≡ (s && a)
   unfolding closes
@@ -33,11 +33,11 @@ module _ (h : Held) (x : ℕ) where
 
   module _ (N : ℕ) (xs : List ℕ) where
     pub outs-closed : closes h x ≡ true
-        → handOuts N h (x ∷ xs) ≡ says N (frameMost N) h ∷ handOuts N (after h x) xs
+        → handOuts N h (x ∷ xs) ≡ stretchSays N (frameMost N) h ∷ handOuts N (afterOctet h x) xs
     unfolding handOuts
     outs-closed e = rw e
 
-    pub outs-open : closes h x ≡ false → handOuts N h (x ∷ xs) ≡ handOuts N (after h x) xs
+    pub outs-open : closes h x ≡ false → handOuts N h (x ∷ xs) ≡ handOuts N (afterOctet h x) xs
     unfolding handOuts
     outs-open e = rw e
 
@@ -47,12 +47,12 @@ other-first x s f = ne-eqb x flag (holds-head flag x s f)
 pub afterAll-usable : (h : Held) (s : List ℕ) → Usable h → Usable (afterAll h s)
 unfolding afterAll
 afterAll-usable h [] u = u
-afterAll-usable h (x ∷ xs) u = afterAll-usable (after h x) xs (after-usable h x u)
+afterAll-usable h (x ∷ xs) u = afterAll-usable (afterOctet h x) xs (after-usable h x u)
 
 pub after-append : (h : Held) (a b : List ℕ) → afterAll h (a ++ b) ≡ afterAll (afterAll h a) b
 unfolding afterAll
 after-append h [] b = refl
-after-append h (x ∷ a) b = after-append (after h x) a b
+after-append h (x ∷ a) b = after-append (afterOctet h x) a b
 
 -- one more in front, or not
 front-append : {A : Type 0} (t : Bool) (a : A) (l m : List A) → cond t (a ∷ (l ++ m)) (l ++ m) ≡ cond t (a ∷ l) l ++ m
@@ -65,7 +65,7 @@ module _ (N : ℕ) where
   unfolding handOuts afterAll
   outs-append h [] b = refl
   outs-append h (x ∷ a) b =
-      rw (outs-append (after h x) a b) (front-append (closes h x) _ (handOuts N (after h x) a) _)
+      rw (outs-append (afterOctet h x) a b) (front-append (closes h x) _ (handOuts N (afterOctet h x) a) _)
 
   -- nothing is handed out without a flag
   pub outs-none : (h : Held) (s : List ℕ) → holds flag s ≡ false → handOuts N h s ≡ []
@@ -73,4 +73,4 @@ module _ (N : ℕ) where
   outs-none h [] f = refl
   outs-none h (x ∷ s) f =
       outs-open h x N s (closes-other h x (other-first x s f))
-      ∙ outs-none (after h x) s (holds-tail flag x s f)
+      ∙ outs-none (afterOctet h x) s (holds-tail flag x s f)

@@ -18,9 +18,9 @@ use Rattle.frame.proofs.Assembled.{length-withCheck}
 use Rattle.frame.proofs.Escapes.{onLine-long}
 use Rattle.frame.proofs.Trip.{no-flag, inside-between, trip}
 use Rattle.receiver.specs.Held.{places}
-use Rattle.live.specs.Stretches.{stretchesAfter, stretches, answersTo, heard}
+use Rattle.live.specs.Stretches.{stretchesAfter, stretches, answersTo, heardLine}
 use Rattle.live.specs.Calls.{handOuts}
-use Rattle.live.specs.Sent.{Sent, sent, bodies, Fits, AllFit, linesOf, given}
+use Rattle.live.specs.Sent.{Sent, sent, bodies, Fits, FitEach, linesOf, allGiven}
 use Rattle.live.proofs.Decoder.{it-is-the-decoder, stretch-closed}
 use Rattle.live.proofs.Steps.{fresh}
 
@@ -46,8 +46,8 @@ module _ (N : ℕ) where
         ∙ trip b (fits .0) N l (frameMost N) (fits .1) (fits .2)
         ∙ in-room b (frameMost N) (omega arith)
 
-    frames-heard : (fs : List Sent) → AllFit N (bodies fs) → answersTo N (stretchesAfter [] (sent fs)) ≡ given (bodies fs)
-    unfolding sent bodies given AllFit answersTo stretchesAfter
+    frames-heard : (fs : List Sent) → FitEach N (bodies fs) → answersTo N (stretchesAfter [] (sent fs)) ≡ allGiven (bodies fs)
+    unfolding sent bodies allGiven FitEach answersTo stretchesAfter
     frames-heard [] fit = refl
     frames-heard (f ∷ fs) fit =
         let d : List ℕ = withCheck (f .body) in
@@ -58,9 +58,9 @@ module _ (N : ℕ) where
         ∙ ap₂ _∷_ (frame-decoded (f .body) (fit .0)) (frames-heard fs (fit .1))
 
     -- (d): frames behind a flag, with one flag between two of them or any number more
-    pub lines-come-through : (fs : List Sent) (m : List ℕ) → AllFit N (bodies fs) → length m ≡ places
-        → handOuts N (fresh m) (flag ∷ sent fs) ≡ given (bodies fs)
-    unfolding heard stretches
+    pub lines-come-through : (fs : List Sent) (m : List ℕ) → FitEach N (bodies fs) → length m ≡ places
+        → handOuts N (fresh m) (flag ∷ sent fs) ≡ allGiven (bodies fs)
+    unfolding heardLine stretches
     lines-come-through fs m fit e = it-is-the-decoder N l m e (flag ∷ sent fs) ∙ frames-heard fs fit
 
 -- each with its own two flags
@@ -82,11 +82,11 @@ lines-sent (b ∷ bs) =
     (append-assoc (onLine d) (flag ∷ []) (linesOf bs) ∙ ap (λ (s : List ℕ). onLine d ++ flag ∷ s) (lines-sent bs))
 
 -- the lines as the writer gives them, one behind the other
-pub written-lines : (N : ℕ) → isLimit N ≡ true → (bs : List (List ℕ)) (m : List ℕ) → AllFit N bs → length m ≡ places
-    → handOuts N (fresh m) (linesOf bs) ≡ given bs
-unfolding handOuts linesOf given AllFit bodies sent ones
+pub written-lines : (N : ℕ) → isLimit N ≡ true → (bs : List (List ℕ)) (m : List ℕ) → FitEach N bs → length m ≡ places
+    → handOuts N (fresh m) (linesOf bs) ≡ allGiven bs
+unfolding handOuts linesOf allGiven FitEach bodies sent ones
 written-lines N l [] m fit e = refl
 written-lines N l (b ∷ bs) m fit e =
     ap (handOuts N (fresh m)) (lines-sent (b ∷ bs))
     ∙ lines-come-through N l (record { flags = 0; body = b } ∷ ones bs) m (fit .0, rw (bodies-ones bs) (fit .1)) e
-    ∙ ap (λ (cs : List (List ℕ)). given (b ∷ cs)) (bodies-ones bs)
+    ∙ ap (λ (cs : List (List ℕ)). allGiven (b ∷ cs)) (bodies-ones bs)

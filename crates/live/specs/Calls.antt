@@ -2,7 +2,7 @@
 --   afterAll h s     == the record h after the octets s, one by one; handOuts N h s == what is handed out over them
 --   Offer            == one call: how many of the octets that are left are lent, and an output of how many octets
 --   Worked           == how far a caller has come: the record, the octets that are not taken yet, what was handed out
---   offered N h s cs == one call for each of cs over the octets s
+--   offers N h s cs == one call for each of cs over the octets s
 --   fed N room h rs  == the runs rs one after the other, each lent whole, and again with what was left of it; empty runs, too
 --   Roomy N cs       == no output is shorter than N - 2
 --   Alike h g        == two records are equal but for places of the store past the count
@@ -16,17 +16,17 @@ use Prim.Native.Nat.{ℕ, zero, suc, _≤_}
 use lib.ListN.{length, take, drop}
 use Rattle.refusal.specs.Answer.{Answer, gives, refuses}
 use Rattle.limits.specs.Limits.{frameMost}
-use Rattle.receiver.specs.Held.{Held, after, closes, says}
-use Rattle.receiver.specs.Call.{Told, nothing, handed, Took, received, takenBy, heldBy}
+use Rattle.receiver.specs.Held.{Held, afterOctet, closes, stretchSays}
+use Rattle.receiver.specs.Call.{Told, nothing, handed, Took, received, tookBy, heldBy}
 
 unfoldable pub afterAll : Held → List ℕ → Held
 afterAll h [] = h
-afterAll h (x ∷ xs) = afterAll (after h x) xs
+afterAll h (x ∷ xs) = afterAll (afterOctet h x) xs
 
 unfoldable pub handOuts : ℕ → Held → List ℕ → List (Answer (List ℕ))
 handOuts N h [] = []
 handOuts N h (x ∷ xs) =
-    cond (closes h x) (says N (frameMost N) h ∷ handOuts N (after h x) xs) (handOuts N (after h x) xs)
+    cond (closes h x) (stretchSays N (frameMost N) h ∷ handOuts N (afterOctet h x) xs) (handOuts N (afterOctet h x) xs)
 
 pub record Offer : Type 0 where
   pub octets : ℕ
@@ -47,25 +47,25 @@ outsBy (gives t) = toldOuts (t .told)
 outsBy (refuses k) = []
 
 -- what was handed out before, in front
-unfoldable pub behind : List (Answer (List ℕ)) → Worked → Worked
-behind a w = record { held = w .held; left = w .left; outs = a ++ w .outs }
+unfoldable pub withOuts : List (Answer (List ℕ)) → Worked → Worked
+withOuts a w = record { held = w .held; left = w .left; outs = a ++ w .outs }
 
 -- "and to call again with what was left"
-unfoldable pub offered : ℕ → Held → List ℕ → List Offer → Worked
-offered N h s [] = record { held = h; left = s; outs = [] }
-offered N h s (c ∷ cs) =
+unfoldable pub offers : ℕ → Held → List ℕ → List Offer → Worked
+offers N h s [] = record { held = h; left = s; outs = [] }
+offers N h s (c ∷ cs) =
     let a : Answer Took = received N h (take (c .octets) s) (c .room) in
-    behind (outsBy a) (offered N (heldBy a h) (drop (takenBy a) s) cs)
+    withOuts (outsBy a) (offers N (heldBy a h) (drop (tookBy a) s) cs)
 
 -- all that is left of the run, as often as there can be something left of it
-unfoldable pub again : ℕ → ℕ → ℕ → List Offer
-again zero n room = []
-again (suc k) n room = record { octets = n; room = room } ∷ again k n room
+unfoldable pub runAgain : ℕ → ℕ → ℕ → List Offer
+runAgain zero n room = []
+runAgain (suc k) n room = record { octets = n; room = room } ∷ runAgain k n room
 
 unfoldable pub fed : ℕ → ℕ → Held → List (List ℕ) → Worked
 fed N room h [] = record { held = h; left = []; outs = [] }
 fed N room h (r ∷ rs) =
-    let w : Worked = offered N h r (again (suc (length r)) (length r) room) in
+    let w : Worked = offers N h r (runAgain (suc (length r)) (length r) room) in
     let v : Worked = fed N room (w .held) rs in
     record { held = v .held; left = w .left ++ v .left; outs = w .outs ++ v .outs }
 

@@ -9,7 +9,7 @@
 --   ReceiveTells x b s o r t b' o' == what the number r tells of it
 --   Lent             == how far such a caller has come: the block, the octets that are not taken yet, what was handed out;
 --                       heldLent w == the same, with the record that the block holds
---   offeredC N b s cs, fedC N room b rs == as `offered` and `fed` of Calls, with the block for the record
+--   offersC N b s cs, fedC N room b rs == as `offers` and `fed` of Calls, with the block for the record
 -- Assumes nothing.
 use mathlib.Core.Path.{_≡_}
 use mathlib.Core.List.{List, [], _∷_, _++_}
@@ -18,10 +18,10 @@ use Prim.Native.Nat.{ℕ, suc, _-_, _<_, _≤_}
 use lib.ListN.{length, take, drop, replicate}
 use Rattle.octets.specs.Octets.{OneOf, _atStartOf_}
 use Rattle.refusal.specs.Answer.{Answer, gives, refuses}
-use Rattle.receiver.specs.Call.{nothing, handed, Took, received, takenBy}
+use Rattle.receiver.specs.Call.{nothing, handed, Took, received, tookBy}
 use Rattle.block.specs.Block.{heldIn, blockAfter}
 use Rattle.capi.specs.Crossing.{refusals}
-use Rattle.live.specs.Calls.{Offer, Worked, outsBy, again}
+use Rattle.live.specs.Calls.{Offer, Worked, outsBy, runAgain}
 
 abbrev pub blockSize : ℕ
 blockSize = 267
@@ -74,18 +74,18 @@ abbrev pub heldLent : Lent → Worked
 heldLent w = record { held = heldIn (w .block); left = w .left; outs = w .outs }
 
 -- what was handed out before, in front
-unfoldable pub behindC : List (Answer (List ℕ)) → Lent → Lent
-behindC a w = record { block = w .block; left = w .left; outs = a ++ w .outs }
+unfoldable pub withOutsC : List (Answer (List ℕ)) → Lent → Lent
+withOutsC a w = record { block = w .block; left = w .left; outs = a ++ w .outs }
 
-unfoldable pub offeredC : ℕ → List ℕ → List ℕ → List Offer → Lent
-offeredC N b s [] = record { block = b; left = s; outs = [] }
-offeredC N b s (c ∷ cs) =
+unfoldable pub offersC : ℕ → List ℕ → List ℕ → List Offer → Lent
+offersC N b s [] = record { block = b; left = s; outs = [] }
+offersC N b s (c ∷ cs) =
     let a : Answer Took = received N (heldIn b) (take (c .octets) s) (c .room) in
-    behindC (outsBy a) (offeredC N (blockAfter a b) (drop (takenBy a) s) cs)
+    withOutsC (outsBy a) (offersC N (blockAfter a b) (drop (tookBy a) s) cs)
 
 unfoldable pub fedC : ℕ → ℕ → List ℕ → List (List ℕ) → Lent
 fedC N room b [] = record { block = b; left = []; outs = [] }
 fedC N room b (r ∷ rs) =
-    let w : Lent = offeredC N b r (again (suc (length r)) (length r) room) in
+    let w : Lent = offersC N b r (runAgain (suc (length r)) (length r) room) in
     let v : Lent = fedC N room (w .block) rs in
     record { block = v .block; left = w .left ++ v .left; outs = w .outs ++ v .outs }

@@ -4,9 +4,9 @@
 --   sent fs        == behind a flag: the frames fs, a flag behind each
 --   bodies fs      == address, control and payload of each
 --   Fits N b       == address, control and payload of a frame within the limit N
---   AllFit N bs    == each of bs is
+--   FitEach N bs    == each of bs is
 --   linesOf bs     == the line of each of bs, each with its own two flags
---   given bs       == each of bs is handed out
+--   allGiven bs       == each of bs is handed out
 --   Written        == what was handed to the writer, with the room that it was lent, and the line that it gave
 --   AllWritten N ws == each line of ws is what the writer with the limit N gave; writtenLines ws == the lines, and
 --                     writtenBodies ws == address, control and payload of each
@@ -37,17 +37,17 @@ bodies (f ∷ fs) = f .body ∷ bodies fs
 abbrev pub Fits : ℕ → List ℕ → Type 0
 Fits N b = Octets b × (2 ≤ length b) × (length b + 2 ≤ N)
 
-unfoldable pub AllFit : ℕ → List (List ℕ) → Type 0
-AllFit N [] = Unit {0}
-AllFit N (b ∷ bs) = Fits N b × AllFit N bs
+unfoldable pub FitEach : ℕ → List (List ℕ) → Type 0
+FitEach N [] = Unit {0}
+FitEach N (b ∷ bs) = Fits N b × FitEach N bs
 
 unfoldable pub linesOf : List (List ℕ) → List ℕ
 linesOf [] = []
 linesOf (b ∷ bs) = lineOf b ++ linesOf bs
 
-unfoldable pub given : List (List ℕ) → List (Answer (List ℕ))
-given [] = []
-given (b ∷ bs) = gives b ∷ given bs
+unfoldable pub allGiven : List (List ℕ) → List (Answer (List ℕ))
+allGiven [] = []
+allGiven (b ∷ bs) = gives b ∷ allGiven bs
 
 pub record Written : Type 0 where
   pub address : ℕ

@@ -6,29 +6,29 @@ use native.Mathlib.Omega.{arith}
 use lib.Dec.{eqb}
 use lib.Seq.{length-sets}
 use Rattle.frame.specs.Line.{flag}
-use Rattle.receiver.specs.Held.{Held, Usable, added, taken, raw, opened, after, closes}
+use Rattle.receiver.specs.Held.{Held, Usable, addedBy, takenIn, raw, afterFlag, afterOctet, closes}
 
-taken-usable : (h : Held) (x : ℕ) → Usable h → Usable (taken h x)
-unfolding taken
-taken-usable h x u = (length-sets (h .store) (h .marks .count) (added h x) ∙ u .0, omega arith)
+taken-usable : (h : Held) (x : ℕ) → Usable h → Usable (takenIn h x)
+unfolding takenIn
+taken-usable h x u = (length-sets (h .store) (h .marks .count) (addedBy h x) ∙ u .0, omega arith)
 
 -- what holds of both holds by either test
 either : (P : Held → Type 0) (t : Bool) {g h : Held} → P g → P h → P (cond t g h)
 either P true p q = p
 either P false p q = q
 
-pub after-usable : (h : Held) (x : ℕ) → Usable h → Usable (after h x)
-unfolding after opened raw
+pub after-usable : (h : Held) (x : ℕ) → Usable h → Usable (afterOctet h x)
+unfolding afterOctet afterFlag raw
 after-usable h x u =
     either Usable (eqb x flag) (u .0, omega arith) (either Usable (h .marks .seen) (taken-usable h x u) u)
 
 module _ (h : Held) (x : ℕ) where
-  pub after-flag : eqb x flag ≡ true → after h x ≡ opened h
-  unfolding after
+  pub after-flag : eqb x flag ≡ true → afterOctet h x ≡ afterFlag h
+  unfolding afterOctet
   after-flag e = rw e
 
-  pub after-other : eqb x flag ≡ false → after h x ≡ raw h x
-  unfolding after
+  pub after-other : eqb x flag ≡ false → afterOctet h x ≡ raw h x
+  unfolding afterOctet
   after-other e = rw e
 
   pub closes-other : eqb x flag ≡ false → closes h x ≡ false

@@ -13,24 +13,24 @@ use Rattle.refusal.proofs.Answers.{answered-here, answered-later}
 use Rattle.limits.specs.Limits.{limitMost}
 use Rattle.frame.specs.Line.{flag}
 use Rattle.frame.specs.Decode.{body, decodeRows, framed}
-use Rattle.receiver.specs.Held.{Held, Usable, heldOf, places, openMarks, opened, after, stretched, closes, says}
-use Rattle.receiver.specs.Call.{Told, nothing, handed, takes, received, Receives, heardOf, heardBy, takenBy, heldBy, outBy, toldCounted, outTold}
+use Rattle.receiver.specs.Held.{Held, Usable, heldOf, places, openMarks, afterFlag, afterOctet, stretched, closes, stretchSays}
+use Rattle.receiver.specs.Call.{Told, nothing, handed, takes, received, Receives, heardOf, toldBy, tookBy, heldBy, outBy, toldCounted, outTold}
 use Rattle.receiver.specs.Pieces.{furtherBy, Passes}
 use Rattle.receiver.specs.declared.Receiver.{Receiver}
 use Rattle.receiver.specs.declared.Received.{Received}
 use Rattle.receiver.specs.declared.Heard.the-variants.{Nothing, HandedOut}
 
 module _ (N room : ℕ) (r : Receiver) (m : List ℕ) where
-  pub says-broken : r .last ≡ true → says N room (heldOf r m) ≡ refuses 4
-  unfolding says
+  pub says-broken : r .last ≡ true → stretchSays N room (heldOf r m) ≡ refuses 4
+  unfolding stretchSays
   says-broken e = answered-here 4 _ _ e
 
-  pub says-more : r .last ≡ false → r .more ≡ true → says N room (heldOf r m) ≡ refuses 2
-  unfolding says
+  pub says-more : r .last ≡ false → r .more ≡ true → stretchSays N room (heldOf r m) ≡ refuses 2
+  unfolding stretchSays
   says-more e f = answered-later 4 _ _ e ∙ answered-here 2 _ _ f
 
-  pub says-framed : r .last ≡ false → r .more ≡ false → says N room (heldOf r m) ≡ framed N (take (r .count) m) room
-  unfolding says
+  pub says-framed : r .last ≡ false → r .more ≡ false → stretchSays N room (heldOf r m) ≡ framed N (take (r .count) m) room
+  unfolding stretchSays
   says-framed e f = answered-later 4 _ _ e ∙ answered-later 2 _ _ f
 
 -- a store that is not full has a place
@@ -41,7 +41,7 @@ place-free h u n = omega (arith, u .0, u .1, n)
 module _ (N : ℕ) (h g : Held) (s o : List ℕ) {k : ℕ} (p : Passes h s k g) where
   pub all-taken : length s ≤ k → Receives (gives (takes N (length o) h s)) h o
       (record { receiver = g .marks; taken = k; heard = Nothing }) (g .store) o
-  unfolding takes furtherBy heardOf heardBy takenBy heldBy outBy toldCounted outTold
+  unfolding takes furtherBy heardOf toldBy tookBy heldBy outBy toldCounted outTold
   all-taken e =
       let over = p .same N (length o) ∙ ap (λ (t : List ℕ). furtherBy k (takes N (length o) g t)) (drop-of-length-le s e) in
       rw over
@@ -49,10 +49,10 @@ module _ (N : ℕ) (h g : Held) (s o : List ℕ) {k : ℕ} (p : Passes h s k g) 
 
   -- a flag closes a stretch that has octets
   pub flag-closes : {a : Handed} {o' : List ℕ} → k < length s → getD s k 0 ≡ flag → stretched (g .marks) ≡ true
-      → Hands (says N (length o) g) o a o'
+      → Hands (stretchSays N (length o) g) o a o'
       → Receives (gives (takes N (length o) h s)) h o
       (record { receiver = openMarks; taken = k + 1; heard = HandedOut a }) (g .store) o'
-  unfolding takes furtherBy heardOf heardBy takenBy heldBy outBy toldCounted outTold after opened closes
+  unfolding takes furtherBy heardOf toldBy tookBy heldBy outBy toldCounted outTold afterOctet afterFlag closes
   flag-closes i e f w =
       let here : drop k s ≡ flag ∷ drop (k + 1) s = rest s k i ∙ ap (λ (x : ℕ). x ∷ drop (k + 1) s) e in
       let over = p .same N (length o) ∙ ap (λ (t : List ℕ). furtherBy k (takes N (length o) g t)) here in

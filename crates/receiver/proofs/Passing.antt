@@ -15,7 +15,7 @@ use Rattle.octets.proofs.Stores.{sets-append}
 use Rattle.octets.proofs.Takes.{take-rest}
 use Rattle.octets.proofs.Words.{true-not-false, or-none}
 use Rattle.frame.specs.Line.{flag, escape, special}
-use Rattle.receiver.specs.Held.{Held, Usable, heldOf, places, openMarks, raw, opened, after, stretched, closes}
+use Rattle.receiver.specs.Held.{Held, Usable, heldOf, places, openMarks, raw, afterFlag, afterOctet, stretched, closes}
 use Rattle.receiver.specs.Call.{Took, further, takes}
 use Rattle.receiver.specs.Pieces.{Plain, Copies, furtherBy, Passes}
 use Rattle.receiver.specs.declared.Receiver.{Receiver}
@@ -37,9 +37,9 @@ flag-closes-not : (h : Held) (x : ℕ) → stretched (h .marks) ≡ false → cl
 unfolding closes
 flag-closes-not h x e = rw e (and-false (eqb x flag))
 
-pub pass-one : (h : Held) (x : ℕ) (xs : List ℕ) → Usable (after h x) → closes h x ≡ false → Passes h (x ∷ xs) 1 (after h x)
+pub pass-one : (h : Held) (x : ℕ) (xs : List ℕ) → Usable (afterOctet h x) → closes h x ≡ false → Passes h (x ∷ xs) 1 (afterOctet h x)
 unfolding takes
-pass-one h x xs u e = record { few = omega arith; usable = u; same = λ N room. rw e (further-one (takes N room (after h x) xs)) }
+pass-one h x xs u e = record { few = omega arith; usable = u; same = λ N room. rw e (further-one (takes N room (afterOctet h x) xs)) }
 
 pub pass-on : {h g f : Held} {s : List ℕ} {k j : ℕ} → Passes h s k g → Passes g (drop k s) j f → Passes h s (k + j) f
 unfolding furtherBy
@@ -60,21 +60,21 @@ pass-rest {s = s} {k = k} p q = pass-on p (rw (take-rest k s) at q)
 
 -- the octet at k: a flag that closes nothing, or one that is no flag
 module _ {h g : Held} {s : List ℕ} {k : ℕ} (p : Passes h s k g) (i : k < length s) where
-  one-further : closes g (getD s k 0) ≡ false → Passes h s (k + 1) (after g (getD s k 0))
+  one-further : closes g (getD s k 0) ≡ false → Passes h s (k + 1) (afterOctet g (getD s k 0))
   one-further e =
       pass-on p
       (rw (rest s k i) (pass-one g (getD s k 0) (drop (k + 1) s) (after-usable g (getD s k 0) (p .usable)) e))
 
   pub flag-passes : getD s k 0 ≡ flag → stretched (g .marks) ≡ false → Passes h s (k + 1) (heldOf openMarks (g .store))
-  unfolding opened
+  unfolding afterFlag
   flag-passes e f =
-      let opens : after g (getD s k 0) ≡ heldOf openMarks (g .store) = after-flag g (getD s k 0) (eq-eqb (getD s k 0) flag e) in
+      let opens : afterOctet g (getD s k 0) ≡ heldOf openMarks (g .store) = after-flag g (getD s k 0) (eq-eqb (getD s k 0) flag e) in
       rw opens at (one-further (flag-closes-not g (getD s k 0) f))
 
   pub raw-passes : (getD s k 0 ≡ flag → ⊥) → {f : Held} → f ≡ raw g (getD s k 0) → Passes h s (k + 1) f
   raw-passes n {f} e =
       let other = ne-eqb (getD s k 0) flag n in
-      let same : after g (getD s k 0) ≡ f = after-other g (getD s k 0) other ∙ sym e in
+      let same : afterOctet g (getD s k 0) ≡ f = after-other g (getD s k 0) other ∙ sym e in
       rw same at (one-further (closes-other g (getD s k 0) other))
 
 -- after no octets the one, after some the other
@@ -92,8 +92,8 @@ module _ (n : ℕ) (p l a : Bool) (m : List ℕ) (x : ℕ) (plain : special x �
   unfolding special
   no-special = or-none (eqb x flag) (eqb x escape) plain
 
-  after-plain : n < places → after (marked n p false l a true m) x ≡ marked (n + 1) p false false true true (set m n x)
-  unfolding after
+  after-plain : n < places → afterOctet (marked n p false l a true m) x ≡ marked (n + 1) p false false true true (set m n x)
+  unfolding afterOctet
   after-plain h = rw (no-special .0) (sym (raw-plain n p l a m x (no-special .1) h))
 
   plain-open : closes (marked n p false l a true m) x ≡ false

@@ -12,7 +12,7 @@ use Rattle.refusal.proofs.Answers.{answered-here, answered-later}
 use Rattle.refusal.proofs.Exactly.{exactly-given}
 use Rattle.limits.specs.Limits.{isLimit, frameMost}
 use Rattle.receiver.specs.Held.{Held, places}
-use Rattle.receiver.specs.Call.{Took, takes, receiveRows, received, heardOf, heardBy, takenBy, heldBy, outBy, Receives}
+use Rattle.receiver.specs.Call.{Took, takes, receiveRows, received, heardOf, toldBy, tookBy, heldBy, outBy, Receives}
 use Rattle.receiver.specs.declared.Received.{Received}
 use Rattle.receiver.specs.declared.Heard.the-variants.{Refused}
 
@@ -60,7 +60,7 @@ module _ (N : ℕ) (h : Held) (s : List ℕ) (room : ℕ) where
 -- nothing is taken, and nothing is changed
 pub refused-call : {x : Answer Took} {h : Held} {o : List ℕ} (k : Refusal) {r : Received} → x ≡ refuses (numberOf k)
     → r ≡ record { receiver = h .marks; taken = 0; heard = Refused k } → Receives x h o r (h .store) o
-unfolding heardOf heardBy takenBy heldBy outBy
+unfolding heardOf toldBy tookBy heldBy outBy
 refused-call k e f = rw (e, f) (record { answer = refl; count = refl; held = refl; octets = refl })
 
 -- the same answer, written otherwise

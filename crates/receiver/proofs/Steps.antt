@@ -11,7 +11,7 @@ use lib.ListN.{length, set}
 use lib.Seq.{set-out}
 use Rattle.octets.proofs.Words.{true-not-false}
 use Rattle.frame.specs.Line.{escape, toggle, plainAfter}
-use Rattle.receiver.specs.Held.{Held, Usable, heldOf, places, added, taken, raw}
+use Rattle.receiver.specs.Held.{Held, Usable, heldOf, places, addedBy, takenIn, raw}
 use Rattle.receiver.specs.declared.Receiver.{Receiver}
 
 -- a record of its six fields, and a store
@@ -35,7 +35,7 @@ module _ (n : ℕ) (p : Bool) where
 module _ (n : ℕ) (p l a : Bool) (m : List ℕ) (x : ℕ) where
   raw-escape : eqb x escape ≡ true → n ≤ places
       → marked n p true (eqb x escape) true true m ≡ raw (marked n p false l a true m) x
-  unfolding raw taken added plainAfter
+  unfolding raw takenIn addedBy plainAfter
   raw-escape e h =
       let k : n ≡ min places (n + 0) = omega arith in
       let few = le-ltb places (n + 0) (omega arith) in
@@ -43,7 +43,7 @@ module _ (n : ℕ) (p l a : Bool) (m : List ℕ) (x : ℕ) where
 
   raw-full : (q : Bool) → (not q && eqb x escape) ≡ false → n ≡ places → length m ≡ places
       → marked n true false (eqb x escape) true true m ≡ raw (marked n p q l a true m) x
-  unfolding raw taken added plainAfter
+  unfolding raw takenIn addedBy plainAfter
   raw-full true e h w =
       let k : n ≡ min places (n + 1) = omega arith in
       marked-is k (no-place n p (omega arith)) refl refl refl refl (sym (set-out m n (bitXor x toggle) (omega arith)))
@@ -53,13 +53,13 @@ module _ (n : ℕ) (p l a : Bool) (m : List ℕ) (x : ℕ) where
 
   raw-escaped : n < places → marked (n + 1) p false (eqb x escape) true true (set m n (bitXor x toggle))
       ≡ raw (marked n p true l a true m) x
-  unfolding raw taken added plainAfter
+  unfolding raw takenIn addedBy plainAfter
   raw-escaped h =
       let k : n + 1 ≡ min places (n + 1) = omega arith in marked-is k (place-left n p h) refl refl refl refl refl
 
   pub raw-plain : eqb x escape ≡ false → n < places
       → marked (n + 1) p false false true true (set m n x) ≡ raw (marked n p false l a true m) x
-  unfolding raw taken added plainAfter
+  unfolding raw takenIn addedBy plainAfter
   raw-plain e h =
       let k : n + 1 ≡ min places (n + 1) = omega arith in
       rw e (marked-is k (place-left n p h) refl refl refl refl refl)

@@ -17,7 +17,7 @@ use lib.ListN.{length}
 use Rattle.refusal.specs.Numbers.{numberOf}
 use Rattle.refusal.specs.Answer.{Answer, gives, refuses, TestRow, _when_, answered, answerOf, counted, outAfter}
 use Rattle.limits.specs.Limits.{isLimit, frameMost}
-use Rattle.receiver.specs.Held.{Held, places, after, closes, says}
+use Rattle.receiver.specs.Held.{Held, places, afterOctet, closes, stretchSays}
 use Rattle.receiver.specs.declared.Heard.{Heard}
 use Rattle.receiver.specs.declared.Heard.the-variants.{Nothing, HandedOut, Refused}
 use Rattle.receiver.specs.declared.Received.{Received}
@@ -38,8 +38,8 @@ further t = record { held = t .held; count = suc (t .count); told = t .told }
 unfoldable pub takes : ℕ → ℕ → Held → List ℕ → Took
 takes N room h [] = record { held = h; count = 0; told = nothing }
 takes N room h (x ∷ xs) =
-    cond (closes h x) (record { held = after h x; count = 1; told = handed (says N room h) })
-    (further (takes N room (after h x) xs))
+    cond (closes h x) (record { held = afterOctet h x; count = 1; told = handed (stretchSays N room h) })
+    (further (takes N room (afterOctet h x) xs))
 
 -- 02 (iv): "outside 78 to 260: refusal 6 first"; (i): "A record holding more octets than its store gets 6, then an output
 -- shorter than 76 gets 5", which (iv) makes N - 2. A lent store of other than 260 places is no receiver's
@@ -64,14 +64,14 @@ unfoldable pub toldCounted : Told (List ℕ) → Told ℕ
 toldCounted nothing = nothing
 toldCounted (handed a) = handed (counted a)
 
-unfoldable pub heardBy : Answer Took → Answer (Told ℕ)
-heardBy (gives t) = gives (toldCounted (t .told))
-heardBy (refuses k) = refuses k
+unfoldable pub toldBy : Answer Took → Answer (Told ℕ)
+toldBy (gives t) = gives (toldCounted (t .told))
+toldBy (refuses k) = refuses k
 
 -- "nothing is taken"
-unfoldable pub takenBy : Answer Took → ℕ
-takenBy (gives t) = t .count
-takenBy (refuses k) = 0
+unfoldable pub tookBy : Answer Took → ℕ
+tookBy (gives t) = t .count
+tookBy (refuses k) = 0
 
 -- 01: a refusal leaves all "as they were"
 unfoldable pub heldBy : Answer Took → Held → Held
@@ -88,7 +88,7 @@ outBy (gives t) o = outTold (t .told) o
 outBy (refuses k) o = o
 
 pub record Receives (right : Answer Took) (h : Held) (o : List ℕ) (r : Received) (m o' : List ℕ) : Type 0 where
-  pub answer : heardOf (r .heard) ≡ heardBy right
-  pub count : r .taken ≡ takenBy right
+  pub answer : heardOf (r .heard) ≡ toldBy right
+  pub count : r .taken ≡ tookBy right
   pub held : record { marks = r .receiver; store = m } ≡ heldBy right h
   pub octets : o' ≡ outBy right o

@@ -4,12 +4,12 @@
 --   Held        == a record with its store; heldOf r m == the one of r and m
 --   Usable h    == a record that is not refused: its store has 260 places, and holds no more octets than those
 --   freshMarks  == the record before any octet; openMarks == right behind a flag
---   added h x   == the decoded octets that the raw octet x adds to the stretch: one, or none where it is an escape
---   taken h x   == the record after a raw octet x of the stretch
---   raw h x     == the record after an octet x that is no flag; opened h == the one after a flag
---   after h x   == the record after any octet
+--   addedBy h x   == the decoded octets that the raw octet x adds to the stretch: one, or none where it is an escape
+--   takenIn h x   == the record after a raw octet x of the stretch
+--   raw h x     == the record after an octet x that is no flag; afterFlag h == the one after a flag
+--   afterOctet h x   == the record after any octet
 --   stretched r == a stretch is open that has at least one raw octet; closes h x == x is a flag that closes such a one
---   says N room h == what is handed out where a flag closes the stretch, with the frame limit N and a lent output
+--   stretchSays N room h == what is handed out where a flag closes the stretch, with the frame limit N and a lent output
 -- Assumes nothing.
 use mathlib.Core.Path.{_≡_}
 use mathlib.Core.Bool.{Bool, true, false, cond, not, _&&_, _||_}
@@ -45,13 +45,13 @@ abbrev pub openMarks : Receiver
 openMarks = record { count = 0; more = false; escaping = false; last = false; any = false; seen = true }
 
 -- 01: "0x7D is removed and the next octet has 0x20 exclusive-ored in, whatever it was"
-unfoldable pub added : Held → ℕ → List ℕ
-added h x = plainAfter (h .marks .escaping) (x ∷ [])
+unfoldable pub addedBy : Held → ℕ → List ℕ
+addedBy h x = plainAfter (h .marks .escaping) (x ∷ [])
 
 -- into the next place of the store, as far as it has places; past them, that more came
-unfoldable pub taken : Held → ℕ → Held
-taken h x =
-    let n : ℕ = h .marks .count + length (added h x) in
+unfoldable pub takenIn : Held → ℕ → Held
+takenIn h x =
+    let n : ℕ = h .marks .count + length (addedBy h x) in
     record {
       marks = record {
         count = min places n;
@@ -61,18 +61,18 @@ taken h x =
         any = true;
         seen = h .marks .seen;
       };
-      store = sets (h .store) (h .marks .count) (added h x);
+      store = sets (h .store) (h .marks .count) (addedBy h x);
     }
 
 -- 02 (i): "octets before the first flag are dropped"
 unfoldable pub raw : Held → ℕ → Held
-raw h x = cond (h .marks .seen) (taken h x) h
+raw h x = cond (h .marks .seen) (takenIn h x) h
 
-unfoldable pub opened : Held → Held
-opened h = record { marks = openMarks; store = h .store }
+unfoldable pub afterFlag : Held → Held
+afterFlag h = record { marks = openMarks; store = h .store }
 
-unfoldable pub after : Held → ℕ → Held
-after h x = cond (eqb x flag) (opened h) (raw h x)
+unfoldable pub afterOctet : Held → ℕ → Held
+afterOctet h x = cond (eqb x flag) (afterFlag h) (raw h x)
 
 -- 02 (i): "Two flags side by side hand out nothing"
 abbrev pub stretched : Receiver → Bool
@@ -82,7 +82,7 @@ unfoldable pub closes : Held → ℕ → Bool
 closes h x = eqb x flag && stretched (h .marks)
 
 -- the rows of the decoder: 4 where the last raw octet was 0x7D; more octets than the store has places are more than any N
-unfoldable pub says : ℕ → ℕ → Held → Answer (List ℕ)
-says N room h =
+unfoldable pub stretchSays : ℕ → ℕ → Held → Answer (List ℕ)
+stretchSays N room h =
     let d : List ℕ = take (h .marks .count) (h .store) in
     answered (4 when h .marks .last ∷ 2 when h .marks .more ∷ decodeRows N false d room) (body d)

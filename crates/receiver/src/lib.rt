@@ -9,7 +9,7 @@ ghost use lib.Dec.{eqb};
 ghost use lib.ListN.{length, take};
 ghost use Rattle.refusal.specs.Answer.{gives, Hands};
 ghost use Rattle.frame.specs.Line.{escape};
-ghost use Rattle.receiver.specs.Held.{Usable, heldOf, freshMarks, openMarks, stretched, says};
+ghost use Rattle.receiver.specs.Held.{Usable, heldOf, freshMarks, openMarks, stretched, stretchSays};
 ghost use Rattle.receiver.specs.Call.{takes, received, Receives};
 ghost use Rattle.receiver.specs.declared.Heard.the-variants.{Refused};
 ghost use Rattle.receiver.specs.Pieces.{Plain, Copies};
@@ -107,7 +107,7 @@ fn copy(s: &[u8], store: &mut [u8], at: usize) -> usize
 // What is handed out where a flag closes the stretch.
 fn close(limit: usize, receiver: Receiver, store: &[u8], out: &mut [u8]) -> Handed
     requires { ⌜ Usable (heldOf receiver (now store)) ⌝ }
-    ensures { λ r. ⌜ Hands (says limit (length (now (out .entry))) (heldOf receiver (now (store .entry))))
+    ensures { λ r. ⌜ Hands (stretchSays limit (length (now (out .entry))) (heldOf receiver (now (store .entry))))
         (now (out .entry)) r (now (out .exit)) ⌝ }
 {
     if receiver.last {
