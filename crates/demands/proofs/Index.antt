@@ -12,6 +12,14 @@ pub use Rattle.frame.proofs.Checks.{check-exactly}
 pub use Rattle.frame.proofs.Trip.{trip, round-trip}
 pub use Rattle.frame.proofs.Unique.{unique, needed-onLine}
 pub use Rattle.frame.proofs.Lengths.{line-most, flag-at-ends, write-fits, write-one-less}
+-- ---- the live line: it is the decoder, however its octets are cut, after any noise; what is written comes through
+pub use Rattle.receiver.proofs.Only.{receives-only}
+pub use Rattle.live.proofs.Decoder.{it-is-the-decoder}
+pub use Rattle.live.proofs.Cuts.{cuts, any-way}
+pub use Rattle.live.proofs.Noise.{resynchronised}
+pub use Rattle.live.proofs.Trip.{lines-come-through}
+pub use Rattle.live.proofs.Called.{called-decoder, called-noise, called-lines}
+pub use Rattle.live.proofs.Answered.{right-check}
 -- ---- demand 3: in bits over depth, cap, limit and starting beginning; in octets, of the code's record
 pub use Rattle.walk.proofs.Demand.{demand3}
 pub use Rattle.walk.proofs.Answers.{any-answers}
@@ -87,11 +95,13 @@ pub use Rattle.bus.proofs.Job.{scan-installed, job-done}
 pub use Rattle.bus.proofs.Examples.{condition-needed, longer-later}
 -- ---- "Nothing relies on the caller having checked": nothing is asked, of each function of demand 1
 pub use Rattle.device.proofs.Only.{judge-asks, hear-asks}
-pub use Rattle.frame.proofs.Only.{decode-asks}
+pub use Rattle.frame.proofs.Only.{decode-asks, deliver-asks}
+pub use Rattle.receiver.proofs.Only.{new-asks as receiver-new-asks, receive-asks, receive-in-asks}
+pub use Rattle.block.proofs.Only.{receive-asks as block-receive-asks}
 pub use Rattle.writer.proofs.Only.{write-asks}
 pub use Rattle.refusal.proofs.Only.{hand-out-asks}
 pub use Rattle.capi.proofs.Only.{gorittaem-check-asks, gorittaem-decode-asks, gorittaem-write-asks}
-pub use Rattle.capi.proofs.Only.{gorittaem-decode-n-asks, gorittaem-write-n-asks}
+pub use Rattle.capi.proofs.Only.{gorittaem-decode-n-asks, gorittaem-write-n-asks, gorittaem-receive-asks}
 pub use Rattle.scan.proofs.Only.{probe-asks}
 pub use Rattle.scanner.proofs.Only.{new-asks, report-asks}
 pub use Rattle.fresh.proofs.Only.{fresh-asks}
@@ -101,6 +111,7 @@ pub use Rattle.drives.proofs.Only.{obey-asks}
 -- ---- the demands
 pub use Rattle.states.proofs.Renews.{renewed-ends}
 pub use Rattle.demands.proofs.One.{hear-defined, judge-defined, decode-answers, write-answers, hand-out-answers}
+pub use Rattle.demands.proofs.One.{deliver-answers, receive-answers, receive-in-answers, c-receive-answers}
 pub use Rattle.demands.proofs.One.{c-decode-n-answers, c-write-n-answers, limit-words}
 pub use Rattle.demands.proofs.One.{decode-numbers-78, write-numbers-78, judge-numbers-78, hear-numbers-78}
 pub use Rattle.demands.proofs.One.{c-decode-answers, c-write-answers, probe-answers, report-answers, fresh-answers}

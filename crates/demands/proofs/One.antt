@@ -28,9 +28,20 @@ use denote.Ref.{now}
 use Rattle.capi.proofs.Tells.{Tells, decode-tells, write-tells}
 use Rattle.capi.proofs.gorittaem_decode.Reads as c-decode-reads
 use Rattle.capi.proofs.gorittaem_decode_n.Reads as c-decode-n-reads
+use Rattle.capi.proofs.gorittaem_receive.Reads as c-receive-reads
 use Rattle.capi.proofs.gorittaem_write.Reads as c-write-reads
 use Rattle.capi.proofs.gorittaem_write_n.Reads as c-write-n-reads
 use Rattle.frame.proofs.decode.Reads as decode-reads
+use Rattle.frame.proofs.deliver.Reads as deliver-reads
+use Rattle.receiver.proofs.receive.Reads as receive-reads
+use Rattle.receiver.proofs.receive_in.Reads as receive-in-reads
+use Rattle.receiver.specs.Held.{heldOf}
+use Rattle.receiver.specs.Call.{received}
+use Rattle.block.specs.Block.{heldIn}
+use Rattle.live.specs.Calls.{CallTells}
+use Rattle.live.specs.InC.{ReceiveTells}
+use Rattle.live.proofs.Answered.{receives-tells}
+use Rattle.live.proofs.InC.{receive-tells}
 use Rattle.writer.proofs.write.Reads as write-reads
 use Rattle.scan.proofs.probe.Reads as probe-reads
 use Rattle.scanner.proofs.report.Reads as report-reads
@@ -46,7 +57,7 @@ use Rattle.antenna.specs.declared.Antenna.{Antenna}
 use Rattle.antenna.specs.declared.Aimed.{Aimed}
 use Rattle.aim.proofs.aim_at.Reads as aim-reads
 use Rattle.frame.specs.Line.{broken, plain}
-use Rattle.frame.specs.Decode.{body, rightCheck, decoded}
+use Rattle.frame.specs.Decode.{body, rightCheck, decoded, framed}
 use Rattle.frame.specs.Write.{lineOf, written}
 use Rattle.frame.proofs.Lines.{broken-exactly}
 use Rattle.limits.specs.Limits.{isLimit}
@@ -188,6 +199,25 @@ pub hand-out-answers : (κs : _) (a : _) (r : _) (s : _) → hand-out-reads.Lear
     → Hands-out (handedOut (now (a .0)) (length (now (a .1 .0)))) (now (a .1 .0)) r (now (s .1 .0))
 hand-out-answers κs a r s = hands-out _ r
 
+-- what the decoder and the receiver say of decoded octets
+pub deliver-answers : (κs : _) (a : _) (r : _) (s : _) → deliver-reads.Learnt κs a r s
+    → Hands-out (framed (a .0) (now (a .1 .0)) (length (now (a .1 .1 .0)))) (now (a .1 .1 .0)) r (now (s .1 .1 .0))
+deliver-answers κs a r s = hands-out _ r
+
+-- 02 (i), the receiver, with any record, any number for the frame limit and any run: what is told, how many octets were taken,
+-- the record and its store, and the output; or a number, and all is as it was
+pub receive-answers : (κs : _) (a : _) (r : _) (s : _) → receive-reads.Learnt κs a r s
+    → CallTells (received (a .1 .0) (heldOf (a .0) (now (a .1 .1 .1 .0))) (now (a .1 .1 .0))
+    (length (now (a .1 .1 .1 .1 .0)))) (heldOf (a .0) (now (a .1 .1 .1 .0))) (now (a .1 .1 .1 .1 .0)) r
+    (now (s .1 .1 .1 .0)) (now (s .1 .1 .1 .1 .0))
+receive-answers κs a r s = receives-tells _
+
+pub receive-in-answers : (κs : _) (a : _) (r : _) (s : _) → receive-in-reads.Learnt κs a r s
+    → CallTells (received (a .1 .0) (heldOf (a .0) (now (a .1 .1 .1 .0))) (now (a .1 .1 .0))
+    (length (now (a .1 .1 .1 .1 .0)))) (heldOf (a .0) (now (a .1 .1 .1 .0))) (now (a .1 .1 .1 .1 .0)) r
+    (now (s .1 .1 .1 .0)) (now (s .1 .1 .1 .1 .0))
+receive-in-answers κs a r s = receives-tells _
+
 -- the codec, to a program in C: the number tells the answer
 pub c-decode-answers : (κs : _) (a : _) (r : _) (s : _) → c-decode-reads.Learnt κs a r s
     → Tells (decoded 78 (now (a .0)) (length (now (a .1 .0)))) (now (a .1 .0)) r (now (s .1 .0))
@@ -196,6 +226,11 @@ c-decode-answers κs a r s = decode-tells 78 (now (a .0)) (length (now (a .1 .0)
 pub c-decode-n-answers : (κs : _) (a : _) (r : _) (s : _) → c-decode-n-reads.Learnt κs a r s
     → Tells (decoded (a .0) (now (a .1 .0)) (length (now (a .1 .1 .0)))) (now (a .1 .1 .0)) r (now (s .1 .1 .0))
 c-decode-n-answers κs a r s = decode-tells (a .0) (now (a .1 .0)) (length (now (a .1 .1 .0)))
+
+pub c-receive-answers : (κs : _) (a : _) (r : _) (s : _) → c-receive-reads.Learnt κs a r s
+    → ReceiveTells (received (a .1 .0) (heldIn (now (a .0))) (now (a .1 .1 .0)) (length (now (a .1 .1 .1 .0))))
+    (now (a .0)) (now (a .1 .1 .0)) (now (a .1 .1 .1 .0)) r (now (s .1 .1 .1 .1 .0)) (now (s .0)) (now (s .1 .1 .1 .0))
+c-receive-answers κs a r s = receive-tells (a .1 .0) (now (a .0)) (now (a .1 .1 .0)) (now (a .1 .1 .1 .0))
 
 pub c-write-answers : (κs : _) (a : _) (r : _) (s : _) → c-write-reads.Learnt κs a r s
     → Tells (written 78 (a .0) (a .1 .0) (now (a .1 .1 .0)) (length (now (a .1 .1 .1 .0)))) (now (a .1 .1 .1 .0)) r

@@ -1,5 +1,33 @@
 -- The change requests, each in its own words: where its statement stands. Assumes nothing.
 
+-- ---- (i) the live line: "takes octets in runs of any length, also none, and hands out each frame or its refusal number when the
+-- closing flag comes": from a fresh receiver, what the decoder says of each stretch between two flags, over the octets, over
+-- the calls made one after the other, and from C; what a stretch is
+pub use Rattle.live.proofs.Decoder.{it-is-the-decoder, stretches-are, says-decoded, holds-always}
+pub use Rattle.live.proofs.Called.{called-decoder, offered-decoder}
+pub use Rattle.live.proofs.InC.{c-decoder, zeros-fresh, block-holds, offered-holds, fed-holds}
+-- "It stops after each closing flag that hands something out and tells how many octets it took": one at least, where there are any
+pub use Rattle.live.proofs.Answered.{how-far, told-at-flag, told-nothing, takes-at-least-one, takes-at-most}
+-- "A record holding more octets than its store gets 6, then an output shorter than 76 gets 5; nothing is taken": which (iv) makes
+-- N - 2, with 6 first for a number that is no limit; each exactly then; from C, too; neither is ever handed out
+pub use Rattle.live.proofs.Answered.{refused-6, refused-5, refused-other, refusal-changes-nothing, not-refused}
+pub use Rattle.live.proofs.Answered.{says-no-5, says-no-6}
+pub use Rattle.live.proofs.InC.{block-refused-6, yes-exactly}
+-- "Two flags side by side hand out nothing; octets before the first flag are dropped": `stretches-are` and `it-is-the-decoder`
+-- "However the same octets are cut, the frames, refusals and end state agree": cut into runs, empty ones too, and lent again with
+-- what was left, or offered in any way at all; every octet is taken once, in order
+pub use Rattle.live.proofs.Cuts.{cuts, fed-all, any-way, offers-are}
+-- "After any noise, the next flag and what follows it are read as by a fresh receiver, save that this flag may also close the noisy
+-- stretch": from any record that is not refused
+pub use Rattle.live.proofs.Noise.{resynchronised, alike-outs}
+pub use Rattle.live.proofs.Called.{called-noise}
+-- lines written one after the other, with or without shared flags, hand out exactly the frames that were put in
+pub use Rattle.live.proofs.Trip.{lines-come-through, written-lines}
+pub use Rattle.live.proofs.Called.{called-lines, called-lines-of, written-called}
+-- a hand-out goes by the N of the call that takes the flag; the record, and how far a call goes, by none
+pub use Rattle.live.proofs.Called.{change-of-limit, limit-at-flag, flagless-taken}
+-- for every record, also one that no receiver made: a frame that is handed out has the right check for its octets
+pub use Rattle.live.proofs.Answered.{right-check, right-check-octets, frame-size}
 -- ---- (ii) wild cards: vendor 0xFF 0xFF and type 0xFF, "those two values match every device in an assignment."
 -- as if no type, or no vendor, were given, whatever else is
 pub use Rattle.xid.proofs.Wild.{wild-type, wild-vendor}

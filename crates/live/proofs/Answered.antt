@@ -25,10 +25,11 @@ use Rattle.frame.specs.Line.{flag}
 use Rattle.frame.specs.Decode.{body, rightCheck, decodeRows}
 use Rattle.frame.proofs.Checks.{split-two, check-exactly}
 use Rattle.receiver.specs.Held.{Held, Usable, places, afterFlag, afterOctet, closes, stretchSays}
-use Rattle.receiver.specs.Call.{nothing, handed, Took, further, takes, receiveRows, received, tookBy, heldBy, outBy}
+use Rattle.receiver.specs.Call.{nothing, handed, Took, further, takes, receiveRows, received, tookBy, heldBy, outBy, Receives, toldBy}
 use Rattle.receiver.proofs.Refusals.{in-order}
 use Rattle.receiver.proofs.Only.{nothing-not-handed}
-use Rattle.live.specs.Calls.{afterAll, handOuts}
+use Rattle.receiver.specs.declared.Received.{Received}
+use Rattle.live.specs.Calls.{afterAll, handOuts, CallTells}
 
 -- what holds on each side of a test holds by it
 pub by-test : {A : Type 0} (P : A → Type 0) (t : Bool) {a b : A}
@@ -303,3 +304,10 @@ module _ (N room : ℕ) (h : Held) (s : List ℕ) where
       ⊎-elim (λ a. (a .count, a .held, a .outs))
       (λ u. absurd (nothing-not-handed (sym e ∙ u .1 .told)))
       (how-far N room h s)
+
+-- what a caller learns of the promise
+pub receives-tells : (x : Answer Took) {h : Held} {o m o' : List ℕ} {r : Received} → Receives x h o r m o'
+    → CallTells x h o r m o'
+unfolding toldBy tookBy heldBy outBy
+receives-tells (gives t) w = inl (t, refl, w .answer, w .count, w .held, w .octets)
+receives-tells (refuses k) w = inr (k, refl, w .answer, w .count, w .held, w .octets)

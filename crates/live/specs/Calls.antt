@@ -6,6 +6,8 @@
 --   fed N room h rs  == the runs rs one after the other, each lent whole, and again with what was left of it; empty runs, too
 --   Roomy N cs       == no output is shorter than N - 2
 --   Alike h g        == two records are equal but for places of the store past the count
+--   CallTells x h o r m o' == what the code's answer r, the store m and the output o' tell of the answer x to a call with the
+--                       record h and the output o: it is taken and told, or nothing is taken and nothing changed
 --   Likewise t u     == two calls go equally far, with the same record behind them, and both hand something out or neither
 -- Assumes nothing.
 use mathlib.Core.Path.{_≡_}
@@ -16,8 +18,9 @@ use Prim.Native.Nat.{ℕ, zero, suc, _≤_}
 use lib.ListN.{length, take, drop}
 use Rattle.refusal.specs.Answer.{Answer, gives, refuses}
 use Rattle.limits.specs.Limits.{frameMost}
-use Rattle.receiver.specs.Held.{Held, afterOctet, closes, stretchSays}
-use Rattle.receiver.specs.Call.{Told, nothing, handed, Took, received, tookBy, heldBy}
+use Rattle.receiver.specs.Held.{Held, heldOf, afterOctet, closes, stretchSays}
+use Rattle.receiver.specs.declared.Received.{Received}
+use Rattle.receiver.specs.Call.{Told, nothing, handed, Took, received, tookBy, heldBy, heardOf, toldCounted, outTold}
 
 unfoldable pub afterAll : Held → List ℕ → Held
 afterAll h [] = h
@@ -81,3 +84,10 @@ pub record Likewise (t u : Took) : Type 0 where
   pub count : t .count ≡ u .count
   pub told : ((t .told ≡ nothing) × (u .told ≡ nothing))
       ⊎ ((a : Answer (List ℕ)) × (b : Answer (List ℕ)) × (t .told ≡ handed a) × (u .told ≡ handed b))
+
+abbrev pub CallTells : Answer Took → Held → List ℕ → Received → List ℕ → List ℕ → Type 0
+CallTells x h o r m o' =
+    ((t : Took) × (x ≡ gives t) × (heardOf (r .heard) ≡ gives (toldCounted (t .told))) × (r .taken ≡ t .count)
+    × (heldOf (r .receiver) m ≡ t .held) × (o' ≡ outTold (t .told) o))
+    ⊎ ((k : ℕ) × (x ≡ refuses k) × (heardOf (r .heard) ≡ refuses k) × (r .taken ≡ 0) × (heldOf (r .receiver) m ≡ h)
+    × (o' ≡ o))
