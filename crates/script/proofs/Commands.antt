@@ -18,7 +18,7 @@ use Rattle.octets.proofs.Words.{and-parts, or-none, true-not-false}
 use Rattle.identity.specs.Identity.{same}
 use Rattle.identity.proofs.Scans.{same-is}
 use Rattle.script.specs.Words.{spelled, firstOf, behindFirst, wordAt, spacesIn, placeFrom}
-use Rattle.script.specs.Commands.{names, kinds, commands}
+use Rattle.script.specs.Commands.{names, commands}
 use Rattle.script.specs.Values.{hexDigit, octetBy, octetOf, hexOf, numeral, isNegative, digitsOf, decimal}
 use Rattle.script.specs.Values.{ranged, numberBy, fromOne, heardMeans, valueOf}
 use Rattle.script.specs.Script.{commandOf, kindsOf, wordless, withValue, withOctets, withHex, withWord, isFaulty}
@@ -36,7 +36,8 @@ abbrev pub commandNames : List (List ℕ)
 commandNames =
     spelled "frame" ∷ spelled "hear" ∷ spelled "show" ∷ spelled "stopped" ∷ spelled "raise" ∷ spelled "clear"
     ∷ spelled "device" ∷ spelled "scan" ∷ spelled "begin" ∷ spelled "probe" ∷ spelled "report" ∷ spelled "decode"
-    ∷ spelled "write" ∷ spelled "decode-n" ∷ spelled "write-n" ∷ spelled "limit" ∷ []
+    ∷ spelled "write" ∷ spelled "decode-n" ∷ spelled "write-n" ∷ spelled "limit" ∷ spelled "listen"
+    ∷ spelled "octets" ∷ []
 
 -- ---- no word behind the command has that fault
 
@@ -148,31 +149,31 @@ the-names : wordsFrom 0 commands (spelled names) ≡ commandNames
 unfolding wordsFrom wordAt firstOf behindFirst placeOf spelled
 the-names = refl
 
--- the kinds of the words behind a first word
-kindsBehind : List ℕ → List ℕ
-kindsBehind w = wordAt (placeFrom 0 commands (spelled names) w) (spelled kinds)
+-- a first word's place among them
+placeIn : List ℕ → ℕ
+placeIn w = placeFrom 0 commands (spelled names) w
 
-kinds-none : (w : List ℕ) → (List·Memᴰ w commandNames → ⊥) → length (kindsBehind w) ≡ 0
-unfolding kindsBehind wordAt firstOf behindFirst placeOf spelled
-kinds-none w h = rw (place-none 0 commands (spelled names) w (rw (sym the-names) at h))
+no-place : (w : List ℕ) → (List·Memᴰ w commandNames → ⊥) → placeIn w ≡ commands
+unfolding placeIn
+no-place w h = place-none 0 commands (spelled names) w (rw (sym the-names) at h)
 
--- each of the names has some
-allSome : List (List ℕ) → Bool
-allSome [] = true
-allSome (w ∷ ws) = not (eqb (length (kindsBehind w)) 0) && allSome ws
+-- each of the names has one
+allPlaced : List (List ℕ) → Bool
+allPlaced [] = true
+allPlaced (w ∷ ws) = not (eqb (placeIn w) commands) && allPlaced ws
 
-member-some : (w : List ℕ) (ws : List (List ℕ)) → allSome ws ≡ true → List·Memᴰ w ws
-    → eqb (length (kindsBehind w)) 0 ≡ false
-unfolding allSome
-member-some w [] e m = absurd (List·Memᴰ·not-nil m)
-member-some w (x ∷ ws) e m =
-    let (a, b) = and-parts (not (eqb (length (kindsBehind x)) 0)) (allSome ws) e in
-    ⊎-elim (λ (i : w ≡ x). rw i (not-true (eqb (length (kindsBehind x)) 0) a))
-    (λ (l : List·Memᴰ w ws). member-some w ws b l) (List·Memᴰ·cases-cons m)
+member-placed : (w : List ℕ) (ws : List (List ℕ)) → allPlaced ws ≡ true → List·Memᴰ w ws
+    → eqb (placeIn w) commands ≡ false
+unfolding allPlaced
+member-placed w [] e m = absurd (List·Memᴰ·not-nil m)
+member-placed w (x ∷ ws) e m =
+    let (a, b) = and-parts (not (eqb (placeIn x) commands)) (allPlaced ws) e in
+    ⊎-elim (λ (i : w ≡ x). rw i (not-true (eqb (placeIn x) commands) a))
+    (λ (l : List·Memᴰ w ws). member-placed w ws b l) (List·Memᴰ·cases-cons m)
 
-names-some : allSome commandNames ≡ true
-unfolding allSome kindsBehind placeFrom same wordAt firstOf behindFirst placeOf spelled
-names-some = refl
+names-placed : allPlaced commandNames ≡ true
+unfolding allPlaced placeIn placeFrom same wordAt firstOf behindFirst placeOf spelled
+names-placed = refl
 
 -- ---- the line
 
@@ -189,11 +190,11 @@ module _ (s : List ℕ) (d : ℕ) where
   words-blamed false = refl
 
   line-blamed : blamedIn (readLine s d .line) ≡ true → NoCommand s
-  unfolding readLine isUnanswered kindsOf commandOf kindsBehind wordAt blamed
-  line-blamed = go (isUnanswered s) refl (ltb 2000 (length s)) refl (eqb (length (kindsOf s)) 0) refl
+  unfolding readLine isUnanswered commandOf placeIn wordAt blamed
+  line-blamed = go (isUnanswered s) refl (ltb 2000 (length s)) refl (eqb (commandOf s) commands) refl
     where
       go : (u : Bool) → isUnanswered s ≡ u → (l : Bool) → ltb 2000 (length s) ≡ l
-          → (k : Bool) → eqb (length (kindsOf s)) 0 ≡ k
+          → (k : Bool) → eqb (commandOf s) commands ≡ k
           → blamedIn (cond u (wordless Silent) (cond l (wordless (Faulty Long)) (cond k (wordless (Faulty Command))
           (cond (eqb (spacesIn s) (length (kindsOf s)))
           (wordsBy d (kindsOf s) 1 s (wordless (Asks (commandOf s)))) (wordless (Faulty Words))))) .line) ≡ true
@@ -206,17 +207,17 @@ module _ (s : List ℕ) (d : ℕ) where
             omega (arith, some),
             eqb-false (getD s 0 0) 35 b,
             ltb-false 2000 (length s) q,
-            λ m. true-not-false (sym r ∙ member-some (firstOf s) commandNames names-some m),
+            λ m. true-not-false (sym r ∙ member-placed (firstOf s) commandNames names-placed m),
           )
       go false p false q false r e =
           absurd (true-not-false (sym e ∙ words-blamed (eqb (spacesIn s) (length (kindsOf s)))))
 
   command-faulty : NoCommand s → readLine s d .line ≡ Faulty Command
-  unfolding isUnanswered kindsOf commandOf kindsBehind wordAt
+  unfolding isUnanswered commandOf placeIn wordAt
   command-faulty (a, b, c, h) =
       let long : eqb (length s) 0 ≡ false = ne-eqb (length s) 0 (λ i. omega (arith, a, i)) in
       let answered : isUnanswered s ≡ false = rw (long, ne-eqb (getD s 0 0) 35 b) in
-      sym (ap (λ (x : Asked). x .line) (line-command s d answered c refl (kinds-none (firstOf s) h)))
+      sym (ap (λ (x : Asked). x .line) (line-command s d answered c refl (no-place (firstOf s) h)))
 
   pub command-exactly : readLine s d .line ≡ Faulty Command ↔ NoCommand s
   unfolding blamed

@@ -32,10 +32,10 @@ places : (commandOf (spelled "frame") ∷ commandOf (spelled "hear") ∷ command
     ∷ commandOf (spelled "device") ∷ commandOf (spelled "scan") ∷ commandOf (spelled "begin")
     ∷ commandOf (spelled "probe") ∷ commandOf (spelled "report") ∷ commandOf (spelled "decode")
     ∷ commandOf (spelled "write") ∷ commandOf (spelled "decode-n") ∷ commandOf (spelled "write-n")
-    ∷ commandOf (spelled "limit") ∷ [])
+    ∷ commandOf (spelled "limit") ∷ commandOf (spelled "listen") ∷ commandOf (spelled "octets") ∷ [])
     ≡ command.frame ∷ command.hear ∷ command.show ∷ command.stopped ∷ command.raise ∷ command.clear ∷ command.device
     ∷ command.scan ∷ command.begin ∷ command.probe ∷ command.report ∷ command.decode ∷ command.write
-    ∷ command.decodeN ∷ command.writeN ∷ command.limit ∷ []
+    ∷ command.decodeN ∷ command.writeN ∷ command.limit ∷ command.listen ∷ command.octets ∷ []
 unfolding spelled firstOf behindFirst wordAt placeFrom placeOf same commandOf
 places = refl
 
@@ -56,14 +56,15 @@ wordsOf c = map named (kindsOf (spelled c))
 -- the words behind each command, as the bench script has them; of `device` "the four texts in HEX"; N is a LIMIT
 pub words-of : (wordsOf "frame" ∷ wordsOf "hear" ∷ wordsOf "show" ∷ wordsOf "stopped" ∷ wordsOf "raise"
     ∷ wordsOf "clear" ∷ wordsOf "device" ∷ wordsOf "scan" ∷ wordsOf "begin" ∷ wordsOf "probe" ∷ wordsOf "report"
-    ∷ wordsOf "decode" ∷ wordsOf "write" ∷ wordsOf "decode-n" ∷ wordsOf "write-n" ∷ wordsOf "limit" ∷ [])
+    ∷ wordsOf "decode" ∷ wordsOf "write" ∷ wordsOf "decode-n" ∷ wordsOf "write-n" ∷ wordsOf "limit"
+    ∷ wordsOf "listen" ∷ wordsOf "octets" ∷ [])
     ≡ ("K" ∷ "HEX" ∷ "ROOM" ∷ []) ∷ ("K" ∷ "HEX" ∷ "ROOM" ∷ []) ∷ ("K" ∷ [])
     ∷ ("K" ∷ "TILT" ∷ []) ∷ ("K" ∷ "ALARM" ∷ []) ∷ ("K" ∷ "ALARM" ∷ [])
     ∷ ("HEX" ∷ "HEX" ∷ "HEX" ∷ "HEX" ∷ "TILT" ∷ "TILT" ∷ "TILT" ∷ [])
     ∷ ("LIMIT" ∷ []) ∷ ("LIMIT" ∷ []) ∷ ("ROOM" ∷ []) ∷ ("heard or silent" ∷ [])
     ∷ ("HEX" ∷ "ROOM" ∷ []) ∷ ("two digits" ∷ "two digits" ∷ "HEX" ∷ "ROOM" ∷ [])
     ∷ ("LIMIT" ∷ "HEX" ∷ "ROOM" ∷ []) ∷ ("LIMIT" ∷ "two digits" ∷ "two digits" ∷ "HEX" ∷ "ROOM" ∷ [])
-    ∷ ("K" ∷ []) ∷ []
+    ∷ ("K" ∷ []) ∷ [] ∷ ("LIMIT" ∷ "HEX" ∷ "ROOM" ∷ []) ∷ []
 unfolding spelled firstOf behindFirst wordAt placeFrom placeOf same commandOf kindsOf
 words-of = refl
 
@@ -78,13 +79,15 @@ read : (readLine (spelled "raise 1 20") 1 ≡ asks command.raise (1 ∷ 20 ∷ [
     × (readLine (spelled "write 01 bf - 12") 0 ≡ asks command.write (0x01 ∷ 0xbf ∷ 0 ∷ 12 ∷ []) [])
     × (readLine (spelled "write-n 260 01 bf 81 12") 0
     ≡ asks command.writeN (260 ∷ 0x01 ∷ 0xbf ∷ 1 ∷ 12 ∷ []) (0x81 ∷ []))
+    × (readLine (spelled "listen") 0 ≡ asks command.listen [] [])
+    × (readLine (spelled "octets 65535 7e7D 0") 0 ≡ asks command.octets (65535 ∷ 2 ∷ 0 ∷ []) (0x7e ∷ 0x7d ∷ []))
     × (readLine (spelled "hear 1 81F0 9") 1 ≡ asks command.hear (1 ∷ 2 ∷ 9 ∷ []) (0x81 ∷ 0xF0 ∷ []))
     × (readLine (spelled "device 4e 4141 - 31 -5 5 0") 0
     ≡ asks command.device (1 ∷ 3 ∷ 3 ∷ 4 ∷ 65531 ∷ 5 ∷ 0 ∷ []) (0x4e ∷ 0x41 ∷ 0x41 ∷ 0x31 ∷ []))
 unfolding spelled firstOf behindFirst wordAt spacesIn placeFrom placeOf same hexDigit octetBy octetOf octetThen pairsOf
     hexOf allDigits numeral decimal isNegative digitsOf patternOf ranged numberBy fromOne heardMeans valueOf commandOf kindsOf
     withValue withOctets withHex withWord wordsBy isUnanswered readLine
-read = (refl, refl, refl, refl, refl, refl, refl, refl, refl, refl)
+read = (refl, refl, refl, refl, refl, refl, refl, refl, refl, refl, refl, refl)
 
 -- a line that is long has that fault before every other, unless it is a comment
 faults : (readLine (spelled "probe 601") 0 ≡ wordless (Faulty Room))
@@ -98,6 +101,7 @@ faults : (readLine (spelled "probe 601") 0 ≡ wordless (Faulty Room))
     × (readLine (spelled "decode-n 65536 - 9") 0 ≡ wordless (Faulty Number))
     × (readLine (spelled "report twice") 0 ≡ wordless (Faulty Words))
     × (readLine (spelled "probe  1") 0 ≡ wordless (Faulty Words))
+    × (readLine (spelled "listen 1") 0 ≡ wordless (Faulty Words))
     × (readLine (spelled "Probe 1") 0 ≡ wordless (Faulty Command))
     × (readLine (replicate 2001 97) 0 ≡ wordless (Faulty Long))
     × (readLine (replicate 2001 35) 0 ≡ wordless Silent)
@@ -105,4 +109,5 @@ faults : (readLine (spelled "probe 601") 0 ≡ wordless (Faulty Room))
 unfolding spelled firstOf behindFirst wordAt spacesIn placeFrom placeOf same hexDigit octetBy octetOf octetThen pairsOf
     hexOf allDigits numeral decimal isNegative digitsOf patternOf ranged numberBy fromOne heardMeans valueOf commandOf kindsOf
     withValue withOctets withHex withWord wordsBy isUnanswered readLine
-faults = (refl, refl, refl, refl, refl, refl, refl, refl, refl, refl, refl, refl, refl, refl, refl)
+faults =
+    (refl, refl, refl, refl, refl, refl, refl, refl, refl, refl, refl, refl, refl, refl, refl, refl)

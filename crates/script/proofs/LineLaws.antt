@@ -13,6 +13,7 @@ use lib.ListN.{length, getD, drop, set, drop-of-length-le, length-set}
 use Rattle.octets.proofs.Rest.{rest}
 use Rattle.identity.specs.Identity.{same}
 use Rattle.script.specs.Words.{spelled, wordAt, spacesIn}
+use Rattle.script.specs.Commands.{commands}
 use Rattle.script.specs.Values.{octetBy, octetThen, pairsOf, hexOf}
 use Rattle.script.specs.Script.{commandOf, kindsOf, wordless, withValue, withOctets, withHex, stored, withWord}
 use Rattle.script.specs.Script.{isFaulty, wordsBy, isUnanswered, readLine}
@@ -110,34 +111,36 @@ module _ (d : ℕ) (ks s : List ℕ) (i : ℕ) (a : Asked) {w : Asked} (v : word
 
 -- ---- the line, neither silent nor long
 
-module _ (s : List ℕ) (d : ℕ) {ks : List ℕ}
-    (silent : isUnanswered s ≡ false) (short : length s ≤ 2000) (k : ks ≡ kindsOf s) where
-  pub line-command : length ks ≡ 0 → wordless (Faulty Command) ≡ readLine s d
+module _ (s : List ℕ) (d : ℕ) {command : ℕ}
+    (silent : isUnanswered s ≡ false) (short : length s ≤ 2000) (c : command ≡ commandOf s) where
+  pub line-command : command ≡ commands → wordless (Faulty Command) ≡ readLine s d
   unfolding readLine
-  line-command e = rw (silent, le-ltb 2000 (length s) short, ← k, eq-eqb (length ks) 0 e)
+  line-command e = rw (silent, le-ltb 2000 (length s) short, ← c, eq-eqb command commands e)
 
-  pub line-words : (length ks ≡ 0 → ⊥) → (spacesIn s ≡ length ks → ⊥) → wordless (Faulty Words) ≡ readLine s d
-  unfolding readLine
-  line-words n e =
-      rw (
-        silent,
-        le-ltb 2000 (length s) short,
-        ← k,
-        ne-eqb (length ks) 0 n,
-        ne-eqb (spacesIn s) (length ks) e,
-      )
+  module _ {ks : List ℕ} (n : command ≡ commands → ⊥) (k : ks ≡ kindsOf s) where
+    pub line-words : (spacesIn s ≡ length ks → ⊥) → wordless (Faulty Words) ≡ readLine s d
+    unfolding readLine
+    line-words e =
+        rw (
+          silent,
+          le-ltb 2000 (length s) short,
+          ← c,
+          ne-eqb command commands n,
+          ← k,
+          ne-eqb (spacesIn s) (length ks) e,
+        )
 
-  pub line-reads : {command : ℕ} {b r : Asked} → command ≡ commandOf s → b ≡ wordless (Asks command)
-      → r ≡ wordsBy d ks 1 s b → (length ks ≡ 0 → ⊥) → spacesIn s ≡ length ks → r ≡ readLine s d
-  unfolding readLine
-  line-reads c start words n e =
-      rw (
-        silent,
-        le-ltb 2000 (length s) short,
-        ← k,
-        ne-eqb (length ks) 0 n,
-        eq-eqb (spacesIn s) (length ks) e,
-        words,
-        start,
-        c,
-      )
+    pub line-reads : {b r : Asked} → b ≡ wordless (Asks command) → r ≡ wordsBy d ks 1 s b → spacesIn s ≡ length ks
+        → r ≡ readLine s d
+    unfolding readLine
+    line-reads start words e =
+        rw (
+          silent,
+          le-ltb 2000 (length s) short,
+          ← c,
+          ne-eqb command commands n,
+          ← k,
+          eq-eqb (spacesIn s) (length ks) e,
+          words,
+          start,
+        )

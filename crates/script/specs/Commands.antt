@@ -1,6 +1,6 @@
 -- The commands of the bench script: each is known by its place among the names.
 --   names        == their names, in the order of their places; kinds == at each place a letter for each word behind it
---   frame .. limit == the place of each
+--   frame .. octets == the place of each
 --   commands     == how many there are
 -- The first of them are for one device of the row, up to `clear`, and so is `limit`; a new one goes behind the last.
 -- Assumes nothing.
@@ -8,11 +8,11 @@ use Prim.Native.Nat.{ℕ}
 use Prim.Native.String.{String}
 
 abbrev pub names : String
-names = "frame hear show stopped raise clear device scan begin probe report decode write decode-n write-n limit"
+names = "frame hear show stopped raise clear device scan begin probe report decode write decode-n write-n limit listen octets"
 
--- x HEX, and the letters of `valueOf`
+-- x HEX, and the letters of `valueOf`; between two spaces none, as behind `listen`
 abbrev pub kinds : String
-kinds = "dxr dxr d dt da da xxxxttt l l r h xr ooxr lxr looxr d"
+kinds = "dxr dxr d dt da da xxxxttt l l r h xr ooxr lxr looxr d  lxr"
 
 abbrev pub frame : ℕ
 frame = 0
@@ -62,5 +62,11 @@ writeN = 14
 abbrev pub limit : ℕ
 limit = 15
 
+abbrev pub listen : ℕ
+listen = 16
+
+abbrev pub octets : ℕ
+octets = 17
+
 abbrev pub commands : ℕ
-commands = 16
+commands = 18

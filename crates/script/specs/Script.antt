@@ -1,6 +1,6 @@
 -- A line of the bench script, read.
 --   commandOf s      == the command of the line s by its place among the names; their number where it is none of them
---   kindsOf s        == the kinds of the words behind it, one letter each; none where there is no such command
+--   kindsOf s        == the kinds of the words behind it, one letter each
 --   wordless l          == the line means l, and no word is read
 --   stored a os n    == the code's: a with the octets os up to n
 --   withWord k d a n w == a, and the word w of the kind k at the place n
@@ -95,7 +95,7 @@ unfoldable pub readLine : List ℕ → ℕ → Asked
 readLine s d =
     cond (isUnanswered s) (wordless Silent)
     (cond (ltb lineLongest (length s)) (wordless (Faulty Long))
-    (cond (eqb (length (kindsOf s)) 0) (wordless (Faulty Command))
+    (cond (eqb (commandOf s) commands) (wordless (Faulty Command))
     (cond (eqb (spacesIn s) (length (kindsOf s)))
     (wordsBy d (kindsOf s) 1 s (wordless (Asks (commandOf s))))
     (wordless (Faulty Words)))))

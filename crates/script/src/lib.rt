@@ -75,8 +75,13 @@ pub const WRITE_N: usize = 14;
 // To one device of the row.
 pub const LIMIT: usize = 15;
 
+// To the receiver.
+pub const LISTEN: usize = 16;
+
+pub const OCTETS: usize = 17;
+
 // How many there are.
-pub const COMMANDS: usize = 16;
+pub const COMMANDS: usize = 18;
 
 // ---- a line
 
@@ -494,12 +499,13 @@ fn command_of(line: &[u8]) -> usize
     ensures { λ r. ⌜ r ≡ commandOf (now (line .entry)) ⌝ }
 {
     let names =
-        b"frame hear show stopped raise clear device scan begin probe report decode write decode-n write-n limit";
+        b"frame hear show stopped raise clear device scan begin probe report decode write decode-n write-n limit listen octets";
     place_in(names, COMMANDS, word(line, 0))
 }
 
 // What a line asks of a bench with so many devices. At a command's place among the kinds stands a letter for each word
-// behind it: x HEX, o an octet, r ROOM, d a device, t a tilt, a an alarm, l a limit, h heard or silent.
+// behind it: x HEX, o an octet, r ROOM, d a device, t a tilt, a an alarm, l a limit, h heard or silent. Between two spaces
+// stands none: `listen` is alone.
 pub fn read_line(line: &[u8], devices: u8) -> Asked
     ensures { λ r. ⌜ r ≡ readLine (now (line .entry)) devices ⌝ }
 {
@@ -510,13 +516,13 @@ pub fn read_line(line: &[u8], devices: u8) -> Asked
         return wordless(Line::Faulty(Fault::Long));
     }
     let command = command_of(line);
-    let kinds = word(
-        b"dxr dxr d dt da da xxxxttt l l r h xr ooxr lxr looxr d",
-        command,
-    );
-    if kinds.len() == 0 {
+    if command == COMMANDS {
         return wordless(Line::Faulty(Fault::Command));
     }
+    let kinds = word(
+        b"dxr dxr d dt da da xxxxttt l l r h xr ooxr lxr looxr d  lxr",
+        command,
+    );
     if spaces(line) != kinds.len() {
         return wordless(Line::Faulty(Fault::Words));
     }

@@ -30,24 +30,22 @@ returns-2 c =
 command-of-requires : tie.Need-command-of-requires
 command-of-requires c κs = search needs
 
+wordless-requires-3 : tie.Need-wordless-requires-3
+wordless-requires-3 c κs = search needs
+
+returns-3 : tie.Need-returns-3
+returns-3 c =
+    let asked = c .before .before in
+    let short = asked .before in
+    let silent = sym (short .before .before .is-unanswered .ensures) ∙ short .before .if1 .left in
+    c .wordless3 .ensures
+    ∙ line-command _ _ silent (short .if2 .left) (asked .command-of .ensures) (c .before .if3 .taken)
+
 slice-aggregate-word : tie.Need-slice-aggregate-word
 slice-aggregate-word c = search needs
 
 word-requires : tie.Need-word-requires
 word-requires c κs = search needs
-
-wordless-requires-3 : tie.Need-wordless-requires-3
-wordless-requires-3 c κs = search needs
-
-returns-3 : tie.Need-returns-3
-unfolding kindsOf spelled
-returns-3 c =
-    let told = c .before .before in
-    let asked = told .before .before in
-    let short = asked .before in
-    let silent = sym (short .before .before .is-unanswered .ensures) ∙ short .before .if1 .left in
-    let kinds = rw (asked .command-of .ensures) at (told .word .ensures) in
-    c .wordless3 .ensures ∙ line-command _ _ silent (short .if2 .left) kinds (c .before .if3 .taken)
 
 spaces-requires : tie.Need-spaces-requires
 spaces-requires c κs = search needs
@@ -58,14 +56,15 @@ wordless-requires-4 c κs = search needs
 returns-4 : tie.Need-returns-4
 unfolding kindsOf spelled
 returns-4 c =
-    let empty = c .before .before .before in
-    let told = empty .before in
-    let asked = told .before .before in
+    let told = c .before .before .before in
+    let known = told .before .before in
+    let asked = known .before in
     let short = asked .before in
     let silent = sym (short .before .before .is-unanswered .ensures) ∙ short .before .if1 .left in
     let kinds = rw (asked .command-of .ensures) at (told .word .ensures) in
     let spaces = rw (c .before .before .spaces .ensures) at (c .before .if4 .taken) in
-    c .wordless4 .ensures ∙ line-words _ _ silent (short .if2 .left) kinds (empty .if3 .left) spaces
+    c .wordless4 .ensures
+    ∙ line-words _ _ silent (short .if2 .left) (asked .command-of .ensures) (known .if3 .left) kinds spaces
 
 wordless-requires-5 : tie.Need-wordless-requires-5
 wordless-requires-5 c κs = search needs
@@ -76,15 +75,15 @@ read-words-requires c κs = search needs
 returns-5 : tie.Need-returns-5
 unfolding kindsOf spelled
 returns-5 c =
-    let empty = c .before .before .before .before in
-    let told = empty .before in
-    let asked = told .before .before in
+    let told = c .before .before .before .before in
+    let known = told .before .before in
+    let asked = known .before in
     let short = asked .before in
     let silent = sym (short .before .before .is-unanswered .ensures) ∙ short .before .if1 .left in
     let kinds = rw (asked .command-of .ensures) at (told .word .ensures) in
     let spaces = rw (c .before .before .before .spaces .ensures) at (c .before .before .if4 .left) in
-    line-reads _ _ silent (short .if2 .left) kinds (asked .command-of .ensures) (c .before .wordless5 .ensures)
-    (c .read-words .ensures) (empty .if3 .left) spaces
+    line-reads _ _ silent (short .if2 .left) (asked .command-of .ensures) (known .if3 .left) kinds
+    (c .before .wordless5 .ensures) (c .read-words .ensures) spaces
 
 pub read-line-spec : {M : Type 1} → statement M
 read-line-spec =
@@ -96,10 +95,10 @@ read-line-spec =
     wordless-requires-2
     returns-2
     command-of-requires
-    slice-aggregate-word
-    word-requires
     wordless-requires-3
     returns-3
+    slice-aggregate-word
+    word-requires
     spaces-requires
     wordless-requires-4
     returns-4
