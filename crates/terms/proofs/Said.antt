@@ -13,6 +13,8 @@ use Rattle.refusal.specs.declared.Handed.{Handed}
 use Rattle.refusal.specs.declared.Handed.the-variants.{Octets}
 use Rattle.refusal.specs.declared.Outcome.{Outcome}
 use Rattle.refusal.specs.declared.Outcome.the-variants.{Done}
+use Rattle.receiver.specs.declared.Heard.{Heard}
+use Rattle.receiver.specs.declared.Heard.the-variants as heard
 use Rattle.antenna.specs.declared.Motion.{Motion}
 use Rattle.antenna.specs.declared.Motion.the-variants.{Still, Moving, Owing, Stopped}
 use Rattle.record.specs.declared.Link.{Link}
@@ -32,7 +34,7 @@ use Rattle.drives.specs.declared.Response.the-variants as reply
 use Rattle.terms.specs.declared.Term.{Term}
 use Rattle.terms.specs.declared.Term.the-variants as term
 use Rattle.terms.specs.Terms.{nameOf, lettersOf, faultWord, outcomeWord, saidWord, replyWord, givenWord}
-use Rattle.terms.specs.Terms.{handedWord, endWord, linkWord, pendingWord, driveWord, wordOf}
+use Rattle.terms.specs.Terms.{handedWord, heardWord, endWord, linkWord, pendingWord, driveWord, wordOf}
 
 -- the octets that are written of a word's name
 abbrev Spoken : List ℕ → Type 0
@@ -81,6 +83,12 @@ handed-said c (Octets n) =
     (either-said (eqb c command.decode) refl (either-said (eqb c command.decodeN) refl refl))
 handed-said c (Handed.Refused k) = refl
 
+heard-said : (x : Heard) → Spoken (heardWord x)
+unfolding nameOf lettersOf heardWord spelled placeOf _atStartOf_
+heard-said heard.Nothing = refl
+heard-said (heard.HandedOut x) = handed-said command.decode x
+heard-said (heard.Refused k) = refl
+
 end-said : (s : State) → Spoken (endWord s)
 unfolding nameOf lettersOf endWord spelled placeOf _atStartOf_
 end-said (scan.Asking quiet doubt) = refl
@@ -115,11 +123,14 @@ word-said (term.Fault f) = fault-said f
 word-said (term.Reply x) = reply-said x
 word-said (term.Outcome x) = outcome-said x
 word-said (term.Handed c x) = handed-said c x
+word-said (term.Heard x) = heard-said x
 word-said (term.End s) = end-said s
 word-said (term.Link l) = link-said l
 word-said (term.Pending p) = pending-said p
 word-said (term.Drive m) = drive-said m
 word-said term.Begun = refl
+word-said term.Listening = refl
+word-said term.Took = refl
 
 -- two words that differ in their first letter
 first-differs : {x y : ℕ} {v w : List ℕ} → x ∷ v ≡ y ∷ w → (x ≡ y → ⊥) → ⊥

@@ -4,6 +4,7 @@
 --   replyWord x      == the answer x of the row of devices; outcomeWord x, saidWord x == its parts
 --   handedWord c x   == the command c, of `probe`, `decode`, `write`, `decode-n` and `write-n`, that was to hand out octets
 --                       and answers x; givenWord c == where it did
+--   heardWord x      == what a call of the receiver told, x
 --   endWord s        == a scan that stands at s; behindOf s == how many words stand behind its count
 --   linkWord, pendingWord, driveWord == LINK, PENDING and DRIVE of `show`, up to a number or octets
 --   wordOf t         == the word for t
@@ -19,6 +20,8 @@ use Rattle.refusal.specs.declared.Handed.{Handed}
 use Rattle.refusal.specs.declared.Handed.the-variants.{Octets}
 use Rattle.refusal.specs.declared.Outcome.{Outcome}
 use Rattle.refusal.specs.declared.Outcome.the-variants.{Done}
+use Rattle.receiver.specs.declared.Heard.{Heard}
+use Rattle.receiver.specs.declared.Heard.the-variants as heard
 use Rattle.antenna.specs.declared.Motion.{Motion}
 use Rattle.antenna.specs.declared.Motion.the-variants.{Still, Moving, Owing, Stopped}
 use Rattle.record.specs.declared.Link.{Link}
@@ -86,6 +89,13 @@ unfoldable pub handedWord : ℕ → Handed → List ℕ
 handedWord c (Octets n) = givenWord c
 handedWord c (Handed.Refused k) = spelled "refused"
 
+-- "`took T frame LEN BUFFER`, `took T refused R BUFFER` .., `took T nothing BUFFER`; or `refused R BUFFER`": at a closing
+-- flag, as `decode`
+unfoldable pub heardWord : Heard → List ℕ
+heardWord heard.Nothing = spelled "nothing"
+heardWord (heard.HandedOut x) = handedWord command.decode x
+heardWord (heard.Refused k) = spelled "refused"
+
 -- "`going COUNT`, one of the four ends": "`complete COUNT LIST`, `doubtful COUNT LIST`, `limit COUNT LIST NEXT` or
 -- `full COUNT LIST NEXT`"
 unfoldable pub endWord : State → List ℕ
@@ -127,9 +137,14 @@ wordOf (term.Fault f) = faultWord f
 wordOf (term.Reply x) = replyWord x
 wordOf (term.Outcome x) = outcomeWord x
 wordOf (term.Handed c x) = handedWord c x
+wordOf (term.Heard x) = heardWord x
 wordOf (term.End s) = endWord s
 wordOf (term.Link l) = linkWord l
 wordOf (term.Pending p) = pendingWord p
 wordOf (term.Drive m) = driveWord m
 -- "`begun`"
 wordOf term.Begun = spelled "begun"
+-- "`listening`"
+wordOf term.Listening = spelled "listening"
+-- "`took T"
+wordOf term.Took = spelled "took"

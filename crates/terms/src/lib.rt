@@ -3,10 +3,12 @@
 // (proofs/Said.antt).
 ghost use mathlib.Core.Path.{_≡_};
 ghost use Rattle.terms.specs.Terms.{nameOf, faultWord, outcomeWord, saidWord, replyWord, givenWord};
-ghost use Rattle.terms.specs.Terms.{handedWord, endWord, linkWord, pendingWord, driveWord, wordOf, behindOf};
+ghost use Rattle.terms.specs.Terms.{handedWord, heardWord, endWord, linkWord, pendingWord, driveWord, wordOf};
+ghost use Rattle.terms.specs.Terms.{behindOf};
 use antenna::Motion;
 use device::Said;
 use drives::Response;
+use receiver::Heard;
 use record::Link;
 use record::Pending;
 use refusal::Handed;
@@ -18,17 +20,21 @@ use script::Fault;
 pub type Name = [u8; 14];
 
 // What a word is for: a line's fault; an answer of the row of devices; an outcome; what a command handed out, by its place
-// among the names; where a scan stands; LINK, PENDING and DRIVE of `show`; a scan by hand that is made anew.
+// among the names; what a call of the receiver told; where a scan stands; LINK, PENDING and DRIVE of `show`; a scan by hand
+// that is made anew; a receiver that is; how many octets it took.
 pub enum Term {
     Fault(Fault),
     Reply(Response),
     Outcome(Outcome),
     Handed { command: usize, handed: Handed },
+    Heard(Heard),
     End(State),
     Link(Link),
     Pending(Pending),
     Drive(Motion),
     Begun,
+    Listening,
+    Took,
 }
 
 // ---- the words
@@ -52,6 +58,13 @@ const FRAME: Name = *b"frame.........";
 const LINE: Name = *b"line..........";
 
 const BEGUN: Name = *b"begun.........";
+
+// Of the receiver.
+const LISTENING: Name = *b"listening.....";
+
+const TOOK: Name = *b"took..........";
+
+const NOTHING: Name = *b"nothing.......";
 
 // Faults.
 const ERROR_LONG: Name = *b"error long....";
@@ -88,7 +101,7 @@ const ASSIGNED: Name = *b"assigned......";
 
 const CONNECTED: Name = *b"connected.....";
 
-const NOTHING: Name = *b"-.............";
+const DASH: Name = *b"-.............";
 
 const BARE: Name = *b"..............";
 
@@ -177,6 +190,17 @@ fn handed_word(command: usize, handed: Handed) -> Name
     }
 }
 
+// A closing flag hands out what the decoder says.
+fn heard_word(heard: Heard) -> Name
+    ensures { λ r. ⌜ r ≡ nameOf (heardWord heard) ⌝ }
+{
+    match heard {
+        Heard::Nothing => NOTHING,
+        Heard::HandedOut(handed) => handed_word(script::DECODE, handed),
+        Heard::Refused(_) => REFUSED,
+    }
+}
+
 fn end_word(state: State) -> Name
     ensures { λ r. ⌜ r ≡ nameOf (endWord state) ⌝ }
 {
@@ -203,7 +227,7 @@ fn pending_word(pending: Pending) -> Name
     ensures { λ r. ⌜ r ≡ nameOf (pendingWord pending) ⌝ }
 {
     match pending {
-        Pending::Nothing => NOTHING,
+        Pending::Nothing => DASH,
         Pending::Answer => BARE,
         Pending::Indication => INDICATION,
     }
@@ -233,11 +257,14 @@ pub fn word(term: Term) -> Name
         Term::Reply(answer) => reply_word(answer),
         Term::Outcome(outcome) => outcome_word(outcome),
         Term::Handed { command, handed } => handed_word(command, handed),
+        Term::Heard(heard) => heard_word(heard),
         Term::End(state) => end_word(state),
         Term::Link(link) => link_word(link),
         Term::Pending(pending) => pending_word(pending),
         Term::Drive(motion) => drive_word(motion),
         Term::Begun => BEGUN,
+        Term::Listening => LISTENING,
+        Term::Took => TOOK,
     }
 }
 

@@ -35,29 +35,41 @@ handed-word-requires c κs = search needs
 enum-known-term-5 : tie.Need-enum-known-term-5
 enum-known-term-5 c = search needs
 
-end-word-requires : tie.Need-end-word-requires
-end-word-requires c κs = search needs
+heard-word-requires : tie.Need-heard-word-requires
+heard-word-requires c κs = search needs
 
 enum-known-term-6 : tie.Need-enum-known-term-6
 enum-known-term-6 c = search needs
 
-link-word-requires : tie.Need-link-word-requires
-link-word-requires c κs = search needs
+end-word-requires : tie.Need-end-word-requires
+end-word-requires c κs = search needs
 
 enum-known-term-7 : tie.Need-enum-known-term-7
 enum-known-term-7 c = search needs
 
-pending-word-requires : tie.Need-pending-word-requires
-pending-word-requires c κs = search needs
+link-word-requires : tie.Need-link-word-requires
+link-word-requires c κs = search needs
 
 enum-known-term-8 : tie.Need-enum-known-term-8
 enum-known-term-8 c = search needs
+
+pending-word-requires : tie.Need-pending-word-requires
+pending-word-requires c κs = search needs
+
+enum-known-term-9 : tie.Need-enum-known-term-9
+enum-known-term-9 c = search needs
 
 drive-word-requires : tie.Need-drive-word-requires
 drive-word-requires c κs = search needs
 
 enum-told : tie.Need-enum-told
 enum-told c = search needs
+
+enum-told-2 : tie.Need-enum-told-2
+enum-told-2 c = search needs
+
+enum-told-3 : tie.Need-enum-told-3
+enum-told-3 c = search needs
 
 returns : tie.Need-returns
 unfolding wordOf
@@ -77,23 +89,35 @@ returns-4 c = search (tests, sym (c .handed-word .ensures), c .before .before .t
 
 returns-5 : tie.Need-returns-5
 unfolding wordOf
-returns-5 c = search (tests, sym (c .end-word .ensures), c .before .before .term5 .given .1)
+returns-5 c = search (tests, sym (c .heard-word .ensures), c .before .before .term5 .given .1)
 
 returns-6 : tie.Need-returns-6
 unfolding wordOf
-returns-6 c = search (tests, sym (c .link-word .ensures), c .before .before .term6 .given .1)
+returns-6 c = search (tests, sym (c .end-word .ensures), c .before .before .term6 .given .1)
 
 returns-7 : tie.Need-returns-7
 unfolding wordOf
-returns-7 c = search (tests, sym (c .pending-word .ensures), c .before .before .term7 .given .1)
+returns-7 c = search (tests, sym (c .link-word .ensures), c .before .before .term7 .given .1)
 
 returns-8 : tie.Need-returns-8
 unfolding wordOf
-returns-8 c = search (tests, sym (c .drive-word .ensures), c .before .before .term8 .given .1)
+returns-8 c = search (tests, sym (c .pending-word .ensures), c .before .before .term8 .given .1)
 
 returns-9 : tie.Need-returns-9
+unfolding wordOf
+returns-9 c = search (tests, sym (c .drive-word .ensures), c .before .before .term9 .given .1)
+
+returns-10 : tie.Need-returns-10
 unfolding nameOf wordOf spelled _atStartOf_
-returns-9 c = search (tests, c .enum-told .given .1)
+returns-10 c = search (tests, c .enum-told .given .1)
+
+returns-11 : tie.Need-returns-11
+unfolding nameOf wordOf spelled _atStartOf_
+returns-11 c = search (tests, c .enum-told2 .given .1)
+
+returns-12 : tie.Need-returns-12
+unfolding nameOf wordOf spelled _atStartOf_
+returns-12 c = search (tests, c .enum-told3 .given .1)
 
 pub word-spec : {M : Type 1} → statement M
 word-spec =
@@ -108,14 +132,18 @@ word-spec =
     enum-known-term-4
     handed-word-requires
     enum-known-term-5
-    end-word-requires
+    heard-word-requires
     enum-known-term-6
-    link-word-requires
+    end-word-requires
     enum-known-term-7
-    pending-word-requires
+    link-word-requires
     enum-known-term-8
+    pending-word-requires
+    enum-known-term-9
     drive-word-requires
     enum-told
+    enum-told-2
+    enum-told-3
     returns
     returns-2
     returns-3
@@ -124,4 +152,7 @@ word-spec =
     returns-6
     returns-7
     returns-8
-    returns-9)
+    returns-9
+    returns-10
+    returns-11
+    returns-12)
