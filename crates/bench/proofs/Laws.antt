@@ -19,6 +19,9 @@ use Rattle.refusal.proofs.Answers.{hands-is}
 use Rattle.limits.specs.Limits.{limitLeast}
 use Rattle.frame.specs.Decode.{decoded}
 use Rattle.frame.specs.Write.{written}
+use Rattle.receiver.specs.declared.Received.{Received}
+use Rattle.receiver.specs.Held.{Held, heldOf}
+use Rattle.receiver.specs.Call.{received, heldBy, Receives}
 use Rattle.identity.specs.Identity.{allowedIdentity}
 use Rattle.record.specs.declared.Device.{Device}
 use Rattle.record.specs.declared.Span.{Span}
@@ -33,6 +36,7 @@ use Rattle.drives.specs.declared.Obeyed.{Obeyed}
 use Rattle.drives.specs.Drives.{After, Obeys, obeyed}
 use Rattle.mast.specs.Mast.{swept}
 use Rattle.bench.specs.Bench.{hexIn, valueIn, lentOf, isDriven, rowDriven, rowAfter, scanAfter}
+use Rattle.bench.specs.Bench.{freshEar, earCall, earAfter}
 use Rattle.bench.specs.Bench.{isDecode, isLimited, limitIn, octetIn, coded, handsOut, roomAt}
 use Rattle.bench.specs.Written.{digitOf, hexed}
 use Rattle.bench.specs.Input.{lineKept, runMost}
@@ -216,3 +220,25 @@ module _ (c : ℕ) (s : Scan) (v : ℕ) where
   pub scan-kept : (c ≡ command.begin → ⊥) → (c ≡ command.report → ⊥) → s ≡ scanAfter c s v
   unfolding scanAfter
   scan-kept n m = rw (ne-eqb c command.begin n, ne-eqb c command.report m)
+
+-- ---- the receiver
+
+-- "the octets are lent to the receiver, with .. an output of ROOM octets"
+pub ear-held : (h : Held) (a : Asked) {os o o' m : List ℕ} {r : Received} → os ≡ hexIn a → o ≡ lentOf (valueIn a 3)
+    → Receives (received (valueIn a 1) h os (length o)) h o r m o' → heldOf (r .receiver) m ≡ heldBy (earCall h a) h
+unfolding earCall
+ear-held h a e f t =
+    t .held ∙ ap₂ (λ (os o : List ℕ). heldBy (received (valueIn a 1) h os (length o)) h) e f
+
+module _ (c : ℕ) (h : Held) (a : Asked) where
+  pub ear-fresh : c ≡ command.listen → freshEar ≡ earAfter c h a
+  unfolding earAfter
+  ear-fresh e = rw (eq-eqb c command.listen e)
+
+  pub ear-called : (c ≡ command.listen → ⊥) → c ≡ command.octets → heldBy (earCall h a) h ≡ earAfter c h a
+  unfolding earAfter
+  ear-called n e = rw (ne-eqb c command.listen n, eq-eqb c command.octets e)
+
+  pub ear-kept : (c ≡ command.listen → ⊥) → (c ≡ command.octets → ⊥) → h ≡ earAfter c h a
+  unfolding earAfter
+  ear-kept n m = rw (ne-eqb c command.listen n, ne-eqb c command.octets m)

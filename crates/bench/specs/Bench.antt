@@ -1,5 +1,5 @@
--- What the bench does with a line, beside what it writes: the row of devices and the scan by hand after it, and what is
--- handed out. A command is its place among the names of the script (script/specs/Commands).
+-- What the bench does with a line, beside what it writes: the row of devices, the scan by hand and the receiver after it,
+-- and what is handed out. A command is its place among the names of the script (script/specs/Commands).
 --   noDevices         == an empty row
 --   faulty, noAnswer == in a command's place, for a line with a fault, and for one that gets no answer
 --   commandIn l       == the command that the line l asks for
@@ -8,6 +8,8 @@
 --   isDriven c        == the command c is to the row or to one of its devices
 --   rowDriven c row a    == the row after such a command; rowAfter c row a == after any
 --   scanAfter c s v   == the scan by hand after any command with the value v
+--   earOf e           == the receiver's record and store in e; freshEar == before any octet
+--   earCall h a       == the answer to one call; earAfter c h a == the receiver after any command
 --   isDecode c        == the command c decodes; isLimited c == its words have a frame limit in front
 --   limitIn c a       == its frame limit; octetIn c a n == the octet of the word n, not counting that limit
 --   coded c a room    == what the codec hands out; handsOut c s a room == what it and `probe` do
@@ -16,12 +18,14 @@
 use mathlib.Core.Bool.{Bool, cond, _||_}
 use mathlib.Core.List.{List}
 use Prim.Native.Nat.{ℕ, _+_, _%_}
-use lib.Dec.{leb, eqb}
-use lib.ListN.{getD, take, replicate}
+use lib.Dec.{eqb}
+use lib.ListN.{length, getD, take, replicate}
 use Rattle.refusal.specs.Answer.{Answer, stateAfter}
 use Rattle.limits.specs.Limits.{limitLeast}
 use Rattle.frame.specs.Decode.{decoded}
 use Rattle.frame.specs.Write.{written}
+use Rattle.receiver.specs.Held.{Held, heldOf, places, freshMarks}
+use Rattle.receiver.specs.Call.{Took, received, heldBy}
 use Rattle.record.specs.Fresh.{blankDevice}
 use Rattle.scan.specs.declared.Scan.{Scan}
 use Rattle.scan.specs.Scan.{fresh, probed, reported}
@@ -31,8 +35,9 @@ use Rattle.script.specs.declared.Line.the-variants.{Silent, Faulty, Asks}
 use Rattle.script.specs.Commands as command
 use Rattle.bus.specs.declared.Row.{Row}
 use Rattle.bus.specs.Cable.{rowMost}
-use Rattle.drives.specs.Drives.{obeyed}
+use Rattle.drives.specs.Drives.{forDevice, obeyed}
 use Rattle.mast.specs.Mast.{swept}
+use Rattle.bench.specs.declared.ear.Ear.{Ear}
 
 -- "up to 32 tilt drives"
 unfoldable pub noDevices : Row
@@ -63,9 +68,8 @@ lentOf room = take room (replicate 600 0xA5)
 unfoldable pub rowDriven : ℕ → Row → Asked → Row
 rowDriven c row a = obeyed c row (a .values) (hexIn a) (lentOf (valueIn a 3)) .after .row
 
--- the first of them, up to `device`, and `limit`
 unfoldable pub isDriven : ℕ → Bool
-isDriven c = leb c command.device || eqb c command.limit
+isDriven c = forDevice c || eqb c command.device
 
 -- "a scan of the bench from its start to its end"
 unfoldable pub rowAfter : ℕ → Row → Asked → Row
@@ -78,6 +82,21 @@ unfoldable pub scanAfter : ℕ → Scan → ℕ → Scan
 scanAfter c s v =
     cond (eqb c command.begin) (fresh (v % 65536))
     (cond (eqb c command.report) (stateAfter (reported s (eqb v 1)) s) s)
+
+abbrev pub earOf : Ear → Held
+earOf e = heldOf (e .receiver) (e .store)
+
+-- "the bench's one receiver is made anew"; "Before any `listen` the receiver is a fresh one"
+unfoldable pub freshEar : Held
+freshEar = heldOf freshMarks (replicate places 0)
+
+-- "`octets N HEX ROOM` one call: the octets are lent to the receiver, with the frame limit N and an output of ROOM octets"
+unfoldable pub earCall : Held → Asked → Answer Took
+earCall h a = received (valueIn a 1) h (hexIn a) (length (lentOf (valueIn a 3)))
+
+unfoldable pub earAfter : ℕ → Held → Asked → Held
+earAfter c h a =
+    cond (eqb c command.listen) freshEar (cond (eqb c command.octets) (heldBy (earCall h a) h) h)
 
 unfoldable pub isDecode : ℕ → Bool
 isDecode c = eqb c command.decode || eqb c command.decodeN

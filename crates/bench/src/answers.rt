@@ -7,6 +7,7 @@ use crate::rows;
 use antenna::Angle;
 use device::Said;
 use libc::STDOUT_FILENO;
+use refusal::Handed;
 use refusal::Outcome;
 use refusal::Refusal;
 use terms::Term;
@@ -99,6 +100,14 @@ pub fn say_refusal(refusal: Refusal) {
 pub fn say_outcome(outcome: Outcome) {
     if let Outcome::Refused(refusal) = outcome {
         say_refusal(refusal);
+    }
+}
+
+// Octets that were handed out, or why not.
+pub fn say_handed(handed: Handed) {
+    match handed {
+        Handed::Octets(n) => say_number(b' ', n),
+        Handed::Refused(refusal) => say_refusal(refusal),
     }
 }
 

@@ -74,10 +74,7 @@ fn hand_out(scan: Scan, command: usize, asked: Asked, room: usize) {
     let mut lent = [FILL; ROOM];
     let handed = handed_by(scan, command, asked, rows::front(&mut lent, room));
     answers::say(Term::Handed { command, handed });
-    match handed {
-        Handed::Octets(n) => answers::say_number(b' ', n),
-        Handed::Refused(refusal) => answers::say_refusal(refusal),
-    }
+    answers::say_handed(handed);
     answers::say_buffer(lent, room);
 }
 

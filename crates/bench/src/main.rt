@@ -1,9 +1,10 @@
-// The workshop's bench: a codec, up to 32 tilt drives and a scanner, played from a script. Each line of standard input is
-// read, and its command carried out; the answer goes to standard output word by word. What a line means and what the
-// commands do is the libraries', and so is each word of an answer (`terms`); here are the row of devices and the scan by
-// hand that the bench holds. A function that hands back a value promises which (specs/); one that only prints is proved
-// safe and ending, since no promise can speak of what standard output gets.
+// The workshop's bench: a codec, a receiver, up to 32 tilt drives and a scanner, played from a script. Each line of
+// standard input is read, and its command carried out; the answer goes to standard output word by word. What a line means
+// and what the commands do is the libraries', and so is each word of an answer (`terms`); here are the row of devices, the
+// scan by hand and the receiver that the bench holds. A function that hands back a value promises which (specs/); one that
+// only prints is proved safe and ending, since no promise can speak of what standard output gets.
 mod answers;
+mod ear;
 mod handed;
 mod input;
 mod rows;
@@ -109,14 +110,17 @@ fn sweep(row: Row, limit: usize) -> Row
     swept.row
 }
 
-// The commands of `drives` stand first among the names, but for `limit`.
+// The commands of `drives`: to a device, and `device`.
 fn is_driven(command: usize) -> bool
     ensures { λ r. ⌜ r ≡ isDriven command ⌝ }
 {
-    if command <= script::DEVICE {
+    if command <= script::CLEAR {
         return true;
     }
-    command == script::LIMIT
+    if command == script::LIMIT {
+        return true;
+    }
+    command == script::DEVICE
 }
 
 // The commands to the row; any other leaves it alone.
@@ -144,6 +148,7 @@ fn end_answer(command: usize) {
 fn play(row: Row) {
     let mut row = row;
     let mut scan = scanner::new(0);
+    let mut ear = ear::fresh();
     let mut input = input::unread();
     let mut turns = u64::MAX;
     while 0 < turns {
@@ -155,6 +160,7 @@ fn play(row: Row) {
         row = obey(row, command, asked);
         scan = scans::by_hand(scan, command, asked);
         handed::obey(scan, command, asked);
+        ear = ear::hear(ear, command, asked);
         end_answer(command);
         if !input.whole {
             return;

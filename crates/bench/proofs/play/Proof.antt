@@ -4,13 +4,16 @@ use Rattle.bench.proofs.play.Statement.{statement}
 use Rattle.bench.proofs.play.Tie as tie
 
 abbrev Inv-loop : tie.InvT-loop
-Inv-loop row₀ scan₀ input₀ turns₀ row scan input turns = Unit {0}
+Inv-loop row₀ scan₀ ear₀ input₀ turns₀ row scan ear input turns = Unit {0}
 
 abbrev μ-loop : tie.MeasureT-loop
-μ-loop row₀ scan₀ input₀ turns₀ row scan input turns = turns
+μ-loop row₀ scan₀ ear₀ input₀ turns₀ row scan ear input turns = turns
 
 new-requires : tie.Need-new-requires Inv-loop μ-loop
 new-requires c κs = search needs
+
+fresh-requires : tie.Need-fresh-requires Inv-loop μ-loop
+fresh-requires c κs = search needs
 
 unread-requires : tie.Need-unread-requires Inv-loop μ-loop
 unread-requires c κs = search needs
@@ -39,6 +42,9 @@ by-hand-requires c κs = search needs
 obey-requires-2 : tie.Need-obey-requires-2 Inv-loop μ-loop
 obey-requires-2 c κs = search needs
 
+hear-requires : tie.Need-hear-requires Inv-loop μ-loop
+hear-requires c κs = search needs
+
 end-answer-requires : tie.Need-end-answer-requires Inv-loop μ-loop
 end-answer-requires c κs = search needs
 
@@ -61,6 +67,7 @@ play-spec =
     Inv-loop
     μ-loop
     new-requires
+    fresh-requires
     unread-requires
     loop-holds
     sub-turns
@@ -70,6 +77,7 @@ play-spec =
     obey-requires
     by-hand-requires
     obey-requires-2
+    hear-requires
     end-answer-requires
     returns
     loop-less
