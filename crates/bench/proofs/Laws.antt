@@ -6,7 +6,7 @@ use mathlib.Core.Logic.{inl, inr}
 use Prim.Native.Nat.{ℕ, suc, _+_, _-_, _*_, _/_, _%_, _≤_, _<_, min}
 use native.Mathlib.Omega.{arith}
 use lib.Dec.{ltb, eqb}
-use lib.ListN.{length, take, drop, getD, set, length-take, drop-of-length-le}
+use lib.ListN.{length, take, drop, getD, set, replicate, length-take, drop-of-length-le}
 use lib.Seq.{sets, getD-take}
 use borrow.Author.Tests.{eq-eqb, ne-eqb}
 use Rattle.octets.specs.Octets.{lastOf, placeOf}
@@ -222,6 +222,11 @@ module _ (c : ℕ) (s : Scan) (v : ℕ) where
   scan-kept n m = rw (ne-eqb c command.begin n, ne-eqb c command.report m)
 
 -- ---- the receiver
+
+-- "`ROOM` is the length of the lent output, 0 to 600"
+pub lent-room : (room : ℕ) → room ≤ 600 → length (lentOf room) ≡ room
+unfolding lentOf
+lent-room room h = omega (arith, h, length-take {A = ℕ} room (replicate 600 0xA5))
 
 -- "the octets are lent to the receiver, with .. an output of ROOM octets"
 pub ear-held : (h : Held) (a : Asked) {os o o' m : List ℕ} {r : Received} → os ≡ hexIn a → o ≡ lentOf (valueIn a 3)
