@@ -68,6 +68,7 @@ lentOf room = take room (replicate 600 0xA5)
 unfoldable pub rowDriven : ℕ → Row → Asked → Row
 rowDriven c row a = obeyed c row (a .values) (hexIn a) (lentOf (valueIn a 3)) .after .row
 
+-- the commands for one device, and `device`
 unfoldable pub isDriven : ℕ → Bool
 isDriven c = forDevice c || eqb c command.device
 
@@ -94,6 +95,7 @@ freshEar = heldOf freshMarks (replicate places 0)
 unfoldable pub earCall : Held → Asked → Answer Took
 earCall h a = received (valueIn a 1) h (hexIn a) (length (lentOf (valueIn a 3)))
 
+-- "Octets that `octets` did not take are forgotten by the bench"
 unfoldable pub earAfter : ℕ → Held → Asked → Held
 earAfter c h a =
     cond (eqb c command.listen) freshEar (cond (eqb c command.octets) (heldBy (earCall h a) h) h)

@@ -9,7 +9,6 @@ use crate::rows;
 use receiver::Heard;
 use receiver::PLACES;
 use receiver::Receiver;
-use refusal::Handed;
 use script::Asked;
 use terms::Term;
 
@@ -29,7 +28,7 @@ pub fn fresh() -> Ear
     }
 }
 
-// How many octets were taken, in front of what was handed out.
+// How many octets were taken stands in front of what was handed out.
 fn say_taken(taken: usize) {
     answers::say(Term::Took);
     answers::say_number(b' ', taken);

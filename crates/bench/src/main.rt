@@ -110,7 +110,7 @@ fn sweep(row: Row, limit: usize) -> Row
     swept.row
 }
 
-// The commands of `drives`: to a device, and `device`.
+// Whether a command is one of `drives`.
 fn is_driven(command: usize) -> bool
     ensures { λ r. ⌜ r ≡ isDriven command ⌝ }
 {

@@ -146,5 +146,5 @@ wordOf (term.Drive m) = driveWord m
 wordOf term.Begun = spelled "begun"
 -- "`listening`"
 wordOf term.Listening = spelled "listening"
--- "`took T"
+-- "`took T nothing BUFFER`"
 wordOf term.Took = spelled "took"
