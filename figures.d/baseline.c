@@ -1,5 +1,6 @@
 /* The codec in C: a pass for the escapes and one for the check, by a table of 256 and by one of 16; the same in one pass; with
- * the frame limit as a parameter; and the loops that ours has. Assumes that baseline_tables has been called. */
+ * the frame limit as a parameter; and the loops that ours has. The receiver, an octet a turn and with the loop that ours has.
+ * Assumes that baseline_tables has been called. */
 #include "baseline.h"
 #include <stdbool.h>
 #include <string.h>
@@ -322,4 +323,92 @@ size_t baseline_write_as(uint8_t address, uint8_t control, const uint8_t *payloa
         n = put(out, n, d[i]);
     out[n++] = FLAG;
     return n;
+}
+
+/* a receiver's block: the store, its count, low octet first, and five octets that each stand for a yes or a no */
+enum { COUNT = LIMIT_MOST, MORE = COUNT + 2, ESCAPING, LAST, ANY, SEEN };
+
+static void put_marks(uint8_t *block, size_t n, bool more, bool escaping, bool last, bool any, bool seen)
+{
+    block[COUNT] = n & 0xFF;
+    block[COUNT + 1] = n >> 8;
+    block[MORE] = more;
+    block[ESCAPING] = escaping;
+    block[LAST] = last;
+    block[ANY] = any;
+    block[SEEN] = seen;
+}
+
+/* what a flag hands out that closes a stretch; the check is made here, since a block handed in could say anything of it */
+static size_t closed(size_t limit, const uint8_t *store, size_t n, bool more, bool last, uint8_t *out, size_t room)
+{
+    if (last)
+        return REFUSED + 4;
+    if (more)
+        return REFUSED + 2;
+    return delivered(baseline_check, limit, store, n, out, room);
+}
+
+/* copies octets up to a flag or an escape, and tells how many */
+static size_t copied(const uint8_t *s, size_t len, uint8_t *store, size_t room)
+{
+    size_t i, most = len < room ? len : room;
+    for (i = 0; i < most && s[i] != FLAG && s[i] != ESCAPE; i++)
+        store[i] = s[i];
+    return i;
+}
+
+INLINED size_t receive(bool at_once, uint8_t *block, size_t limit, const uint8_t *octets, size_t len, uint8_t *out,
+                       size_t room, size_t *taken)
+{
+    size_t n = block[COUNT] | block[COUNT + 1] << 8, i = 0, answer = 0;
+    bool more = block[MORE], escaping = block[ESCAPING], last = block[LAST], any = block[ANY], seen = block[SEEN];
+    *taken = 0;
+    if (limit < LIMIT || limit > LIMIT_MOST || n > LIMIT_MOST)
+        return REFUSED + 6;
+    if (room < limit - 2)
+        return REFUSED + 5;
+    while (i < len && !answer) {
+        uint8_t b = octets[i++];
+        if (b == FLAG) {
+            if (seen && any)
+                answer = closed(limit, block, n, more, last, out, room);
+            n = 0;
+            more = escaping = last = any = false;
+            seen = true;
+        } else if (seen) {
+            any = true;
+            last = b == ESCAPE;
+            if (last && !escaping) {
+                escaping = true;
+            } else if (n == LIMIT_MOST) {
+                more = true;
+                escaping = false;
+            } else if (escaping) {
+                block[n++] = b ^ 0x20;
+                escaping = false;
+            } else if (at_once) {
+                size_t plain = copied(octets + i - 1, len - i + 1, block + n, LIMIT_MOST - n);
+                n += plain;
+                i += plain - 1;
+            } else {
+                block[n++] = b;
+            }
+        }
+    }
+    put_marks(block, n, more, escaping, last, any, seen);
+    *taken = i;
+    return answer;
+}
+
+size_t baseline_receive(uint8_t *block, size_t limit, const uint8_t *octets, size_t len, uint8_t *out, size_t room,
+                        size_t *taken)
+{
+    return receive(false, block, limit, octets, len, out, room, taken);
+}
+
+size_t baseline_receive_as(uint8_t *block, size_t limit, const uint8_t *octets, size_t len, uint8_t *out, size_t room,
+                           size_t *taken)
+{
+    return receive(true, block, limit, octets, len, out, room, taken);
 }

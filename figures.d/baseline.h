@@ -1,4 +1,4 @@
-/* The codec in C, as the measure for ours. It keeps the promises of include/gorittaem.h, and answers as the
+/* Codec and receiver in C, as the measure for ours. It keeps the promises of include/gorittaem.h, and answers as the
  * functions there do: the same numbers, nothing written on a refusal, room asked for exactly the octets written. */
 #ifndef BASELINE_H
 #define BASELINE_H
@@ -22,4 +22,8 @@ uint16_t baseline_check16_as(const uint8_t *s, size_t len);     /* these four wi
 uint16_t baseline_check_as(const uint8_t *s, size_t len);
 size_t baseline_decode_as(const uint8_t *src, size_t len, uint8_t *out, size_t room);
 size_t baseline_write_as(uint8_t address, uint8_t control, const uint8_t *payload, size_t len, uint8_t *out, size_t room);
+size_t baseline_receive(uint8_t *block, size_t limit, const uint8_t *octets, size_t len, uint8_t *out, size_t room,
+                        size_t *taken);                         /* an octet a turn, and the check at the flag */
+size_t baseline_receive_as(uint8_t *block, size_t limit, const uint8_t *octets, size_t len, uint8_t *out, size_t room,
+                           size_t *taken);                      /* plain octets copied at once, as ours does */
 #endif
