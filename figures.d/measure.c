@@ -3,10 +3,10 @@
  * calls all of them, and holds ours and the C to each other, on this frame and on every way to damage it by one octet; past
  * 78 octets those that take the frame limit, with limits and other numbers.
  *
- * FRAME SIZE receive WHICH COUNT RUN hands a line of 64 such frames to a receiver, COUNT times over, in runs of RUN octets, and
- * prints how many octets the line has. FRAME may also be noisy (random frames, an octet in 50 changed) and noise (random octets
- * alone). FRAME SIZE live holds the receivers to each other, on the line whole and damaged, cut in every way up to 300 octets,
- * and on blocks that no receiver left. */
+ * FRAME SIZE receive WHICH COUNT RUN hands a line of such frames to a receiver, COUNT times over, in runs of RUN octets, and
+ * prints how many octets and frames the line has. FRAME may also be noisy (random frames, an octet in 50 changed) and noise
+ * (random octets alone). FRAME SIZE live holds the receivers to each other: on that line, in runs of every length up to 300, and
+ * on blocks that no receiver left. */
 #include "baseline.h"
 #include "gorittaem.h"
 #include <stdio.h>
@@ -364,7 +364,7 @@ int main(int argc, char **argv)
         return call(argv[3], argv[4], atol(argv[5]), 0);
     if (argc == 7) {
         make_live(name);
-        printf("%zu\n", live_len);
+        printf("%zu %d\n", live_len, LINES);
         return call(argv[3], argv[4], atol(argv[5]), strtoul(argv[6], 0, 10));
     }
     if (!strcmp(argv[3], "live")) {
