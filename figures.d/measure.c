@@ -5,8 +5,8 @@
  *
  * FRAME SIZE receive WHICH COUNT RUN hands a line of such frames to a receiver, COUNT times over, in runs of RUN octets, and
  * prints how many octets and frames the line has. FRAME may also be noisy (random frames, an octet in 50 changed) and noise
- * (random octets alone). FRAME SIZE live holds the receivers to each other: on that line, in runs of every length up to 300, and
- * on blocks that no receiver left. */
+ * (random octets alone). FRAME SIZE live holds the receivers to each other: on that line, in runs of every length up to 300,
+ * and on blocks that no receiver left. */
 #include "baseline.h"
 #include "gorittaem.h"
 #include <stdio.h>
