@@ -363,7 +363,6 @@ INLINED size_t receive(bool at_once, uint8_t *block, size_t limit, const uint8_t
 {
     size_t n = block[COUNT] | block[COUNT + 1] << 8, i = 0, answer = 0;
     bool more = block[MORE], escaping = block[ESCAPING], last = block[LAST], any = block[ANY], seen = block[SEEN];
-    *taken = 0;
     if (limit < LIMIT || limit > LIMIT_MOST || n > LIMIT_MOST)
         return REFUSED + 6;
     if (room < limit - 2)

@@ -157,6 +157,9 @@ static void make_live(const char *name)
             live[i] = below(256);
 }
 
+/* what a refused call leaves where the number taken would stand */
+enum { UNTOUCHED = 0x5A5A };
+
 /* one call of ours, and of the C with the same block and output: the same after it, and the check right where a frame comes */
 static size_t received_alike(uint8_t *block, size_t limit, const uint8_t *s, size_t n, size_t room, size_t *taken)
 {
@@ -164,10 +167,11 @@ static size_t received_alike(uint8_t *block, size_t limit, const uint8_t *s, siz
     uint8_t before[BLOCK], a[LONGEST_LINE];
     memcpy(before, block, BLOCK);
     memset(a, 0xA5, sizeof a);
+    *taken = UNTOUCHED;
     size_t ours = gorittaem_receive(block, limit, s, n, a, room, taken);
     for (size_t k = 0; k < sizeof all / sizeof *all; k++) {
         uint8_t c[BLOCK], b[LONGEST_LINE];
-        size_t t;
+        size_t t = UNTOUCHED;
         memcpy(c, before, BLOCK);
         memset(b, 0xA5, sizeof b);
         same(ours, all[k](c, limit, s, n, b, room, &t), a, b, sizeof a);

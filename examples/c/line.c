@@ -53,8 +53,8 @@ static ssize_t listen_to(int fd)
     while ((n = next_run(fd, run, sizeof run)) > 0) {
         const uint8_t *left = run;
         while (n > 0) {
-            size_t taken, answer = gorittaem_receive(receiver, LIMIT, left, (size_t)n, frame, sizeof frame, &taken);
-            if (taken == 0) /* the call is refused: made again, it would be again */
+            size_t taken = 0, answer = gorittaem_receive(receiver, LIMIT, left, (size_t)n, frame, sizeof frame, &taken);
+            if (taken == 0) /* the call is refused, and left the number as it was: made again, it would be again */
                 return -1;
             if (answer != 0)
                 tell(answer, frame);

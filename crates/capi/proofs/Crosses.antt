@@ -12,12 +12,13 @@ use Rattle.refusal.specs.Answer.{Answer, gives, refuses, answerOf, counted, out
 use Rattle.refusal.specs.declared.Refusal.{Refusal}
 use Rattle.refusal.specs.declared.Handed.{Handed}
 use Rattle.refusal.specs.declared.Handed.the-variants.{Refused}
-use Rattle.receiver.specs.Call.{Took, heardOf}
+use Rattle.refusal.proofs.Answers.{gives-not-refuses}
+use Rattle.receiver.specs.Call.{Took, heardOf, toldBy, tookBy}
 use Rattle.receiver.specs.declared.Heard.{Heard}
 use Rattle.receiver.specs.declared.Heard.the-variants.{Nothing, HandedOut}
 use Rattle.block.specs.Block.{Blocks}
 use Rattle.block.specs.declared.Told.{Told}
-use Rattle.capi.specs.Crossing.{refusals, crossed, Crosses, heardCrossed, Hears}
+use Rattle.capi.specs.Crossing.{refusals, crossed, Crosses, heardCrossed, takenAfter, Hears}
 
 pub refusal-crosses : {h : Handed} {k : Refusal} {n : ℕ}
     → h ≡ Refused k → n ≡ numberOf k → refusals + n ≡ crossed (answerOf h)
@@ -47,23 +48,45 @@ module _ {o o' : List ℕ} {r : ℕ} where
   high-told (gives b) short c h = let e = c .number in let s = short b refl in absurd (omega arith)
   high-told (refuses k) short c h = let e = c .number in (ap refuses (omega arith), c .octets)
 
--- the receiver's answer, by the cases of the code's
-pub heard-none : {h : Heard} → h ≡ Nothing → 0 ≡ heardCrossed (heardOf h)
-unfolding heardCrossed heardOf
-heard-none e = rw e
+-- the code's answer to a call of the receiver, by its cases: nothing was handed out, or something, or the call is refused
+module _ {b o b' o' : List ℕ} {w : Told} {t : ℕ} where
+  pub hears-none : (x : Answer Took) → Blocks x b o w b' o' → w .heard ≡ Nothing → Hears x b o t 0 b' o' (w .taken)
+  unfolding heardCrossed heardOf toldBy tookBy takenAfter
+  hears-none (gives u) c e =
+      record {
+        number = ap (λ (h : Heard). heardCrossed (heardOf h)) (sym e) ∙ ap heardCrossed (c .answer);
+        block = c .block;
+        octets = c .octets;
+        taken = c .count;
+      }
+  hears-none (refuses k) c e =
+      absurd (gives-not-refuses (ap heardOf (sym e) ∙ c .answer))
 
-pub heard-handed : {h : Heard} {a : Handed} {r : ℕ} → h ≡ HandedOut a → r ≡ crossed (answerOf a)
-    → r ≡ heardCrossed (heardOf h)
-unfolding heardCrossed heardOf
-heard-handed e f = rw e f
+  pub hears-handed : (x : Answer Took) {a : Handed} {r : ℕ} → Blocks x b o w b' o' → w .heard ≡ HandedOut a
+      → r ≡ crossed (answerOf a) → Hears x b o t r b' o' (w .taken)
+  unfolding heardCrossed heardOf toldBy tookBy takenAfter
+  hears-handed (gives u) c e f =
+      record {
+        number = f ∙ ap (λ (h : Heard). heardCrossed (heardOf h)) (sym e) ∙ ap heardCrossed (c .answer);
+        block = c .block;
+        octets = c .octets;
+        taken = c .count;
+      }
+  hears-handed (refuses k) c e f =
+      absurd (gives-not-refuses (ap heardOf (sym e) ∙ c .answer))
 
-pub heard-refused : {h : Heard} {k : Refusal} {n : ℕ} → h ≡ Heard.Refused k → n ≡ numberOf k
-    → refusals + n ≡ heardCrossed (heardOf h)
-unfolding heardCrossed heardOf
-heard-refused e f = rw (e, f)
-
--- the code's answer to a call of the receiver, crossed
-pub told-hears : {x : Answer Took} {b o b' o' : List ℕ} {w : Told} {r : ℕ}
-    → Blocks x b o w b' o' → r ≡ heardCrossed (heardOf (w .heard)) → Hears x b o r (w .taken) b' o'
-told-hears w e =
-    record { number = e ∙ ap heardCrossed (w .answer); taken = w .count; block = w .block; octets = w .octets }
+  pub hears-refused : (x : Answer Took) {k : Refusal} {n : ℕ} → Blocks x b o w b' o' → w .heard ≡ Heard.Refused k
+      → n ≡ numberOf k → Hears x b o t (refusals + n) b' o' t
+  unfolding heardCrossed heardOf toldBy takenAfter
+  hears-refused (gives u) c e f =
+      absurd (gives-not-refuses (sym (ap heardOf (sym e) ∙ c .answer)))
+  hears-refused (refuses k) c e f =
+      record {
+        number =
+            ap (λ (m : ℕ). refusals + m) f
+            ∙ ap (λ (h : Heard). heardCrossed (heardOf h)) (sym e)
+            ∙ ap heardCrossed (c .answer);
+        block = c .block;
+        octets = c .octets;
+        taken = refl;
+      }

@@ -20,11 +20,11 @@ pub crosses-only : {right : Answer (List ℕ)} {o p q : List ℕ} {r s : ℕ}
     → Crosses right o r p → Crosses right o s q → (r ≡ s) × (p ≡ q)
 crosses-only a b = (only (a .number) (b .number), only (a .octets) (b .octets))
 
--- every promise by `Hears` one number, one count, one block and one output
-pub hears-only : {right : Answer Took} {b o c d p q : List ℕ} {r s t u : ℕ}
-    → Hears right b o r t c p → Hears right b o s u d q → (r ≡ s) × (t ≡ u) × (c ≡ d) × (p ≡ q)
+-- every promise by `Hears` one number, one block, one output and one count
+pub hears-only : {right : Answer Took} {b o c d p q : List ℕ} {r s t u v : ℕ}
+    → Hears right b o t r c p u → Hears right b o t s d q v → (r ≡ s) × (c ≡ d) × (p ≡ q) × (u ≡ v)
 hears-only a b =
-    (only (a .number) (b .number), only (a .taken) (b .taken), only (a .block) (b .block), only (a .octets) (b .octets))
+    (only (a .number) (b .number), only (a .block) (b .block), only (a .octets) (b .octets), only (a .taken) (b .taken))
 
 pub gorittaem-check-only : Settles gorittaem-check-reads.Learnt
 gorittaem-check-only κs a r q s t = only

@@ -3,14 +3,15 @@
 --   crossed a        == the number that the answer a crosses as
 --   Crosses x o r o' == the number r that crosses, and the output o' that was o, are the answer x
 --   heardCrossed a   == the number that a receiver's answer crosses as: 0 where nothing was handed out
---   Hears x b o r t b' o' == the number r that crosses, how many octets t were taken, the block b' and the output o', of a
---                       call with the block b and the output o, are the answer x
+--   takenAfter x t   == the number of octets taken, as a caller reads it after a call with the answer x, where it was t
+--   Hears x b o t r b' o' t' == the number r that crosses, the block b', the output o' and the count t', which were b, o and t,
+--                       are the answer x
 -- Assumes nothing.
 use mathlib.Core.Path.{_≡_}
 use mathlib.Core.List.{List}
 use Prim.Native.Nat.{ℕ, _+_}
 use Rattle.refusal.specs.Answer.{Answer, gives, refuses, counted, outAfter}
-use Rattle.receiver.specs.Call.{Told, nothing, handed, Took, toldBy, tookBy, outBy}
+use Rattle.receiver.specs.Call.{Told, nothing, handed, Took, toldBy, outBy}
 use Rattle.block.specs.Block.{blockAfter}
 
 abbrev pub refusals : ℕ
@@ -32,9 +33,14 @@ heardCrossed (gives nothing) = 0
 heardCrossed (gives (handed a)) = crossed a
 heardCrossed (refuses k) = refusals + k
 
+-- 01: a refusal leaves "every octet lent" as it was
+unfoldable pub takenAfter : Answer Took → ℕ → ℕ
+takenAfter (gives u) t = u .count
+takenAfter (refuses k) t = t
+
 -- as `Blocks` of block/specs/Block, with the number for the code's answer
-pub record Hears (right : Answer Took) (b o : List ℕ) (r t : ℕ) (b' o' : List ℕ) : Type 0 where
+pub record Hears (right : Answer Took) (b o : List ℕ) (t r : ℕ) (b' o' : List ℕ) (t' : ℕ) : Type 0 where
   pub number : r ≡ heardCrossed (toldBy right)
-  pub taken : t ≡ tookBy right
   pub block : b' ≡ blockAfter right b
   pub octets : o' ≡ outBy right o
+  pub taken : t' ≡ takenAfter right t

@@ -10,9 +10,9 @@ ghost use Rattle.fcs.specs.Check.{checkOf};
 ghost use Rattle.limits.specs.Limits.{limitLeast};
 ghost use Rattle.frame.specs.Decode.{decoded};
 ghost use Rattle.frame.specs.Write.{written};
-ghost use Rattle.receiver.specs.Call.{received, heardOf};
+ghost use Rattle.receiver.specs.Call.{received};
 ghost use Rattle.block.specs.Block.{heldIn};
-ghost use Rattle.capi.specs.Crossing.{crossed, Crosses, heardCrossed, Hears};
+ghost use Rattle.capi.specs.Crossing.{crossed, Crosses, Hears};
 use block::BLOCK;
 use limits::LIMIT_LEAST;
 use receiver::Heard;
@@ -28,17 +28,6 @@ fn crossing(answer: Handed) -> usize
     match answer {
         Handed::Octets(n) => n,
         Handed::Refused(refusal) => REFUSED + refusal::number(refusal) as usize,
-    }
-}
-
-// The same of a receiver's answer: 0 where nothing was handed out.
-fn crossing_heard(heard: Heard) -> usize
-    ensures { λ r. ⌜ r ≡ heardCrossed (heardOf heard) ⌝ }
-{
-    match heard {
-        Heard::Nothing => 0,
-        Heard::HandedOut(answer) => crossing(answer),
-        Heard::Refused(refusal) => REFUSED + refusal::number(refusal) as usize,
     }
 }
 
@@ -97,7 +86,7 @@ pub extern "C" fn gorittaem_write_n(
 }
 
 // Takes octets of `run` into the receiver whose record `block` holds, up to and with the first flag that hands something out,
-// to the start of `out`. `taken` gets how many, 0 where the call is refused.
+// to the start of `out`. The answer is 0 where nothing was handed out; `taken` gets how many, where the call is not refused.
 #[no_mangle]
 pub extern "C" fn gorittaem_receive(
     block: &mut [u8; BLOCK],
@@ -107,10 +96,20 @@ pub extern "C" fn gorittaem_receive(
     taken: &mut usize,
 ) -> usize
     ensures { λ r. ⌜ Hears (received limit (heldIn (now (block .entry))) (now (run .entry)) (length (now (out .entry))))
-        (now (block .entry)) (now (out .entry)) r (now (taken .exit)) (now (block .exit)) (now (out .exit)) ⌝ }
+        (now (block .entry)) (now (out .entry)) (now (taken .entry)) r
+        (now (block .exit)) (now (out .exit)) (now (taken .exit)) ⌝ }
 {
     let told = block::receive(block, limit, run, out);
-    *taken = told.taken;
     let heard = told.heard;
-    crossing_heard(heard)
+    match heard {
+        Heard::Nothing => {
+            *taken = told.taken;
+            0
+        }
+        Heard::HandedOut(answer) => {
+            *taken = told.taken;
+            crossing(answer)
+        }
+        Heard::Refused(refusal) => REFUSED + refusal::number(refusal) as usize,
+    }
 }

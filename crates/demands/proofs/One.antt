@@ -229,7 +229,8 @@ c-decode-n-answers κs a r s = decode-tells (a .0) (now (a .1 .0)) (length (now 
 
 pub c-receive-answers : (κs : _) (a : _) (r : _) (s : _) → c-receive-reads.Learnt κs a r s
     → ReceiveTells (received (a .1 .0) (heldIn (now (a .0))) (now (a .1 .1 .0)) (length (now (a .1 .1 .1 .0))))
-    (now (a .0)) (now (a .1 .1 .0)) (now (a .1 .1 .1 .0)) r (now (s .1 .1 .1 .1 .0)) (now (s .0)) (now (s .1 .1 .1 .0))
+    (now (a .0)) (now (a .1 .1 .0)) (now (a .1 .1 .1 .0)) (now (a .1 .1 .1 .1 .0)) r (now (s .0)) (now (s .1 .1 .1 .0))
+    (now (s .1 .1 .1 .1 .0))
 c-receive-answers κs a r s = receive-tells (a .1 .0) (now (a .0)) (now (a .1 .1 .0)) (now (a .1 .1 .1 .0))
 
 pub c-write-answers : (κs : _) (a : _) (r : _) (s : _) → c-write-reads.Learnt κs a r s

@@ -20,7 +20,7 @@ use Rattle.receiver.specs.Call.{Told, nothing, handed, Took, takes, received}
 use Rattle.receiver.specs.Call.{toldCounted, toldBy, tookBy, heldBy, outTold, outBy}
 use Rattle.receiver.specs.declared.Receiver.{Receiver}
 use Rattle.block.specs.Block.{yes, yesOctet, marksIn, marksOctets, heldIn, blockAfter}
-use Rattle.capi.specs.Crossing.{refusals, crossed, heardCrossed, Crosses, Hears}
+use Rattle.capi.specs.Crossing.{refusals, crossed, heardCrossed, Crosses, takenAfter, Hears}
 use Rattle.capi.proofs.Crosses.{low-told}
 use Rattle.live.specs.Stretches.{heardLine}
 use Rattle.live.specs.Calls.{Offer, Worked, outsBy, withOuts, offers, runAgain, fed}
@@ -131,10 +131,10 @@ module _ (N : ℕ) (h : Held) (s : List ℕ) (room : ℕ) {u : Took} (e : receiv
       let taken = sym (ap (λ (w : Took). w .count) these) ∙ n in
       (omega arith, _, sym said)
 
-module _ (N : ℕ) (b s o : List ℕ) {r t : ℕ} {b' o' : List ℕ} where
+module _ (N : ℕ) (b s o : List ℕ) {n r t : ℕ} {b' o' : List ℕ} where
   -- a call that was not refused, by what it told
   module _ (u : Took) (e : received N (heldIn b) s (length o) ≡ gives u) (count : t ≡ u .count) where
-    quiet-tells : u .told ≡ nothing → r ≡ 0 → o' ≡ o → ReceiveTells (gives u) b s o r t b' o'
+    quiet-tells : u .told ≡ nothing → r ≡ 0 → o' ≡ o → ReceiveTells (gives u) b s o n r b' o' t
     quiet-tells q number octets =
         let all = count ∙ quiet-all N (heldIn b) s (length o) e q in (
           λ z. record { took = u; answer = refl; told = q; count = all; octets = octets },
@@ -143,7 +143,7 @@ module _ (N : ℕ) (b s o : List ℕ) {r t : ℕ} {b' o' : List ℕ} where
         )
 
     frame-tells : (f : List ℕ) → u .told ≡ handed (gives f) → Crosses (gives f) o r o'
-        → ReceiveTells (gives u) b s o r t b' o'
+        → ReceiveTells (gives u) b s o n r b' o' t
     unfolding crossed counted
     frame-tells f q c =
         let (n, g, said) = told-said N (heldIn b) s (length o) e q in
@@ -159,7 +159,7 @@ module _ (N : ℕ) (b s o : List ℕ) {r t : ℕ} {b' o' : List ℕ} where
         )
 
     number-tells : (k : ℕ) → u .told ≡ handed (refuses k) → Crosses (refuses k) o r o'
-        → ReceiveTells (gives u) b s o r t b' o'
+        → ReceiveTells (gives u) b s o n r b' o' t
     unfolding crossed counted outAfter
     number-tells k q c =
         let (n, g, said) = told-said N (heldIn b) s (length o) e q in
@@ -176,32 +176,32 @@ module _ (N : ℕ) (b s o : List ℕ) {r t : ℕ} {b' o' : List ℕ} where
         )
 
     took-tells : (d : Told (List ℕ)) → u .told ≡ d → r ≡ heardCrossed (gives (toldCounted d)) → o' ≡ outTold d o
-        → ReceiveTells (gives u) b s o r t b' o'
+        → ReceiveTells (gives u) b s o n r b' o' t
     unfolding heardCrossed toldCounted outTold
     took-tells nothing q number octets = quiet-tells q number octets
     took-tells (handed (gives f)) q number octets = frame-tells f q (record { number = number; octets = octets })
     took-tells (handed (refuses k)) q number octets = number-tells k q (record { number = number; octets = octets })
 
   -- a call that was
-  declined-tells : (k : ℕ) → received N (heldIn b) s (length o) ≡ refuses k → r ≡ refusals + k → t ≡ 0 → b' ≡ b
-      → o' ≡ o → ReceiveTells (refuses k) b s o r t b' o'
-  declined-tells k e number none block octets =
+  declined-tells : (k : ℕ) → received N (heldIn b) s (length o) ≡ refuses k → r ≡ refusals + k → t ≡ n → b' ≡ b
+      → o' ≡ o → ReceiveTells (refuses k) b s o n r b' o' t
+  declined-tells k e number count block octets =
       let among : OneOf k (5 ∷ 6 ∷ []) = ⊎-map (λ q. q) inl (refused-other N (heldIn b) s (length o) e) in
       let same : k ≡ r - refusals = omega arith in (
         λ z. absurd (omega arith),
         λ p l. absurd (omega arith),
-        λ l. inr (rw (← same) (record { among = among; answer = refl; none = none; block = block; octets = octets })),
+        λ l. inr (rw (← same) (record { among = among; answer = refl; block = block; octets = octets; count = count })),
       )
 
   -- 0: nothing was handed out; below 0x10000: a frame of so many octets, at the start of the output; from there on a
   -- number, of a stretch (1 to 4) or of the call (5, 6), which then took and changed nothing
-  pub receive-tells : Hears (received N (heldIn b) s (length o)) b o r t b' o'
-      → ReceiveTells (received N (heldIn b) s (length o)) b s o r t b' o'
-  unfolding heardCrossed toldBy tookBy blockAfter outBy
+  pub receive-tells : Hears (received N (heldIn b) s (length o)) b o n r b' o' t
+      → ReceiveTells (received N (heldIn b) s (length o)) b s o n r b' o' t
+  unfolding heardCrossed toldBy takenAfter blockAfter outBy
   receive-tells = go (received N (heldIn b) s (length o)) refl
     where
-      go : (x : Answer Took) → received N (heldIn b) s (length o) ≡ x → Hears x b o r t b' o'
-          → ReceiveTells x b s o r t b' o'
+      go : (x : Answer Took) → received N (heldIn b) s (length o) ≡ x → Hears x b o n r b' o' t
+          → ReceiveTells x b s o n r b' o' t
       go (gives u) e c = took-tells u e (c .taken) (u .told) refl (c .number) (c .octets)
       go (refuses k) e c = declined-tells k e (c .number) (c .taken) (c .block) (c .octets)
 

@@ -1,12 +1,12 @@
 -- A caller in C, that lends a block for the record and an output: what the number that crosses tells it, and the call
 -- made again and again with the same block.
 --   blockSize        == 267: the octets of a block; zeros == such a block of zeros
---   of a call with the answer x that had the run s, the block b and the output o, took t octets and left b' and o':
+--   of a call with the answer x that had the run s, the block b, the output o and the count c, and left b', o' and t:
 --   Quiet x s o t o' == it handed out nothing, and took the whole run
 --   Frame x o r t o' == it handed out a frame, of r octets at the start of o'
 --   Number k x o t o' == it handed out the refusal k of a stretch
---   Declined k x b o t b' o' == it was refused itself, with k: nothing is taken, and nothing is changed
---   ReceiveTells x b s o r t b' o' == what the number r tells of it
+--   Declined k x b o c b' o' t == it was refused itself, with k: nothing is taken, and nothing is changed
+--   ReceiveTells x b s o c r b' o' t == what the number r tells of it
 --   Lent             == how far such a caller has come: the block, the octets that are not taken yet, what was handed out;
 --                       heldLent w == the same, with the record that the block holds
 --   offersC N b s cs, fedC N room b rs == as `offers` and `fed` of Calls, with the block for the record
@@ -52,18 +52,18 @@ pub record Number (k : ℕ) (x : Answer Took) (o : List ℕ) (t : ℕ) (o' : Lis
   pub some : 0 < t
   pub octets : o' ≡ o
 
-pub record Declined (k : ℕ) (x : Answer Took) (b o : List ℕ) (t : ℕ) (b' o' : List ℕ) : Type 0 where
+pub record Declined (k : ℕ) (x : Answer Took) (b o : List ℕ) (c : ℕ) (b' o' : List ℕ) (t : ℕ) : Type 0 where
   pub among : OneOf k (5 ∷ 6 ∷ [])
   pub answer : x ≡ refuses k
-  pub none : t ≡ 0
   pub block : b' ≡ b
   pub octets : o' ≡ o
+  pub count : t ≡ c
 
-abbrev pub ReceiveTells : Answer Took → List ℕ → List ℕ → List ℕ → ℕ → ℕ → List ℕ → List ℕ → Type 0
-ReceiveTells x b s o r t b' o' =
+abbrev pub ReceiveTells : Answer Took → List ℕ → List ℕ → List ℕ → ℕ → ℕ → List ℕ → List ℕ → ℕ → Type 0
+ReceiveTells x b s o c r b' o' t =
     (r ≡ 0 → Quiet x s o t o')
     × (0 < r → r < refusals → Frame x o r t o')
-    × (refusals ≤ r → Number (r - refusals) x o t o' ⊎ Declined (r - refusals) x b o t b' o')
+    × (refusals ≤ r → Number (r - refusals) x o t o' ⊎ Declined (r - refusals) x b o c b' o' t)
 
 pub record Lent : Type 0 where
   pub block : List ℕ
