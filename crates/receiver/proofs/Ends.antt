@@ -1,7 +1,7 @@
 -- What a closing flag hands out, by the tests of the code; and a call that is over. Assumes nothing.
 use mathlib.Core.Path.{_≡_, refl, sym, ap, _∙_}
-use mathlib.Core.Bool.{Bool, true, false, cond}
-use mathlib.Core.List.{List, [], _∷_}
+use mathlib.Core.Bool.{true, false}
+use mathlib.Core.List.{List, _∷_}
 use Prim.Native.Nat.{ℕ, _+_, _<_, _≤_}
 use native.Mathlib.Nat.{add-zero}
 use native.Mathlib.Omega.{arith}
@@ -10,14 +10,12 @@ use Rattle.octets.proofs.Rest.{rest}
 use Rattle.refusal.specs.Answer.{Answer, gives, refuses, Hands}
 use Rattle.refusal.specs.declared.Handed.{Handed}
 use Rattle.refusal.proofs.Answers.{answered-here, answered-later}
-use Rattle.limits.specs.Limits.{limitMost}
 use Rattle.frame.specs.Line.{flag}
-use Rattle.frame.specs.Decode.{body, decodeRows, framed}
+use Rattle.frame.specs.Decode.{framed}
 use Rattle.receiver.specs.Held.{Held, Usable, heldOf, places, openMarks, afterFlag, afterOctet, stretched, closes, stretchSays}
-use Rattle.receiver.specs.Call.{Told, nothing, handed, takes, received, Receives, heardOf, toldBy, tookBy, heldBy, outBy, toldCounted, outTold}
+use Rattle.receiver.specs.Call.{nothing, handed, takes, Receives, heardOf, toldBy, tookBy, heldBy, outBy, toldCounted, outTold}
 use Rattle.receiver.specs.Pieces.{furtherBy, Passes}
 use Rattle.receiver.specs.declared.Receiver.{Receiver}
-use Rattle.receiver.specs.declared.Received.{Received}
 use Rattle.receiver.specs.declared.Heard.the-variants.{Nothing, HandedOut}
 
 module _ (N room : ℕ) (r : Receiver) (m : List ℕ) where

@@ -1,15 +1,15 @@
 -- Each promise of this crate allows one result, one content of the lent store and one of the lent output. Assumes nothing.
-use mathlib.Core.Path.{_≡_, refl, sym, ap, ap₂, _∙_}
+use mathlib.Core.Path.{_≡_, refl, sym, ap, ap₂}
 use mathlib.Core.List.{List}
 use Prim.Native.Nat.{ℕ}
 use native.Mathlib.Omega.{arith}
 use denote.Ref.{now}
 use Rattle.octets.proofs.Only.{only, AsksNothing, Settles, SettlesAll}
-use Rattle.refusal.specs.Answer.{Answer, gives, answerOf}
+use Rattle.refusal.specs.Answer.{Answer}
 use Rattle.refusal.proofs.Answers.{gives-same, gives-not-refuses, refuses-same}
 use Rattle.refusal.proofs.Only.{number-apart, answer-apart}
-use Rattle.receiver.specs.Held.{Held, heldOf}
-use Rattle.receiver.specs.Call.{Told, nothing, handed, Took, heardOf, Receives}
+use Rattle.receiver.specs.Held.{Held}
+use Rattle.receiver.specs.Call.{nothing, handed, Took, heardOf, Receives}
 use Rattle.receiver.specs.declared.Receiver.{Receiver}
 use Rattle.receiver.specs.declared.Received.{Received}
 use Rattle.receiver.specs.declared.Heard.{Heard}

@@ -4,32 +4,24 @@ use borrow.Author.Needs.{needs}
 use Rattle.receiver.specs.Call.{heardOf}
 use Rattle.block.proofs.is_refused.Statement.{statement}
 use Rattle.block.proofs.is_refused.Tie as tie
-use Rattle.block.proofs.is_refused.Reads as reads
-use Rattle.block.proofs.is_refused.Lts as lts
 
--- src/lib.rt:28:27
 enum-told : tie.Need-enum-told
 enum-told c = search needs
 
--- src/lib.rt:29:32
 enum-told-2 : tie.Need-enum-told-2
 enum-told-2 c = search needs
 
--- src/lib.rt:30:30
 enum-told-3 : tie.Need-enum-told-3
 enum-told-3 c = search needs
 
--- src/lib.rt:24:1
 returns : tie.Need-returns
 unfolding heardOf
 returns c = search (tests, c .enum-told .given .1)
 
--- src/lib.rt:24:1
 returns-2 : tie.Need-returns-2
 unfolding heardOf
 returns-2 c = search (tests, c .enum-told2 .given .1)
 
--- src/lib.rt:24:1
 returns-3 : tie.Need-returns-3
 unfolding heardOf
 returns-3 c = search (tests, c .enum-told3 .given .1)

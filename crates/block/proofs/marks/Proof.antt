@@ -3,47 +3,34 @@ use borrow.Author.Needs.{needs}
 use Rattle.block.specs.Block.{marksIn}
 use Rattle.block.proofs.marks.Statement.{statement}
 use Rattle.block.proofs.marks.Tie as tie
-use Rattle.block.proofs.marks.Reads as reads
-use Rattle.block.proofs.marks.Lts as lts
-use Rattle.octets.proofs.pair.Reads as pair-reads
 
--- src/lib.rt:30:29
 shared-slice-read-pair : tie.Need-shared-slice-read-pair
 shared-slice-read-pair c = search needs
 
--- src/lib.rt:30:35
 shared-slice-read-pair-2 : tie.Need-shared-slice-read-pair-2
 shared-slice-read-pair-2 c = search needs
 
--- src/lib.rt:30:16
 pair-requires : tie.Need-pair-requires
 pair-requires c κs = search needs
 
--- src/lib.rt:30:16
 cast-t7 : tie.Need-cast-t7
 cast-t7 c = search needs
 
--- src/lib.rt:31:15
 shared-slice-read-t9 : tie.Need-shared-slice-read-t9
 shared-slice-read-t9 c = search needs
 
--- src/lib.rt:32:19
 shared-slice-read-t12 : tie.Need-shared-slice-read-t12
 shared-slice-read-t12 c = search needs
 
--- src/lib.rt:33:15
 shared-slice-read-t15 : tie.Need-shared-slice-read-t15
 shared-slice-read-t15 c = search needs
 
--- src/lib.rt:34:14
 shared-slice-read-t18 : tie.Need-shared-slice-read-t18
 shared-slice-read-t18 c = search needs
 
--- src/lib.rt:35:15
 shared-slice-read-t21 : tie.Need-shared-slice-read-t21
 shared-slice-read-t21 c = search needs
 
--- src/lib.rt:25:1
 returns : tie.Need-returns
 unfolding marksIn
 returns c = rw (c .before .before .before .before .before .pair .ensures)

@@ -8,33 +8,24 @@ use Rattle.receiver.proofs.Ends.{says-broken, says-more, says-framed}
 use borrow.Author.Needs.{needs}
 use Rattle.receiver.proofs.close.Statement.{statement}
 use Rattle.receiver.proofs.close.Tie as tie
-use Rattle.receiver.proofs.close.Reads as reads
-use Rattle.receiver.proofs.close.Lts as lts
-use Rattle.frame.proofs.deliver.Reads as deliver-reads
 
--- src/lib.rt:183:9
 returns : tie.Need-returns
 returns c = refused Broken (says-broken _ _ _ _ (c .if1 .taken))
 
--- src/lib.rt:186:9
 returns-2 : tie.Need-returns-2
 returns-2 c = refused TooLong (says-more _ _ _ _ (c .before .if1 .left) (c .if2 .taken))
 
--- src/lib.rt:189:27
 slice-aggregate-deliver : tie.Need-slice-aggregate-deliver
 slice-aggregate-deliver c =
     let pre = c .before .before .before .before .before .pre in
     simp length-take (omega (arith, pre .0, pre .1))
 
--- src/lib.rt:189:5
 deliver-requires : tie.Need-deliver-requires
 deliver-requires c κs = search needs
 
--- src/lib.rt:177:1
 same-length : tie.Need-same-length
 same-length c = search needs
 
--- src/lib.rt:177:1
 returns-3 : tie.Need-returns-3
 returns-3 c =
     let late = c .before .before .before .before .before in

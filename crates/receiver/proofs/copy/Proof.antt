@@ -9,9 +9,6 @@ use Rattle.receiver.specs.Pieces.{Plain}
 use Rattle.receiver.proofs.Passing.{below, first-plain, flag-special, escape-special, more-plain, more-copied}
 use Rattle.receiver.proofs.copy.Statement.{statement}
 use Rattle.receiver.proofs.copy.Tie as tie
-use Rattle.receiver.proofs.copy.Reads as reads
-use Rattle.receiver.proofs.copy.Lts as lts
-use Rattle.octets.proofs.fewer.Reads as fewer-reads
 
 abbrev Inv-loop : tie.InvT-loop
 Inv-loop s store₀ at most i₀ store i =
@@ -20,75 +17,64 @@ Inv-loop s store₀ at most i₀ store i =
 abbrev μ-loop : tie.MeasureT-loop
 μ-loop s store₀ at most i₀ store i = most - i
 
--- src/lib.rt:130:39
 sub-fewer : tie.Need-sub-fewer Inv-loop μ-loop
 sub-fewer c = search needs
 
--- src/lib.rt:130:9
 fewer-requires : tie.Need-fewer-requires Inv-loop μ-loop
 fewer-requires c κs = search needs
 
--- src/lib.rt:132:5
 loop-holds : tie.Need-loop-holds Inv-loop μ-loop
 loop-holds c = (omega arith, tt, refl, refl)
 
--- src/lib.rt:133:17
 shared-slice-read-b : tie.Need-shared-slice-read-b Inv-loop μ-loop
 shared-slice-read-b c = search needs
 
--- src/lib.rt:135:13
 same-length : tie.Need-same-length Inv-loop μ-loop
 same-length c = search needs
 
--- src/lib.rt:135:13
 returns : tie.Need-returns Inv-loop μ-loop
 returns c =
     let loop = c .before .before .before in
     let pre = loop .before .before .before .before .pre in
     let most = loop .before .fewer .ensures in
     record {
-      some = first-plain (loop .before .before .before .before .args .s .now) _ (pre .0) (pre .2) (flag-special _ (c .if1 .taken));
+      some = first-plain (loop .before .before .before .before .args .s .now) _
+          (pre .0) (pre .2) (flag-special _ (c .if1 .taken));
       few = omega (arith, loop .loop .inv .0, most);
       inside = omega (arith, loop .loop .inv .0, most, pre .1);
       plain = loop .loop .inv .1;
       octets = loop .loop .inv .2;
     }
 
--- src/lib.rt:138:13
 same-length-2 : tie.Need-same-length-2 Inv-loop μ-loop
 same-length-2 c = search needs
 
--- src/lib.rt:138:13
 returns-2 : tie.Need-returns-2 Inv-loop μ-loop
 returns-2 c =
     let loop = c .before .before .before .before in
     let pre = loop .before .before .before .before .pre in
     let most = loop .before .fewer .ensures in
     record {
-      some = first-plain (loop .before .before .before .before .args .s .now) _ (pre .0) (pre .2) (escape-special _ (c .if2 .taken));
+      some = first-plain (loop .before .before .before .before .args .s .now) _
+          (pre .0) (pre .2) (escape-special _ (c .if2 .taken));
       few = omega (arith, loop .loop .inv .0, most);
       inside = omega (arith, loop .loop .inv .0, most, pre .1);
       plain = loop .loop .inv .1;
       octets = loop .loop .inv .2;
     }
 
--- src/lib.rt:140:15
 add-store : tie.Need-add-store Inv-loop μ-loop
 add-store c = search needs
 
--- src/lib.rt:140:9
 slice-write-store : tie.Need-slice-write-store Inv-loop μ-loop
 slice-write-store c = search needs
 
--- src/lib.rt:141:9
 add-i : tie.Need-add-i Inv-loop μ-loop
 add-i c = search needs
 
--- src/lib.rt:132:5
 loop-less : tie.Need-loop-less Inv-loop μ-loop
 loop-less c = search needs
 
--- src/lib.rt:132:5
 loop-again : tie.Need-loop-again Inv-loop μ-loop
 loop-again c =
     let loop = c .before .before .before .before in
@@ -99,11 +85,9 @@ loop-again c =
       rw length-set (loop .loop .inv .3),
     )
 
--- src/lib.rt:126:1
 same-length-3 : tie.Need-same-length-3 Inv-loop μ-loop
 same-length-3 c = search needs
 
--- src/lib.rt:126:1
 returns-3 : tie.Need-returns-3 Inv-loop μ-loop
 returns-3 c =
     let loop = c .before in

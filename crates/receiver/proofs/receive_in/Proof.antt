@@ -6,84 +6,75 @@ use Rattle.receiver.proofs.Refusals.{no-limit, no-store, no-record, no-
 use borrow.Author.Needs.{needs}
 use Rattle.receiver.proofs.receive_in.Statement.{statement}
 use Rattle.receiver.proofs.receive_in.Tie as tie
-use Rattle.receiver.proofs.receive_in.Reads as reads
-use Rattle.receiver.proofs.receive_in.Lts as lts
-use Rattle.limits.proofs.frame_most.Reads as frame-most-reads
-use Rattle.limits.proofs.is_limit.Reads as is-limit-reads
-use Rattle.receiver.proofs.listen.Reads as listen-reads
-use Rattle.receiver.proofs.refuse.Reads as refuse-reads
 
--- src/lib.rt:271:9
 is-limit-requires : tie.Need-is-limit-requires
 is-limit-requires c κs = search needs
 
--- src/lib.rt:272:9
 refuse-requires : tie.Need-refuse-requires
 refuse-requires c κs = search needs
 
--- src/lib.rt:272:9
 returns : tie.Need-returns
 returns c =
     refused-call NotAllowed
-    (no-limit _ _ _ _ (sym (c .before .before .is-limit .ensures) ∙ not-true _ (c .before .if1 .taken))) (c .refuse .ensures)
+    (no-limit _ _ _ _ (sym (c .before .before .is-limit .ensures) ∙ not-true _ (c .before .if1 .taken)))
+    (c .refuse .ensures)
 
--- src/lib.rt:275:9
 refuse-requires-2 : tie.Need-refuse-requires-2
 refuse-requires-2 c κs = search needs
 
--- src/lib.rt:275:9
 returns-2 : tie.Need-returns-2
 returns-2 c =
     let tests = c .before .before in
     let limit = sym (tests .before .is-limit .ensures) ∙ not-false _ (tests .if1 .left) in
     refused-call NotAllowed (no-store _ _ _ _ limit (c .before .if2 .taken)) (c .refuse2 .ensures)
 
--- src/lib.rt:278:9
 refuse-requires-3 : tie.Need-refuse-requires-3
 refuse-requires-3 c κs = search needs
 
--- src/lib.rt:278:9
 returns-3 : tie.Need-returns-3
 returns-3 c =
-    let tests = c .before .before .before .before in
+    let four = c .before .before .before .before in
+    let tests = four in
     let limit = sym (tests .before .is-limit .ensures) ∙ not-false _ (tests .if1 .left) in
-    refused-call NotAllowed (no-record _ _ _ _ limit (c .before .before .before .if2 .left) (c .before .if3 .taken)) (c .refuse3 .ensures)
+    refused-call NotAllowed (no-record _ _ _ _ limit (c .before .before .before .if2 .left) (c .before .if3 .taken))
+    (c .refuse3 .ensures)
 
--- src/lib.rt:280:20
 frame-most-requires : tie.Need-frame-most-requires
 frame-most-requires c κs = search needs
 
--- src/lib.rt:281:9
 refuse-requires-4 : tie.Need-refuse-requires-4
 refuse-requires-4 c κs = search needs
 
--- src/lib.rt:281:9
 returns-4 : tie.Need-returns-4
 returns-4 c =
-    let tests = c .before .before .before .before .before .before in
+    let four = c .before .before .before .before in
+    let tests = four .before .before in
     let limit = sym (tests .before .is-limit .ensures) ∙ not-false _ (tests .if1 .left) in
     let room = rw (c .before .before .frame-most .ensures) at (c .before .if4 .taken) in
-    refused-call NoRoom (no-room _ _ _ _ limit (c .before .before .before .before .before .if2 .left) (c .before .before .before .if3 .left) room) (c .refuse4 .ensures)
+    refused-call NoRoom (no-room _ _ _ _ limit (four .before .if2 .left) (c .before .before .before .if3 .left) room)
+    (c .refuse4 .ensures)
 
--- src/lib.rt:283:5
 listen-requires : tie.Need-listen-requires
-listen-requires c κs = (c .before .before .before .before .before .before .if2 .left, c .before .before .before .before .if3 .left)
+listen-requires c κs =
+    let four = c .before .before .before .before in
+    (four .before .before .if2 .left, four .if3 .left)
 
--- src/lib.rt:260:1
 same-length : tie.Need-same-length
 same-length c = search needs
 
--- src/lib.rt:260:1
 same-length-2 : tie.Need-same-length-2
 same-length-2 c = search needs
 
--- src/lib.rt:260:1
 returns-5 : tie.Need-returns-5
 returns-5 c =
-    let tests = c .before .before .before .before .before .before .before .before .before .before .before .before in
+    let four = c .before .before .before .before in
+    let eight = four .before .before .before .before in
+    let twelve = eight .before .before .before .before in
+    let tests = twelve in
     let limit = sym (tests .before .is-limit .ensures) ∙ not-false _ (tests .if1 .left) in
-    let room = rw (c .before .before .before .before .before .before .before .before .frame-most .ensures) at (c .before .before .before .before .before .before .before .if4 .left) in
-    receives-is (sym (in-order _ _ _ _ limit (c .before .before .before .before .before .before .before .before .before .before .before .if2 .left) (c .before .before .before .before .before .before .before .before .before .if3 .left) room)) (c .before .before .before .before .listen .ensures)
+    let room = rw (eight .frame-most .ensures) at (four .before .before .before .if4 .left) in
+    receives-is (sym (in-order _ _ _ _ limit (eight .before .before .before .if2 .left)
+    (eight .before .if3 .left) room)) (four .listen .ensures)
 
 pub receive-in-spec : {M : Type 1} → statement M
 receive-in-spec =
