@@ -3,7 +3,7 @@
 --   fittingRows N h   == the rows of what is handed out, but for that of 5
 --   TookAll, TookUpTo == a call goes over all octets, or up to the flag at the place k; HowFar == one of the two
 -- Assumes nothing.
-use mathlib.Core.Path.{_≡_, refl, sym, ap, _∙_}
+use mathlib.Core.Path.{_≡_, refl, sym, ap, _∙_, subst}
 use mathlib.Core.Bool.{Bool, true, false, cond, not}
 use mathlib.Core.List.{List, [], _∷_, _++_}
 use mathlib.Core.Logic.{_↔_, _⊎_, inl, inr, ⊎-elim, ⊎-map}
@@ -16,7 +16,9 @@ use Rattle.octets.specs.Octets.{Octets, holds, pairOf}
 use Rattle.octets.proofs.Bounds.{octets-take}
 use Rattle.octets.proofs.Words.{true-not-false, and-parts, holds-exactly}
 use Rattle.refusal.specs.Answer.{Answer, gives, refuses, TestRow, _when_, answered, Clear, numbersOf, shorter}
-use Rattle.refusal.proofs.Answers.{gives-not-refuses, refuses-same}
+use Rattle.refusal.specs.Answer.{outAfter, Hands}
+use Rattle.refusal.specs.declared.Handed.{Handed}
+use Rattle.refusal.proofs.Answers.{gives-not-refuses, refuses-same, gives-same, octets-told, refusal-told}
 use Rattle.refusal.proofs.Exactly.{TestsFor, exactly-tests, exactly-given, answered-all}
 use Rattle.fcs.specs.Check.{checkOf, withCheck}
 use Rattle.limits.specs.Limits.{isLimit, Limited, frameMost}
@@ -24,12 +26,15 @@ use Rattle.limits.proofs.Exactly.{is-limit-exactly}
 use Rattle.frame.specs.Line.{flag}
 use Rattle.frame.specs.Decode.{body, rightCheck, decodeRows}
 use Rattle.frame.proofs.Checks.{split-two, check-exactly}
-use Rattle.receiver.specs.Held.{Held, Usable, places, afterFlag, afterOctet, closes, stretchSays}
-use Rattle.receiver.specs.Call.{nothing, handed, Took, further, takes, receiveRows, received, tookBy, heldBy, outBy, Receives, toldBy}
+use Rattle.receiver.specs.Held.{Held, heldOf, Usable, places, afterFlag, afterOctet, closes, stretchSays}
+use Rattle.receiver.specs.Call.{Told, nothing, handed, Took, further, takes, receiveRows, received}
+use Rattle.receiver.specs.Call.{heardOf, toldCounted, toldBy, tookBy, heldBy, outTold, outBy, Receives}
 use Rattle.receiver.proofs.Refusals.{in-order}
 use Rattle.receiver.proofs.Only.{nothing-not-handed}
+use Rattle.receiver.specs.declared.Heard.{Heard}
+use Rattle.receiver.specs.declared.Heard.the-variants.{Nothing, HandedOut, Refused}
 use Rattle.receiver.specs.declared.Received.{Received}
-use Rattle.live.specs.Calls.{afterAll, handOuts, CallTells}
+use Rattle.live.specs.Calls.{afterAll, handOuts, toldOuts, outsBy, HeardTells, CallTells, readOut}
 
 -- what holds on each side of a test holds by it
 pub by-test : {A : Type 0} (P : A → Type 0) (t : Bool) {a b : A}
@@ -305,9 +310,88 @@ module _ (N room : ℕ) (h : Held) (s : List ℕ) where
       (λ u. absurd (nothing-not-handed (sym e ∙ u .1 .told)))
       (how-far N room h s)
 
--- what a caller learns of the promise
-pub receives-tells : (x : Answer Took) {h : Held} {o m o' : List ℕ} {r : Received} → Receives x h o r m o'
-    → CallTells x h o r m o'
-unfolding toldBy tookBy heldBy outBy
-receives-tells (gives t) w = inl (t, refl, w .answer, w .count, w .held, w .octets)
-receives-tells (refuses k) w = inr (k, refl, w .answer, w .count, w .held, w .octets)
+handed-same : {A : Type 0} {a b : Answer A} → handed a ≡ handed b → a ≡ b
+handed-same e = cc
+
+-- what a caller learns of the promise, for any record
+module _ (N : ℕ) (h : Held) (s o : List ℕ) (r : Received) (m o' : List ℕ) where
+  -- a call that was not refused, by what it told
+  module _ (t : Took) (e : received N h s (length o) ≡ gives t) (count : r .taken ≡ t .count)
+      (held : heldOf (r .receiver) m ≡ t .held) where
+    quiet-told : t .told ≡ nothing → o' ≡ o → HeardTells Nothing (gives t) h s o r m o'
+    quiet-told q octets =
+        let these = call-given N h s (length o) e .3 in
+        let all = told-nothing N (length o) h s (ap (λ (w : Took). w .told) these ∙ q) .0 in
+        (t, refl, q, count ∙ sym (ap (λ (w : Took). w .count) these) ∙ all, held, octets)
+
+    handed-told : (a : Answer (List ℕ)) (q : Handed) → t .told ≡ handed a → Hands a o q o'
+        → HeardTells (HandedOut q) (gives t) h s o r m o'
+    unfolding outAfter
+    handed-told a (Handed.Octets n) told w =
+        let (this, size) = octets-told a w in
+        let there = w .octets ∙ ap (λ (b : Answer (List ℕ)). outAfter b o) this in
+        (t, refl, told ∙ ap handed this, count, held, size, there)
+    handed-told a (Handed.Refused k) told w =
+        let (this, same) = refusal-told a w in (t, refl, told ∙ ap handed this, count, held, same)
+
+    taken-tells : (w : Heard) (d : Told (List ℕ)) → t .told ≡ d → heardOf w ≡ gives (toldCounted d) → o' ≡ outTold d o
+        → HeardTells w (gives t) h s o r m o'
+    unfolding heardOf toldCounted outTold
+    taken-tells Nothing nothing q f octets = quiet-told q octets
+    taken-tells Nothing (handed a) q f octets = absurd (nothing-not-handed (gives-same f))
+    taken-tells (HandedOut w) nothing q f octets = absurd (nothing-not-handed (sym (gives-same f)))
+    taken-tells (HandedOut w) (handed a) q f octets =
+        handed-told a w q (record { answer = handed-same (gives-same f); octets = octets })
+    taken-tells (Refused k) d q f octets = absurd (gives-not-refuses (sym f))
+
+  -- one that was
+  refused-tells : (w : Heard) (k : ℕ) → heardOf w ≡ refuses k → r .taken ≡ 0 → heldOf (r .receiver) m ≡ h → o' ≡ o
+      → HeardTells w (refuses k) h s o r m o'
+  unfolding heardOf
+  refused-tells Nothing k f count held octets = absurd (gives-not-refuses f)
+  refused-tells (HandedOut w) k f count held octets = absurd (gives-not-refuses f)
+  refused-tells (Refused j) k f count held octets = (
+    ap refuses (sym (refuses-same f)),
+    count,
+    ap (λ (g : Held). g .marks) held,
+    ap (λ (g : Held). g .store) held,
+    octets,
+  )
+
+  read-tells : (x : Answer Took) (w : Heard) → HeardTells w x h s o r m o' → readOut w o' ≡ outsBy x
+  unfolding readOut outsBy toldOuts
+  read-tells x Nothing w = rw (w .1, w .2)
+  read-tells x (HandedOut (Handed.Octets n)) w = rw (w .1, w .2)
+  read-tells x (HandedOut (Handed.Refused k)) w = rw (w .1, w .2)
+  read-tells x (Refused k) w = rw (w .0)
+
+module _ (N : ℕ) (h : Held) (s o : List ℕ) {r : Received} {m o' : List ℕ} where
+  pub receives-tells : Receives (received N h s (length o)) h o r m o' → CallTells (received N h s (length o)) h s o r m o'
+  unfolding toldBy tookBy heldBy outBy
+  receives-tells = go (received N h s (length o)) refl
+    where
+      go : (x : Answer Took) → received N h s (length o) ≡ x → Receives x h o r m o' → CallTells x h s o r m o'
+      go (gives t) e w =
+          taken-tells N h s o r m o' t e (w .count) (w .held) (r .heard) (t .told) refl (w .answer) (w .octets)
+      go (refuses k) e w = refused-tells N h s o r m o' (r .heard) k (w .answer) (w .count) (w .held) (w .octets)
+
+  -- what a caller reads, how far it goes on, and with which record
+  pub call-reads : Receives (received N h s (length o)) h o r m o'
+      → (readOut (r .heard) o' ≡ outsBy (received N h s (length o)))
+      × (r .taken ≡ tookBy (received N h s (length o)))
+      × (heldOf (r .receiver) m ≡ heldBy (received N h s (length o)) h)
+  call-reads w =
+      (read-tells N h s o r m o' (received N h s (length o)) (r .heard) (receives-tells w), w .count, w .held)
+
+  -- for every record: a frame that is handed out has the right check for the octets that the caller reads
+  pub right-check-call : {n : ℕ} → Receives (received N h s (length o)) h o r m o' → r .heard ≡ HandedOut (Handed.Octets n)
+      → (k : ℕ) × (low : ℕ) × (high : ℕ) × (r .taken ≡ suc k) × (getD s k 0 ≡ flag)
+      × (heldOctets (afterAll h (take k s)) ≡ take n o' ++ low ∷ high ∷ []) × (checkOf (take n o') ≡ pairOf low high)
+  right-check-call {n} w is =
+      let (t, e, told, count, held, size, there) =
+      subst (λ (q : Heard). HeardTells q (received N h s (length o)) h s o r m o') is (receives-tells w) in
+      let these = call-given N h s (length o) e .3 in
+      let (k, size, closing, said, opens) =
+      told-at-flag N (length o) h s (ap (λ (u : Took). u .told) these ∙ told) in
+      let (low, high, octets, check) = right-check N (length o) (afterAll h (take k s)) (sym said) in
+      (k, low, high, count ∙ sym (ap (λ (u : Took). u .count) these) ∙ size, closing, octets, check)

@@ -32,7 +32,7 @@ use Rattle.live.proofs.Decoder.{some, says-decoded, it-is-the-decoder, 
 use Rattle.live.proofs.Noise.{Resynchronised, resynchronised}
 use Rattle.live.proofs.Trip.{lines-come-through, written-lines}
 
-fresh-usable : (m : List ℕ) → length m ≡ places → Usable (fresh m)
+pub fresh-usable : (m : List ℕ) → length m ≡ places → Usable (fresh m)
 fresh-usable m store = (store, omega arith)
 
 module _ (N : ℕ) (limit : isLimit N ≡ true) where

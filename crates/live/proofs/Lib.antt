@@ -6,4 +6,5 @@ pub mod Decoder
 pub mod Noise
 pub mod Trip
 pub mod Called
+pub mod Played
 pub mod InC
