@@ -60,7 +60,7 @@ module _ {A : Type 0} (a : A) where
 abbrev pub heldOctets : Held → List ℕ
 heldOctets h = take (h .marks .count) (h .store)
 
-unfoldable fittingRows : ℕ → Held → List TestRow
+unfoldable pub fittingRows : ℕ → Held → List TestRow
 fittingRows N h =
     4 when h .marks .last
     ∷ 2 when h .marks .more
@@ -76,7 +76,7 @@ body-length d = omega (arith, length-take (length d - 2) d)
 
 module _ (N room : ℕ) (h : Held) (fits : frameMost N ≤ room) where
   -- an output of N - 2 octets has room for every frame, so the row of 5 never holds
-  says-fitting : stretchSays N room h ≡ answered (fittingRows N h) (body (heldOctets h))
+  pub says-fitting : stretchSays N room h ≡ answered (fittingRows N h) (body (heldOctets h))
   unfolding stretchSays decodeRows fittingRows Clear
   says-fitting =
       let d : List ℕ = heldOctets h in

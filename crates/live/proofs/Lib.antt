@@ -1,6 +1,7 @@
 -- The laws of the live line.
 pub mod Steps
 pub mod Answered
+pub mod Flags
 pub mod Cuts
 pub mod Decoder
 pub mod Noise
