@@ -8,4 +8,5 @@ pub mod Noise
 pub mod Trip
 pub mod Called
 pub mod Played
+pub mod Asked
 pub mod InC

@@ -55,7 +55,7 @@ after-append h [] b = refl
 after-append h (x ∷ a) b = after-append (afterOctet h x) a b
 
 -- one more in front, or not
-front-append : {A : Type 0} (t : Bool) (a : A) (l m : List A) → cond t (a ∷ (l ++ m)) (l ++ m) ≡ cond t (a ∷ l) l ++ m
+pub front-append : {A : Type 0} (t : Bool) (a : A) (l m : List A) → cond t (a ∷ (l ++ m)) (l ++ m) ≡ cond t (a ∷ l) l ++ m
 front-append true a l m = refl
 front-append false a l m = refl
 
