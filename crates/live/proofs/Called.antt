@@ -8,7 +8,7 @@ use mathlib.Core.Logic.{inl, inr}
 use Prim.Native.Nat.{ℕ, suc, _<_, _≤_}
 use native.Mathlib.Nat.{not-suc-le-zero}
 use native.Mathlib.Omega.{arith}
-use lib.ListN.{length}
+use lib.ListN.{length, replicate}
 use Rattle.octets.specs.Octets.{Octets, holds}
 use Rattle.octets.proofs.Words.{holds-tail}
 use Rattle.refusal.specs.Answer.{Answer, gives}
@@ -30,7 +30,7 @@ use Rattle.live.proofs.Answered.{says-room}
 use Rattle.live.proofs.Cuts.{all-passed, fed-all}
 use Rattle.live.proofs.Decoder.{some, says-decoded, it-is-the-decoder, holds-always}
 use Rattle.live.proofs.Noise.{Resynchronised, resynchronised}
-use Rattle.live.proofs.Trip.{lines-come-through, written-lines}
+use Rattle.live.proofs.Trip.{lines-and-rest, lines-come-through, written-lines}
 
 pub fresh-usable : (m : List ℕ) → length m ≡ places → Usable (fresh m)
 fresh-usable m store = (store, omega arith)
@@ -70,6 +70,13 @@ module _ (N : ℕ) (limit : isLimit N ≡ true) where
           → fed N room (fresh m) rs .outs ≡ allGiven (bodies fs)
       called-lines fs fit e =
           fresh-outs ∙ ap (handOuts N (fresh m)) e ∙ lines-come-through N limit fs m fit store
+
+      -- and behind them any number of flags, and the beginning of something
+      pub called-lines-and-rest : (fs : List Sent) (n : ℕ) (rest : List ℕ) → FitEach N (bodies fs) → holds flag rest ≡ false
+          → flatten rs ≡ flag ∷ (sent fs ++ (replicate n flag ++ rest))
+          → fed N room (fresh m) rs .outs ≡ allGiven (bodies fs)
+      called-lines-and-rest fs n rest fit f e =
+          fresh-outs ∙ ap (handOuts N (fresh m)) e ∙ lines-and-rest N limit fs n rest m fit f store
 
       -- lines, each with its own two flags
       pub called-lines-of : (bs : List (List ℕ)) → FitEach N bs → flatten rs ≡ linesOf bs

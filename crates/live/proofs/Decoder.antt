@@ -26,12 +26,12 @@ use Rattle.frame.specs.Line.{flag, escape, toggle, broken, plainAfter, plain}
 use Rattle.frame.specs.Decode.{body, decodeRows, decoded}
 use Rattle.frame.proofs.Judge.{long, when-stored, when-broken, when-whole}
 use Rattle.frame.proofs.Lines.{unbroken}
-use Rattle.receiver.specs.Held.{Held, places, addedBy, takenIn, afterFlag, afterOctet, stretchSays}
+use Rattle.receiver.specs.Held.{Held, Usable, places, addedBy, takenIn, afterFlag, afterOctet, stretchSays}
 use Rattle.receiver.proofs.After.{after-flag, closes-other}
 use Rattle.live.specs.Stretches.{stretchesAfter, stretches, answersTo, heardLine}
 use Rattle.live.specs.Calls.{afterAll, handOuts}
 use Rattle.live.proofs.Steps.{fresh, after-taken, after-dropped, closes-flag}
-use Rattle.live.proofs.Steps.{outs-closed, outs-open, other-first}
+use Rattle.live.proofs.Steps.{outs-closed, outs-open, other-first, afterAll-usable, after-append}
 
 -- octets stored behind the first k of a list, as far as it has places
 pub take-sets : (P : ℕ) (v m : List ℕ) (k : ℕ) → length m ≡ P → k ≤ P
@@ -264,6 +264,15 @@ pub holds-always : (h : Held) (p : List ℕ) → length (h .store) ≡ places �
     → Holds p (afterAll (afterFlag h) p)
 holds-always h p e f = holds-more [] p (afterFlag h) (holds-opened h e) f
 
+-- from any record that is not refused: the stretch since the last flag is held
+pub holds-behind : (h : Held) (before p : List ℕ) → Usable h → holds flag p ≡ false
+    → Holds p (afterAll h (before ++ flag ∷ p))
+unfolding afterAll
+holds-behind h before p usable f =
+    let g : Held = afterAll h before in
+    rw (after-append h before (flag ∷ p), after-flag g flag refl)
+    (holds-always g p (afterAll-usable h before usable .0) f)
+
 unfoldable pub flagged : List (List ℕ) → List ℕ → List ℕ
 flagged [] rest = rest
 flagged (p ∷ ps) rest = p ++ flag ∷ flagged ps rest
@@ -279,6 +288,11 @@ stretch-grows p [] s f = rw append-nil
 stretch-grows p (x ∷ q) s f =
     rw (other-first x q f) (stretch-grows (p ++ x ∷ []) q s (holds-tail flag x q f) ∙ rw append-assoc)
 
+-- and none of them closes it
+pub stretch-open : (p q : List ℕ) → holds flag q ≡ false → stretchesAfter p q ≡ []
+unfolding stretchesAfter
+stretch-open p q f = ap (stretchesAfter p) (sym (append-nil q)) ∙ stretch-grows p q [] f
+
 -- up to a flag that closes it
 pub stretch-closed : (p s : List ℕ) → holds flag p ≡ false → stretchesAfter [] (p ++ flag ∷ s) ≡ p ∷ stretchesAfter [] s
 unfolding stretchesAfter
@@ -287,8 +301,7 @@ stretch-closed p s f = stretch-grows [] p (flag ∷ s) f
 parts-are : (ps : List (List ℕ)) (rest : List ℕ) → Flagless ps → holds flag rest ≡ false
     → stretchesAfter [] (flagged ps rest) ≡ ps
 unfolding flagged stretchesAfter
-parts-are [] rest fs f =
-    ap (stretchesAfter []) (sym (append-nil rest)) ∙ stretch-grows [] rest [] f
+parts-are [] rest fs f = stretch-open [] rest f
 parts-are (p ∷ ps) rest fs f =
     stretch-closed p (flagged ps rest) (fs .0) ∙ ap (λ (l : List (List ℕ)). p ∷ l) (parts-are ps rest (fs .1) f)
 

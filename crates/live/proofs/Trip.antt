@@ -1,12 +1,13 @@
 -- The round trip on the line: frames that are written one behind the other, with a flag between two of them or more, come
 -- out as they went in, in order, and nothing else does. Assumes nothing.
 use mathlib.Core.Path.{_≡_, refl, sym, ap, ap₂, _∙_}
-use mathlib.Core.Bool.{true}
-use mathlib.Core.List.{List, [], _∷_, _++_, append-assoc}
+use mathlib.Core.Bool.{true, false}
+use mathlib.Core.List.{List, [], _∷_, _++_, append-assoc, append-nil}
 use Prim.Native.Nat.{ℕ, zero, suc, _<_}
 use native.Mathlib.Nat.{not-suc-le-zero}
 use native.Mathlib.Omega.{arith}
 use lib.ListN.{length, replicate}
+use Rattle.octets.specs.Octets.{holds}
 use Rattle.refusal.specs.Answer.{gives}
 use Rattle.refusal.proofs.Answers.{in-room}
 use Rattle.fcs.specs.Check.{withCheck}
@@ -21,7 +22,7 @@ use Rattle.receiver.specs.Held.{places}
 use Rattle.live.specs.Stretches.{stretchesAfter, stretches, answersTo, heardLine}
 use Rattle.live.specs.Calls.{handOuts}
 use Rattle.live.specs.Sent.{Sent, sent, bodies, Fits, FitEach, linesOf, allGiven}
-use Rattle.live.proofs.Decoder.{it-is-the-decoder, stretch-closed}
+use Rattle.live.proofs.Decoder.{it-is-the-decoder, stretch-open, stretch-closed}
 use Rattle.live.proofs.Steps.{fresh}
 
 module _ (N : ℕ) where
@@ -46,22 +47,36 @@ module _ (N : ℕ) where
         ∙ trip b (fits .0) N l (frameMost N) (fits .1) (fits .2)
         ∙ in-room b (frameMost N) (omega arith)
 
-    frames-heard : (fs : List Sent) → FitEach N (bodies fs) → answersTo N (stretchesAfter [] (sent fs)) ≡ allGiven (bodies fs)
-    unfolding sent bodies allGiven FitEach answersTo stretchesAfter
-    frames-heard [] fit = refl
-    frames-heard (f ∷ fs) fit =
+    -- with something behind them of which nothing is said
+    frames-heard : (fs : List Sent) (rest : List ℕ) → FitEach N (bodies fs) → answersTo N (stretchesAfter [] rest) ≡ []
+        → answersTo N (stretchesAfter [] (sent fs ++ rest)) ≡ allGiven (bodies fs)
+    unfolding sent bodies allGiven FitEach
+    frames-heard [] rest fit quiet = quiet
+    frames-heard (f ∷ fs) rest fit quiet =
         let d : List ℕ = withCheck (f .body) in
         let some : 0 < length (onLine d) = omega (arith, onLine-long d, length-withCheck (f .body)) in
-        idle (f .flags) (onLine d ++ flag ∷ sent fs)
-        ∙ ap (answersTo N) (stretch-closed (onLine d) (sent fs) (no-flag d))
-        ∙ answers-some (onLine d) (stretchesAfter [] (sent fs)) some
-        ∙ ap₂ _∷_ (frame-decoded (f .body) (fit .0)) (frames-heard fs (fit .1))
+        ap (λ (s : List ℕ). answersTo N (stretchesAfter [] s))
+        (append-assoc (replicate (f .flags) flag) (onLine d ++ flag ∷ sent fs) rest
+        ∙ ap (λ (s : List ℕ). replicate (f .flags) flag ++ s) (append-assoc (onLine d) (flag ∷ sent fs) rest))
+        ∙ idle (f .flags) (onLine d ++ flag ∷ (sent fs ++ rest))
+        ∙ ap (answersTo N) (stretch-closed (onLine d) (sent fs ++ rest) (no-flag d))
+        ∙ answers-some (onLine d) (stretchesAfter [] (sent fs ++ rest)) some
+        ∙ ap₂ _∷_ (frame-decoded (f .body) (fit .0)) (frames-heard fs rest (fit .1) quiet)
 
-    -- (d): frames behind a flag, with one flag between two of them or any number more
+    -- (d): frames behind a flag, with one flag between two of them or any number more; behind them any number of flags, and
+    -- the beginning of something
+    pub lines-and-rest : (fs : List Sent) (n : ℕ) (rest m : List ℕ) → FitEach N (bodies fs) → holds flag rest ≡ false
+        → length m ≡ places → handOuts N (fresh m) (flag ∷ (sent fs ++ (replicate n flag ++ rest))) ≡ allGiven (bodies fs)
+    unfolding heardLine stretches answersTo
+    lines-and-rest fs n rest m fit f e =
+        it-is-the-decoder N l m e (flag ∷ (sent fs ++ (replicate n flag ++ rest)))
+        ∙ frames-heard fs (replicate n flag ++ rest) fit
+        (idle n rest ∙ ap (answersTo N) (stretch-open [] rest f))
+
     pub lines-come-through : (fs : List Sent) (m : List ℕ) → FitEach N (bodies fs) → length m ≡ places
         → handOuts N (fresh m) (flag ∷ sent fs) ≡ allGiven (bodies fs)
-    unfolding heardLine stretches
-    lines-come-through fs m fit e = it-is-the-decoder N l m e (flag ∷ sent fs) ∙ frames-heard fs fit
+    unfolding holds
+    lines-come-through fs m fit e = rw append-nil at (lines-and-rest fs 0 [] m fit refl e)
 
 -- each with its own two flags
 ones : List (List ℕ) → List Sent
