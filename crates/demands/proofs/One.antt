@@ -208,15 +208,15 @@ deliver-answers κs a r s = hands-out _ r
 -- the record and its store, and the output; or a number, and all is as it was
 pub receive-answers : (κs : _) (a : _) (r : _) (s : _) → receive-reads.Learnt κs a r s
     → CallTells (received (a .1 .0) (heldOf (a .0) (now (a .1 .1 .1 .0))) (now (a .1 .1 .0))
-    (length (now (a .1 .1 .1 .1 .0)))) (heldOf (a .0) (now (a .1 .1 .1 .0))) (now (a .1 .1 .0)) (now (a .1 .1 .1 .1 .0)) r
-    (now (s .1 .1 .1 .0)) (now (s .1 .1 .1 .1 .0))
+    (length (now (a .1 .1 .1 .1 .0)))) (heldOf (a .0) (now (a .1 .1 .1 .0))) (now (a .1 .1 .0))
+    (now (a .1 .1 .1 .1 .0)) r (now (s .1 .1 .1 .0)) (now (s .1 .1 .1 .1 .0))
 receive-answers κs a r s =
     receives-tells (a .1 .0) (heldOf (a .0) (now (a .1 .1 .1 .0))) (now (a .1 .1 .0)) (now (a .1 .1 .1 .1 .0))
 
 pub receive-in-answers : (κs : _) (a : _) (r : _) (s : _) → receive-in-reads.Learnt κs a r s
     → CallTells (received (a .1 .0) (heldOf (a .0) (now (a .1 .1 .1 .0))) (now (a .1 .1 .0))
-    (length (now (a .1 .1 .1 .1 .0)))) (heldOf (a .0) (now (a .1 .1 .1 .0))) (now (a .1 .1 .0)) (now (a .1 .1 .1 .1 .0)) r
-    (now (s .1 .1 .1 .0)) (now (s .1 .1 .1 .1 .0))
+    (length (now (a .1 .1 .1 .1 .0)))) (heldOf (a .0) (now (a .1 .1 .1 .0))) (now (a .1 .1 .0))
+    (now (a .1 .1 .1 .1 .0)) r (now (s .1 .1 .1 .0)) (now (s .1 .1 .1 .1 .0))
 receive-in-answers κs a r s =
     receives-tells (a .1 .0) (heldOf (a .0) (now (a .1 .1 .1 .0))) (now (a .1 .1 .0)) (now (a .1 .1 .1 .1 .0))
 

@@ -383,12 +383,22 @@ module _ (N : ℕ) (h : Held) (s o : List ℕ) {r : Received} {m o' : List ℕ} 
   call-reads w =
       (read-tells N h s o r m o' (received N h s (length o)) (r .heard) (receives-tells w), w .count, w .held)
 
+  -- a call that is not refused and has octets takes at least one, and no more than it was lent
+  pub call-takes : isLimit N ≡ true → Usable h → frameMost N ≤ length o → Receives (received N h s (length o)) h o r m o'
+      → (0 < length s → 0 < r .taken) × (r .taken ≤ length s)
+  unfolding tookBy
+  call-takes l u fits w =
+      let count = w .count ∙ ap tookBy (not-refused N h s (length o) l u fits) in (
+        λ some. omega (arith, takes-at-least-one N (length o) h s some),
+        omega (arith, takes-at-most N (length o) h s),
+      )
+
   -- for every record: a frame that is handed out has the right check for the octets that the caller reads
   pub right-check-call : {n : ℕ} → Receives (received N h s (length o)) h o r m o' → r .heard ≡ HandedOut (Handed.Octets n)
       → (k : ℕ) × (low : ℕ) × (high : ℕ) × (r .taken ≡ suc k) × (getD s k 0 ≡ flag)
       × (heldOctets (afterAll h (take k s)) ≡ take n o' ++ low ∷ high ∷ []) × (checkOf (take n o') ≡ pairOf low high)
   right-check-call {n} w is =
-      let (t, e, told, count, held, size, there) =
+      let (t, e, told, count, held, long, there) =
       subst (λ (q : Heard). HeardTells q (received N h s (length o)) h s o r m o') is (receives-tells w) in
       let these = call-given N h s (length o) e .3 in
       let (k, size, closing, said, opens) =

@@ -1,9 +1,9 @@
--- Calls with any limits, any outputs and any record: every octet that is not left is taken once, in order, and what is handed
--- out goes by the limit of the call that takes the flag.
+-- Calls with any limits, any outputs and any record: every octet that is not left is taken once, in order, and what is
+-- handed out goes by the limit of the call that takes the flag.
 --   closings h s    == the record before each flag of s that hands something out
 --   Limits Ns       == each of Ns is a frame limit
---   AskedFar h s t w Ns == the octets s took a caller that began with the record h as far as w, t of them are taken, and Ns
---                      are the limits of what was handed out
+--   AskedFar h s t w Ns == a caller that began with the record h has come as far as w: t of the octets s are taken, and
+--                      Ns are the limits of what was handed out
 -- Assumes nothing.
 use mathlib.Core.Path.{_≡_, refl, sym, ap, ap₂, _∙_, subst}
 use mathlib.Core.Bool.{Bool, true, false, cond}
@@ -17,7 +17,7 @@ use Rattle.limits.specs.Limits.{isLimit, frameMost}
 use Rattle.limits.proofs.Exactly.{is-limit-exactly, limit-least}
 use Rattle.frame.specs.Decode.{decoded}
 use Rattle.receiver.specs.Held.{Held, Usable, places, afterOctet, closes, stretchSays}
-use Rattle.receiver.specs.Call.{Took, takes, received, tookBy, heldBy}
+use Rattle.receiver.specs.Call.{Took, takes, tookBy, heldBy}
 use Rattle.live.specs.Stretches.{stretches, answersTo, heardLine}
 use Rattle.live.specs.Calls.{afterAll, handOuts, Worked, toldOuts, outsBy, withOuts}
 use Rattle.live.specs.Asks.{Ask, answerAsked, askAll, limitsOut, nonempty, answersBy}

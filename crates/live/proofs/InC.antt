@@ -2,19 +2,21 @@
 -- crosses tells what was handed out, and the calls made again and again hand out what the decoder says.
 -- Assumes nothing.
 use mathlib.Core.Path.{_≡_, refl, sym, ap, _∙_}
-use mathlib.Core.Bool.{Bool, true, false, not}
+use mathlib.Core.Bool.{Bool, true, false, cond, not}
 use mathlib.Core.List.{List, [], _∷_, _++_, flatten}
 use mathlib.Core.Logic.{_↔_, _⊎_, inl, inr, ⊎-elim, ⊎-map}
 use Prim.Native.Nat.{ℕ, suc, _+_, _-_, _<_, _≤_}
 use native.Mathlib.Omega.{arith}
-use borrow.Author.Tests.{eqb-true, eq-eqb, not-false}
+use borrow.Author.Tests.{eqb-true, eq-eqb, ne-eqb, lt-ltb, le-ltb, not-false}
 use lib.ListN.{length, take, drop, getD, replicate, length-append, length-take}
 use lib.Seq.{take-at, drop-at, getD-drop}
 use Rattle.octets.specs.Octets.{holds, OneOf, pairOf}
 use Rattle.octets.proofs.Bounds.{pair-parts}
+use Rattle.octets.proofs.Stores.{take-start}
 use Rattle.octets.proofs.Words.{holds-exactly}
 use Rattle.refusal.specs.Answer.{Answer, gives, refuses, counted, outAfter}
 use Rattle.limits.specs.Limits.{isLimit, Limited, frameMost}
+use Rattle.frame.specs.Line.{flag}
 use Rattle.receiver.specs.Held.{Held, Usable, places, stretchSays}
 use Rattle.receiver.specs.Call.{Told, nothing, handed, Took, takes, received}
 use Rattle.receiver.specs.Call.{toldCounted, toldBy, tookBy, heldBy, outTold, outBy}
@@ -23,14 +25,15 @@ use Rattle.block.specs.Block.{yes, yesOctet, marksIn, marksOctets, heldIn, bloc
 use Rattle.capi.specs.Crossing.{refusals, crossed, heardCrossed, Crosses, takenAfter, Hears}
 use Rattle.capi.proofs.Crosses.{low-told}
 use Rattle.live.specs.Stretches.{heardLine}
-use Rattle.live.specs.Calls.{Offer, Worked, outsBy, withOuts, offers, runAgain, fed}
-use Rattle.live.specs.InC.{blockSize, zeros, ReceiveTells}
+use Rattle.live.specs.Calls.{Offer, Worked, toldOuts, outsBy, withOuts, offers, runAgain, fed}
+use Rattle.live.specs.Sent.{Sent, sent, bodies, FitEach, allGiven, Written, AllWritten, writtenBodies, writtenLines}
+use Rattle.live.specs.InC.{blockSize, zeros, ReceiveTells, readC}
 use Rattle.live.specs.InC.{Lent, heldLent, withOutsC, offersC, fedC}
 use Rattle.live.proofs.Steps.{fresh, afterAll-usable}
 use Rattle.live.proofs.Answered.{numbers-said, frame-size, refused-6, refused-other, call-given}
 use Rattle.live.proofs.Answered.{told-nothing, told-at-flag}
-use Rattle.live.proofs.Cuts.{one-call}
-use Rattle.live.proofs.Called.{called-decoder}
+use Rattle.live.proofs.Cuts.{one-call, cuts}
+use Rattle.live.proofs.Called.{called-decoder, called-lines-and-rest, written-called}
 
 -- "All zeros is a fresh one"
 pub zeros-fresh : heldIn zeros ≡ fresh (replicate places 0)
@@ -245,3 +248,83 @@ module _ (N : ℕ) where
       fed-holds room zeros rs refl .0 ∙ ap (λ (h : Held). fed N room h rs) zeros-fresh in
       let all = called-decoder N limit (replicate places 0) refl room fits rs in
       (ap (λ (w : Worked). w .outs) held ∙ all .0, ap (λ (w : Worked). w .left) held ∙ all .1)
+
+-- what is read of a number that crosses
+module _ (o : List ℕ) where
+  read-frame : (r : ℕ) → 0 < r → r < refusals → readC r o ≡ gives (take r o) ∷ []
+  unfolding readC
+  read-frame r some few = rw (ne-eqb r 0 (λ e. omega arith), lt-ltb r refusals few)
+
+  read-above : (k : ℕ) → readC (refusals + k) o ≡ cond (holds k (1 ∷ 2 ∷ 3 ∷ 4 ∷ [])) (refuses k ∷ []) []
+  unfolding readC
+  read-above k =
+      let n : refusals + k - refusals ≡ k = omega arith in
+      rw (ne-eqb (refusals + k) 0 (λ e. omega arith), le-ltb (refusals + k) refusals (omega arith), n)
+
+module _ (N : ℕ) (h : Held) (s o : List ℕ) (r : ℕ) (o' : List ℕ) where
+  read-told : (u : Took) → received N h s (length o) ≡ gives u → (d : Told (List ℕ)) → u .told ≡ d
+      → r ≡ heardCrossed (gives (toldCounted d)) → o' ≡ outTold d o → readC r o' ≡ toldOuts d
+  unfolding heardCrossed toldCounted outTold toldOuts crossed counted outAfter readC
+  read-told u e nothing q number octets = rw number
+  read-told u e (handed (gives f)) q number octets =
+      let (n, g, said) = told-said N h s (length o) e q in
+      let size = frame-size N (length o) g said in
+      let limit = call-given N h s (length o) e .0 in
+      let these : take r o' ≡ f = rw (number, octets) (take-start f o) in
+      read-frame o' r (omega arith) (omega arith) ∙ ap (λ (l : List ℕ). gives l ∷ []) these
+  read-told u e (handed (refuses k)) q number octets =
+      let (n, g, said) = told-said N h s (length o) e q in
+      let fits = call-given N h s (length o) e .2 in
+      let among = holds-exactly k (1 ∷ 2 ∷ 3 ∷ 4 ∷ []) .1 (numbers-once (numbers-said N (length o) g fits said)) in
+      ap (λ (j : ℕ). readC j o') number ∙ read-above o' k ∙ rw among
+
+  read-refused : (k : ℕ) → received N h s (length o) ≡ refuses k → r ≡ refusals + k → readC r o' ≡ []
+  unfolding holds
+  read-refused k e number =
+      ap (λ (j : ℕ). readC j o') number
+      ∙ read-above o' k
+      ∙ ⊎-elim (λ q. rw q) (λ q. rw q) (refused-other N h s (length o) e)
+
+  read-crossed : r ≡ heardCrossed (toldBy (received N h s (length o))) → o' ≡ outBy (received N h s (length o)) o
+      → readC r o' ≡ outsBy (received N h s (length o))
+  unfolding heardCrossed toldBy outBy outsBy
+  read-crossed = go (received N h s (length o)) refl
+    where
+      go : (x : Answer Took) → received N h s (length o) ≡ x → r ≡ heardCrossed (toldBy x) → o' ≡ outBy x o
+          → readC r o' ≡ outsBy x
+      go (gives u) e number octets = read-told u e (u .told) refl number octets
+      go (refuses k) e number octets = read-refused k e number
+
+-- what a caller reads is what is handed out
+pub c-reads : (N : ℕ) (b s o : List ℕ) {n r t : ℕ} {b' o' : List ℕ}
+    → Hears (received N (heldIn b) s (length o)) b o n r b' o' t
+    → readC r o' ≡ outsBy (received N (heldIn b) s (length o))
+c-reads N b s o {r} {o' = o'} w = read-crossed N (heldIn b) s o r o' (w .number) (w .octets)
+
+module _ (N : ℕ) (limit : isLimit N ≡ true) where
+  -- (b), in C: however octets are cut into runs, with any block that is not refused
+  pub c-cuts : {room room' : ℕ} → frameMost N ≤ room → frameMost N ≤ room' → (b : List ℕ) (rs qs : List (List ℕ))
+      → length b ≡ blockSize → Usable (heldIn b) → flatten rs ≡ flatten qs
+      → heldLent (fedC N room b rs) ≡ heldLent (fedC N room' b qs)
+  c-cuts {room} {room'} fits fits' b rs qs size usable e =
+      fed-holds N room b rs size .0
+      ∙ cuts N limit fits fits' (heldIn b) rs qs usable e
+      ∙ sym (fed-holds N room' b qs size .0)
+
+  module _ (room : ℕ) (fits : frameMost N ≤ room) (rs : List (List ℕ)) where
+    zeros-outs : fedC N room zeros rs .outs ≡ fed N room (fresh (replicate places 0)) rs .outs
+    zeros-outs =
+        ap (λ (w : Worked). w .outs)
+        (fed-holds N room zeros rs refl .0 ∙ ap (λ (h : Held). fed N room h rs) zeros-fresh)
+
+    -- (d), in C: frames behind a flag, with one flag between two of them or any number more; behind them any number of
+    -- flags, and the beginning of something
+    pub c-lines : (fs : List Sent) (n : ℕ) (rest : List ℕ) → FitEach N (bodies fs) → holds flag rest ≡ false
+        → flatten rs ≡ flag ∷ (sent fs ++ (replicate n flag ++ rest)) → fedC N room zeros rs .outs ≡ allGiven (bodies fs)
+    c-lines fs n rest fit f e =
+        zeros-outs ∙ called-lines-and-rest N limit (replicate places 0) refl room fits rs fs n rest fit f e
+
+    -- and from the writer's answers
+    pub c-written : (ws : List Written) → AllWritten N ws → flatten rs ≡ flatten (writtenLines ws)
+        → fedC N room zeros rs .outs ≡ allGiven (writtenBodies ws)
+    c-written ws all e = zeros-outs ∙ written-called N limit (replicate places 0) refl room fits rs ws all e

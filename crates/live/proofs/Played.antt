@@ -1,5 +1,5 @@
--- A caller that knows of the receiver only what its promise says: whatever answers the promise allows, what it reads is what
--- the decoder says. Assumes nothing.
+-- A caller that knows of the receiver only what its promise says: whatever answers the promise allows, what it reads is
+-- what the decoder says. Assumes nothing.
 use mathlib.Core.Path.{_≡_, refl, sym, ap, ap₂, _∙_}
 use mathlib.Core.Bool.{true}
 use mathlib.Core.List.{List, [], _∷_}

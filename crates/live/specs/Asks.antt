@@ -1,5 +1,5 @@
--- Calls with any limits, any outputs and any record, one after the other over the same octets. 02 (i): "a hand-out goes by the
--- N of the call that takes the flag".
+-- Calls with any limits, any outputs and any record, one after the other over the same octets: what is handed out goes by
+-- the limit of the call that takes the flag.
 --   Ask               == one call: its frame limit, how many of the octets that are left are lent, an output of how many
 --   askAll h s cs     == how far the calls cs over the octets s take a caller that begins with the record h
 --   limitsOut h s cs  == the limits of those of the calls that hand something out, in order

@@ -9,12 +9,12 @@
 --   CallTells x h s o r m o' == what the code's answer r, the store m and the output o' tell of the answer x to a call with
 --                       the record h, the run s and the output o, by the cases of what was heard (HeardTells)
 --   readOut q o      == what a caller reads: of what it heard, q, and the output o that it got back
---   Round             == one call and what came of it: how many of the octets that are left are lent, the output, the code's
+--   Round            == one call and what came of it: how many of the octets that are left are lent, the output, the code's
 --                       answer, and the store and the output after it
 --   played h s cs    == how far the calls cs over the octets s take a caller: it reads what it gets back, and goes on with
 --                       the record and the store that it got back and with the octets that were not taken
 --   Kept N h s cs    == each answer of such calls is one that the promise of `receive` allows
---   roundOffers cs    == how the calls cs offer the octets
+--   roundOffers cs   == how the calls cs offer the octets
 --   Likewise t u     == two calls go equally far, with the same record behind them, and both hand something out or neither
 -- Assumes nothing.
 use mathlib.Core.Path.{_≡_}

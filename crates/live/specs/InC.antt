@@ -7,16 +7,19 @@
 --   Number k x o t o' == it handed out the refusal k of a stretch
 --   Declined k x b o c b' o' t == it was refused itself, with k: nothing is taken, and nothing is changed
 --   ReceiveTells x b s o c r b' o' t == what the number r tells of it
+--   readC r o        == what a caller reads of the number r that crosses and the output o that it got back
 --   Lent             == how far such a caller has come: the block, the octets that are not taken yet, what was handed out;
 --                       heldLent w == the same, with the record that the block holds
 --   offersC N b s cs, fedC N room b rs == as `offers` and `fed` of Calls, with the block for the record
 -- Assumes nothing.
 use mathlib.Core.Path.{_≡_}
+use mathlib.Core.Bool.{cond}
 use mathlib.Core.List.{List, [], _∷_, _++_}
 use mathlib.Core.Logic.{_⊎_}
 use Prim.Native.Nat.{ℕ, suc, _-_, _<_, _≤_}
+use lib.Dec.{eqb, ltb}
 use lib.ListN.{length, take, drop, replicate}
-use Rattle.octets.specs.Octets.{OneOf, _atStartOf_}
+use Rattle.octets.specs.Octets.{holds, OneOf, _atStartOf_}
 use Rattle.refusal.specs.Answer.{Answer, gives, refuses}
 use Rattle.receiver.specs.Call.{nothing, handed, Took, received, tookBy}
 use Rattle.block.specs.Block.{heldIn, blockAfter}
@@ -89,3 +92,10 @@ fedC N room b (r ∷ rs) =
     let w : Lent = offersC N b r (runAgain (suc (length r)) (length r) room) in
     let v : Lent = fedC N room (w .block) rs in
     record { block = v .block; left = w .left ++ v .left; outs = w .outs ++ v .outs }
+
+-- a frame at the start of the output, or the number of a stretch; a call that is refused hands out nothing
+unfoldable pub readC : ℕ → List ℕ → List (Answer (List ℕ))
+readC r o =
+    cond (eqb r 0) []
+    (cond (ltb r refusals) (gives (take r o) ∷ [])
+    (cond (holds (r - refusals) (1 ∷ 2 ∷ 3 ∷ 4 ∷ [])) (refuses (r - refusals) ∷ []) []))
