@@ -19,7 +19,10 @@ pub use Rattle.live.proofs.Cuts.{cuts, any-way}
 pub use Rattle.live.proofs.Noise.{resynchronised}
 pub use Rattle.live.proofs.Trip.{lines-come-through}
 pub use Rattle.live.proofs.Called.{called-decoder, called-noise, called-lines}
-pub use Rattle.live.proofs.Answered.{right-check}
+pub use Rattle.live.proofs.Played.{promise-decoder}
+pub use Rattle.live.proofs.Asked.{asks-are, asked-decoder}
+pub use Rattle.live.proofs.Flags.{flag-4, flag-2, flag-1, flag-3, flag-frame}
+pub use Rattle.live.proofs.Answered.{right-check-call}
 -- ---- demand 3: in bits over depth, cap, limit and starting beginning; in octets, of the code's record
 pub use Rattle.walk.proofs.Demand.{demand3}
 pub use Rattle.walk.proofs.Answers.{any-answers}

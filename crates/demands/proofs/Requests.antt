@@ -1,33 +1,44 @@
 -- The change requests, each in its own words: where its statement stands. Assumes nothing.
 
 -- ---- (i) the live line: "takes octets in runs of any length, also none, and hands out each frame or its refusal number when the
--- closing flag comes": from a fresh receiver, what the decoder says of each stretch between two flags, over the octets, over
--- the calls made one after the other, and from C; what a stretch is
-pub use Rattle.live.proofs.Decoder.{it-is-the-decoder, stretches-are, says-decoded, holds-always}
+-- closing flag comes": from a fresh receiver, what the decoder says of each stretch between two flags, over the octets; over
+-- calls made one after the other; of what a caller reads of any answers that the promise allows; and from C
+pub use Rattle.live.proofs.Decoder.{it-is-the-decoder, stretches-are, says-decoded, holds-always, holds-behind}
 pub use Rattle.live.proofs.Called.{called-decoder, offered-decoder}
-pub use Rattle.live.proofs.InC.{c-decoder, zeros-fresh, block-holds, offered-holds, fed-holds}
+pub use Rattle.live.proofs.Answered.{call-reads}
+pub use Rattle.live.proofs.Played.{played-offers, promise-passed, promise-decoder}
+pub use Rattle.live.proofs.InC.{c-reads, c-decoder, zeros-fresh, block-holds, offered-holds, fed-holds}
+-- when a flag hands something out, and each number, exactly then, for any record: 4, then 2 where more came than the store has
+-- places, then 1, 2, 3
+pub use Rattle.live.proofs.Flags.{closes-exactly, flag-4, flag-2, flag-1, flag-3, flag-frame, fresh-words, flag-words}
 -- "It stops after each closing flag that hands something out and tells how many octets it took": one at least, where there are any
-pub use Rattle.live.proofs.Answered.{how-far, told-at-flag, told-nothing, takes-at-least-one, takes-at-most}
+pub use Rattle.live.proofs.Answered.{how-far, told-at-flag, told-nothing, takes-at-least-one, takes-at-most, call-takes}
 -- "A record holding more octets than its store gets 6, then an output shorter than 76 gets 5; nothing is taken": which (iv) makes
 -- N - 2, with 6 first for a number that is no limit; each exactly then; from C, too; neither is ever handed out
 pub use Rattle.live.proofs.Answered.{refused-6, refused-5, refused-other, refusal-changes-nothing, not-refused}
 pub use Rattle.live.proofs.Answered.{says-no-5, says-no-6}
 pub use Rattle.live.proofs.InC.{block-refused-6, yes-exactly}
--- "Two flags side by side hand out nothing; octets before the first flag are dropped": `stretches-are` and `it-is-the-decoder`
+-- "Two flags side by side hand out nothing; octets before the first flag are dropped": `stretches-are`, and of any record
+pub use Rattle.live.proofs.Flags.{unseen-dropped}
 -- "However the same octets are cut, the frames, refusals and end state agree": cut into runs, empty ones too, and lent again with
--- what was left, or offered in any way at all; every octet is taken once, in order
+-- what was left, or offered in any way at all; every octet is taken once, in order; from C, too
 pub use Rattle.live.proofs.Cuts.{cuts, fed-all, any-way, offers-are}
+pub use Rattle.live.proofs.InC.{c-cuts}
 -- "After any noise, the next flag and what follows it are read as by a fresh receiver, save that this flag may also close the noisy
 -- stretch": from any record that is not refused
 pub use Rattle.live.proofs.Noise.{resynchronised, alike-outs}
 pub use Rattle.live.proofs.Called.{called-noise}
--- lines written one after the other, with or without shared flags, hand out exactly the frames that were put in
-pub use Rattle.live.proofs.Trip.{lines-come-through, written-lines}
-pub use Rattle.live.proofs.Called.{called-lines, called-lines-of, written-called}
--- a hand-out goes by the N of the call that takes the flag; the record, and how far a call goes, by none
+-- lines written one after the other, with or without shared flags, hand out exactly the frames that were put in; from C, too
+pub use Rattle.live.proofs.Trip.{lines-come-through, lines-and-rest, written-lines}
+pub use Rattle.live.proofs.Called.{called-lines, called-lines-and-rest, called-lines-of, written-called}
+pub use Rattle.live.proofs.InC.{c-lines, c-written}
+-- a hand-out goes by the N of the call that takes the flag; the record, and how far a call goes, by none: over calls with any
+-- limits, outputs and records, refused ones among them
 pub use Rattle.live.proofs.Called.{change-of-limit, limit-at-flag, flagless-taken}
--- for every record, also one that no receiver made: a frame that is handed out has the right check for its octets
-pub use Rattle.live.proofs.Answered.{right-check, right-check-octets, frame-size}
+pub use Rattle.live.proofs.Asked.{asks-are, asks-refused, asked-decoder}
+-- for every record, also one that no receiver made: a frame that is handed out has the right check for its octets, those that stand
+-- in the output
+pub use Rattle.live.proofs.Answered.{right-check, right-check-octets, right-check-call, frame-size}
 -- ---- (ii) wild cards: vendor 0xFF 0xFF and type 0xFF, "those two values match every device in an assignment."
 -- as if no type, or no vendor, were given, whatever else is
 pub use Rattle.xid.proofs.Wild.{wild-type, wild-vendor}
