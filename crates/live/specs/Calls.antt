@@ -2,7 +2,7 @@
 --   afterAll h s     == the record h after the octets s, one by one; handOuts N h s == what is handed out over them
 --   Offer            == one call: how many of the octets that are left are lent, and an output of how many octets
 --   Worked           == how far a caller has come: the record, the octets that are not taken yet, what was handed out
---   offers N h s cs == one call for each of cs over the octets s
+--   offers N h s cs  == one call for each of cs over the octets s
 --   fed N room h rs  == the runs rs one after the other, each lent whole, and again with what was left of it; empty runs, too
 --   Roomy N cs       == no output is shorter than N - 2
 --   Alike h g        == two records are equal but for places of the store past the count

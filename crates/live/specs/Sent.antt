@@ -4,9 +4,9 @@
 --   sent fs        == behind a flag: the frames fs, a flag behind each
 --   bodies fs      == address, control and payload of each
 --   Fits N b       == address, control and payload of a frame within the limit N
---   FitEach N bs    == each of bs is
+--   FitEach N bs   == each of bs is
 --   linesOf bs     == the line of each of bs, each with its own two flags
---   allGiven bs       == each of bs is handed out
+--   allGiven bs    == each of bs is handed out
 --   Written        == what was handed to the writer, with the room that it was lent, and the line that it gave
 --   AllWritten N ws == each line of ws is what the writer with the limit N gave; writtenLines ws == the lines, and
 --                     writtenBodies ws == address, control and payload of each

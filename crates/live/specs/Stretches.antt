@@ -3,7 +3,7 @@
 --   stretchesAfter p s == behind a flag and the octets p: what each flag of s closes
 --   stretches s        == what lies between each flag of s and the next one
 --   answersTo N ps     == what the decoder with the frame limit N says of each of the stretches ps that has octets
---   heardLine N s          == what is handed out over the octets s
+--   heardLine N s      == what is handed out over the octets s
 -- Assumes nothing.
 use mathlib.Core.Bool.{cond}
 use mathlib.Core.List.{List, [], _∷_, _++_}

@@ -1,12 +1,15 @@
 -- One call of the receiver: a record, the frame limit N, a run of octets, a lent output. 02 (i): "It stops after each closing
 -- flag that hands something out and tells how many octets it took".
---   Told A          == what a call tells: nothing, or what was handed out
---   Took            == a call that is not refused: the record after it, how many octets it took, and what it tells
+--   Told A           == what a call tells: nothing, or what was handed out
+--   Took             == a call that is not refused: the record after it, how many octets it took, and what it tells
+--   further t        == the same, with one octet more in front
 --   takes N room h s == what is taken of the octets s: up to and with the first flag that hands something out, or all
 --   receiveRows N h room == the rows of the numbers for a call that takes nothing
 --   received N h s room == the answer to the call
+--   heardOf r        == what the code tells, in the paper's numbers; toldCounted, toldBy == what it should tell
+--   tookBy x, heldBy x h, outTold, outBy x o == how many octets are taken, the record and the output after the answer x
 --   Receives x h o r m o' == the code's answer r, the store m and the output o', of a call with the record h and the output
---                      o, are the answer x
+--                       o, are the answer x
 -- Assumes nothing.
 use mathlib.Core.Path.{_≡_}
 use mathlib.Core.Bool.{cond, not}
