@@ -1,4 +1,4 @@
-/* Codec and receiver in C, as the measure for ours. It keeps the promises of include/gorittaem.h, and answers as the
+/* Codec and receiver in C, as the measure for ours. They keep the promises of include/gorittaem.h, and answer as the
  * functions there do: the same numbers, nothing written on a refusal, room asked for exactly the octets written. */
 #ifndef BASELINE_H
 #define BASELINE_H

@@ -79,20 +79,23 @@ size_t gorittaem_write_n(size_t limit, uint8_t address, uint8_t control, const u
 
 /* Takes octets of a live line as they come, in runs of any length. `receiver` points to GORITTAEM_RECEIVER octets, which the
  * call reads and writes: all zeros is a fresh receiver, and after that it is handed in as the last call left it. It is the
- * whole record, so each line has one of its own. No octet of receiver, run, output and `*taken` may also be one of another.
+ * whole record, so each line has one of its own. Neither `receiver` nor `taken` may be null, and no octet of `receiver`,
+ * `octets`, `out` and `*taken` may also be one of another.
  *
  * The call takes octets up to and with the first flag that hands something out, or all of them, and says in `*taken` how
- * many, at least one where there are any: call again with those that are left, until none are. A flag hands something out where it closes a stretch of at
- * least one octet: what gorittaem_decode_n says, with the N of this call, of the octets between the flag before and this one,
- * however they were cut into runs. Octets before the first flag are dropped, and two flags side by side hand out nothing.
+ * many, at least one where there are any: call again with those that are left, until none are. A flag hands something out
+ * where it closes a stretch of at least one octet: what gorittaem_decode_n says, with the N of this call, of the octets
+ * between the flag before and this one, however they were cut into runs. Octets before the first flag are dropped, and two
+ * flags side by side hand out nothing.
  *   0                                 nothing was handed out, and all octets were taken
  *   2 to N - 2                        a frame: so many octets of address, control and payload stand at the start of `out`
  *   GORITTAEM_REFUSED + 4, 1, 2 or 3  the stretch is no frame; where several hold, the first in this order
  *   GORITTAEM_REFUSED + 6 or 5        the call is refused: nothing is taken, and receiver, output and `*taken` are as they were
  * The call is refused with 6 for an N outside 78 to 260 and for a receiver that holds more than 260 octets, which no call
- * leaves; then with 5 for less room than N - 2; and for nothing else. Whatever else stands in a receiver, a frame that is
- * handed out has the right check. Of its octets the last five stand for a yes or a no each: no exactly if 0; a call that is not
- * refused writes a yes as 1. */
+ * makes; then with 5 for less room than N - 2; and for nothing else. Whatever else stands in a receiver, a frame that is
+ * handed out has the right check. Where the call is refused `*taken` is not written: look at the answer first, or set it
+ * to 0 before. The record's layout: 260 octets of store, the count, low octet first, and five octets that stand for a yes or a
+ * no each, no exactly if 0; a call that is not refused writes a yes as 1. */
 size_t gorittaem_receive(uint8_t *receiver, size_t limit, const uint8_t *octets, size_t len, uint8_t *out, size_t room,
                          size_t *taken);
 

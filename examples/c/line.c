@@ -16,9 +16,19 @@ enum { LIMIT = GORITTAEM_LIMIT };
 /* what comes on the line, and what is to be told of it */
 static uint8_t line[1024];
 static size_t len;
-static const size_t right[] = {
-    7, 2, GORITTAEM_REFUSED + GORITTAEM_WRONG_CHECK, GORITTAEM_REFUSED + GORITTAEM_TOO_SHORT,
-    GORITTAEM_REFUSED + GORITTAEM_BROKEN, GORITTAEM_REFUSED + GORITTAEM_TOO_LONG, 7, 2,
+static const uint8_t set_tilt[] = {0x01, 0x10, 0x33, 0x02, 0x00, 0x7D, 0x00}, polled[] = {0x01, 0x11};
+static const struct {
+    size_t answer;
+    const uint8_t *frame;
+} right[] = {
+    {sizeof set_tilt, set_tilt},
+    {sizeof polled, polled},
+    {GORITTAEM_REFUSED + GORITTAEM_WRONG_CHECK, NULL},
+    {GORITTAEM_REFUSED + GORITTAEM_TOO_SHORT, NULL},
+    {GORITTAEM_REFUSED + GORITTAEM_BROKEN, NULL},
+    {GORITTAEM_REFUSED + GORITTAEM_TOO_LONG, NULL},
+    {sizeof set_tilt, set_tilt},
+    {sizeof polled, polled},
 };
 static size_t told;
 static int wrong;
@@ -31,11 +41,13 @@ static void tell(size_t answer, const uint8_t *frame)
         for (size_t i = 0; i < answer; i++)
             printf("%s%02x", i ? " " : "", frame[i]);
     printf("\n");
-    wrong |= told >= sizeof right / sizeof *right || answer != right[told];
+    wrong |= told >= sizeof right / sizeof *right || answer != right[told].answer
+             || (right[told].frame && memcmp(frame, right[told].frame, answer));
     told++;
 }
 
-/* the next octets, as many as are there: 0 at the end of the line, -1 for a fault; a signal is neither */
+/* the next octets of a descriptor that blocks, as many as are there: 0 at the end of the line, -1 for a fault; a signal is
+ * neither */
 static ssize_t next_run(int fd, uint8_t *run, size_t room)
 {
     ssize_t n;
@@ -74,10 +86,10 @@ static void add(const void *octets, size_t n)
 /* frames, and noise before, between and behind them; room that is always enough, so no length here is a refusal */
 static void make_line(void)
 {
-    const uint8_t payload[] = {0x33, 0x02, 0x00, 0x7D, 0x00}, noise[] = {0x13, 0x7D, 0x00, 0xFF};
+    const uint8_t noise[] = {0x13, 0x7D, 0x00, 0xFF};
     uint8_t tilt[GORITTAEM_LINE_ROOM], poll[GORITTAEM_LINE_ROOM], hum[300];
-    size_t n = gorittaem_write(0x01, 0x10, payload, sizeof payload, tilt, sizeof tilt);
-    size_t m = gorittaem_write(0x01, 0x11, NULL, 0, poll, sizeof poll);
+    size_t n = gorittaem_write(set_tilt[0], set_tilt[1], set_tilt + 2, sizeof set_tilt - 2, tilt, sizeof tilt);
+    size_t m = gorittaem_write(polled[0], polled[1], NULL, 0, poll, sizeof poll);
     memset(hum, 0x55, sizeof hum);
 
     add(noise, sizeof noise); /* before the first flag: dropped */

@@ -9,11 +9,11 @@ use Rattle.receiver.specs.Call.{Took}
 use Rattle.receiver.specs.declared.Heard.{Heard}
 use Rattle.receiver.proofs.Only.{heard-apart}
 use Rattle.block.specs.Block.{Blocks}
-use Rattle.block.specs.declared.Told.{Told}
+use Rattle.block.specs.declared.Returned.{Returned}
 use Rattle.block.proofs.receive.Reads as receive-reads
 
 -- every promise by `Blocks` allows one answer, one block and one output
-pub blocks-only : {right : Answer Took} {b o c d p q : List ℕ} {r s : Told}
+pub blocks-only : {right : Answer Took} {b o c d p q : List ℕ} {r s : Returned}
     → Blocks right b o r c p → Blocks right b o s d q → (r ≡ s) × (c ≡ d) × (p ≡ q)
 blocks-only {r = r} {s = s} a b = (
   ap₂ (λ (k : ℕ) (h : Heard). record { taken = k; heard = h }) (only (a .count) (b .count))

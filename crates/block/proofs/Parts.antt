@@ -16,7 +16,7 @@ use Rattle.receiver.specs.declared.Receiver.{Receiver}
 use Rattle.receiver.specs.declared.Received.{Received}
 use Rattle.receiver.specs.Held.{Held, heldOf, places}
 use Rattle.receiver.specs.Call.{Took, heardOf, toldBy, heldBy, Receives}
-use Rattle.block.specs.Block.{marksIn, marksOctets, refusedCall, heldIn, blockAfter, Blocks}
+use Rattle.block.specs.Block.{blockSize, marksIn, marksOctets, refusedCall, heldIn, blockAfter, Blocks}
 
 -- as many octets as there are places
 pub sets-whole : (b o : List ℕ) → length b ≡ length o → sets o 0 b ≡ b
@@ -33,7 +33,7 @@ unfolding heldIn
 held-parts b e = ap (λ (r : Receiver). heldOf r (take places b)) (e ∙ ap marksIn (take-rest places b))
 
 -- the store's part of a block
-pub store-whole : (m b : List ℕ) → length (m ++ drop places b) ≡ length b → length b ≡ places + 7 → length m ≡ places
+pub store-whole : (m b : List ℕ) → length (m ++ drop places b) ≡ length b → length b ≡ blockSize → length m ≡ places
 store-whole m b e l = omega (arith, length-append m (drop places b), length-drop places b)
 
 -- as many octets behind the first as there are places left fill the rest

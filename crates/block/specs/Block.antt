@@ -1,5 +1,6 @@
 -- A receiver's record as a block of octets that a caller lends: the store, how many octets it holds, low octet first, and five
 -- octets that each stand for a yes or a no.
+--   marksSize        == 7: the octets behind the store; blockSize == 267: those of a block
 --   yes x            == such an octet is no exactly if 0; yesOctet b == the octet that is written
 --   marksIn t        == the record that the seven octets t behind the store stand for
 --   marksOctets r    == the seven octets that the record r is written as
@@ -12,7 +13,7 @@
 use mathlib.Core.Path.{_≡_}
 use mathlib.Core.Bool.{Bool, true, false, cond, not}
 use mathlib.Core.List.{List, [], _∷_, _++_}
-use Prim.Native.Nat.{ℕ}
+use Prim.Native.Nat.{ℕ, _+_}
 use lib.Dec.{eqb}
 use lib.ListN.{getD, take, drop}
 use Rattle.octets.specs.Octets.{lowOf, highOf, pairOf}
@@ -20,7 +21,13 @@ use Rattle.refusal.specs.Answer.{Answer, gives, refuses}
 use Rattle.receiver.specs.declared.Receiver.{Receiver}
 use Rattle.receiver.specs.Held.{Held, heldOf, places}
 use Rattle.receiver.specs.Call.{Took, heardOf, toldBy, tookBy, outBy}
-use Rattle.block.specs.declared.Told.{Told}
+use Rattle.block.specs.declared.Returned.{Returned}
+
+abbrev pub marksSize : ℕ
+marksSize = 7
+
+abbrev pub blockSize : ℕ
+blockSize = places + marksSize
 
 abbrev pub yes : ℕ → Bool
 yes x = not (eqb x 0)
@@ -63,7 +70,7 @@ blockAfter (gives t) b = t .held .store ++ marksOctets (t .held .marks)
 blockAfter (refuses k) b = b
 
 -- as `Receives` of receiver/specs/Call, with the block for the record
-pub record Blocks (right : Answer Took) (b o : List ℕ) (r : Told) (b' o' : List ℕ) : Type 0 where
+pub record Blocks (right : Answer Took) (b o : List ℕ) (r : Returned) (b' o' : List ℕ) : Type 0 where
   pub answer : heardOf (r .heard) ≡ toldBy right
   pub count : r .taken ≡ tookBy right
   pub block : b' ≡ blockAfter right b

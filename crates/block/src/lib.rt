@@ -4,18 +4,18 @@
 ghost use mathlib.Core.Path.{_≡_};
 ghost use lib.ListN.{length};
 ghost use Rattle.receiver.specs.Call.{received, heardOf};
-ghost use Rattle.block.specs.Block.{refusedCall, yesOctet, marksIn, marksOctets, heldIn, Blocks};
+ghost use Rattle.block.specs.Block.{marksSize, blockSize, refusedCall, yesOctet, marksIn, marksOctets, heldIn, Blocks};
 use receiver::Heard;
 use receiver::PLACES;
 use receiver::Receiver;
 
-// The octets of a block, and those behind the store.
+// The octets behind the store, and those of a whole block.
 const MARKS: usize = 7;
 
 pub const BLOCK: usize = PLACES + MARKS;
 
 // A call's answer: how many octets were taken, and what was handed out.
-pub struct Told {
+pub struct Returned {
     pub taken: usize,
     pub heard: Heard,
 }
@@ -33,7 +33,7 @@ fn is_refused(heard: Heard) -> bool
 
 // The record that the octets behind the store stand for.
 fn marks(t: &[u8]) -> Receiver
-    requires { ⌜ length (now t) ≡ 7 ⌝ }
+    requires { ⌜ length (now t) ≡ marksSize ⌝ }
     ensures { λ r. ⌜ r ≡ marksIn (now (t .entry)) ⌝ }
 {
     Receiver {
@@ -55,7 +55,7 @@ fn yes_octet(b: bool) -> u8
 
 // Writes a record there.
 fn put_marks(receiver: Receiver, t: &mut [u8])
-    requires { ⌜ length (now t) ≡ 7 ⌝ }
+    requires { ⌜ length (now t) ≡ marksSize ⌝ }
     ensures { λ _. ⌜ now (t .exit) ≡ marksOctets receiver ⌝ }
 {
     t[0] = (receiver.count % 256) as u8;
@@ -68,8 +68,8 @@ fn put_marks(receiver: Receiver, t: &mut [u8])
 }
 
 // The call, with the block as a slice, of which parts can be lent.
-fn receive_by(block: &mut [u8], limit: usize, run: &[u8], out: &mut [u8]) -> Told
-    requires { ⌜ length (now block) ≡ 267 ⌝ }
+fn receive_by(block: &mut [u8], limit: usize, run: &[u8], out: &mut [u8]) -> Returned
+    requires { ⌜ length (now block) ≡ blockSize ⌝ }
     ensures { λ r. ⌜ Blocks (received limit (heldIn (now (block .entry))) (now (run .entry)) (length (now (out .entry))))
         (now (block .entry)) (now (out .entry)) r (now (block .exit)) (now (out .exit)) ⌝ }
 {
@@ -79,14 +79,14 @@ fn receive_by(block: &mut [u8], limit: usize, run: &[u8], out: &mut [u8]) -> Tol
     let taken = received.taken;
     let heard = received.heard;
     if is_refused(heard) {
-        return Told { taken, heard };
+        return Returned { taken, heard };
     }
     put_marks(received.receiver, &mut block[at..]);
-    Told { taken, heard }
+    Returned { taken, heard }
 }
 
 // Octets received: as `receiver::receive`, with the record in `block`.
-pub fn receive(block: &mut [u8; BLOCK], limit: usize, run: &[u8], out: &mut [u8]) -> Told
+pub fn receive(block: &mut [u8; BLOCK], limit: usize, run: &[u8], out: &mut [u8]) -> Returned
     ensures { λ r. ⌜ Blocks (received limit (heldIn (now (block .entry))) (now (run .entry)) (length (now (out .entry))))
         (now (block .entry)) (now (out .entry)) r (now (block .exit)) (now (out .exit)) ⌝ }
 {

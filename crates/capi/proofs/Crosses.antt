@@ -17,7 +17,7 @@ use Rattle.receiver.specs.Call.{Took, heardOf, toldBy, tookBy}
 use Rattle.receiver.specs.declared.Heard.{Heard}
 use Rattle.receiver.specs.declared.Heard.the-variants.{Nothing, HandedOut}
 use Rattle.block.specs.Block.{Blocks}
-use Rattle.block.specs.declared.Told.{Told}
+use Rattle.block.specs.declared.Returned.{Returned}
 use Rattle.capi.specs.Crossing.{refusals, crossed, Crosses, heardCrossed, takenAfter, Hears}
 
 pub refusal-crosses : {h : Handed} {k : Refusal} {n : ℕ}
@@ -49,7 +49,7 @@ module _ {o o' : List ℕ} {r : ℕ} where
   high-told (refuses k) short c h = let e = c .number in (ap refuses (omega arith), c .octets)
 
 -- the code's answer to a call of the receiver, by its cases: nothing was handed out, or something, or the call is refused
-module _ {b o b' o' : List ℕ} {w : Told} {t : ℕ} where
+module _ {b o b' o' : List ℕ} {w : Returned} {t : ℕ} where
   pub hears-none : (x : Answer Took) → Blocks x b o w b' o' → w .heard ≡ Nothing → Hears x b o t 0 b' o' (w .taken)
   unfolding heardCrossed heardOf toldBy tookBy takenAfter
   hears-none (gives u) c e =

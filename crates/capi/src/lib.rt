@@ -2,7 +2,8 @@
 // (include/gorittaem.h).
 // An answer crosses as a number: how many octets stand at the start of the lent output, or 0x10000 and the refusal's
 // number. Assumes of a caller in C what a slice is: a pointer that may be read or written for its whole length, and no
-// part of an output in an input.
+// part of an output in an input; of a receiver's block and of the number taken, a pointer that is good for 267 octets and for
+// one number, and no part of one of them in another.
 ghost use mathlib.Core.Path.{_≡_};
 ghost use lib.ListN.{length};
 ghost use Rattle.refusal.specs.Answer.{answerOf};

@@ -220,7 +220,7 @@ pub receive-in-answers : (κs : _) (a : _) (r : _) (s : _) → receive-in-reads.
 receive-in-answers κs a r s =
     receives-tells (a .1 .0) (heldOf (a .0) (now (a .1 .1 .1 .0))) (now (a .1 .1 .0)) (now (a .1 .1 .1 .1 .0))
 
--- the codec, to a program in C: the number tells the answer
+-- codec and receiver, to a program in C: the number tells the answer
 pub c-decode-answers : (κs : _) (a : _) (r : _) (s : _) → c-decode-reads.Learnt κs a r s
     → Tells (decoded 78 (now (a .0)) (length (now (a .1 .0)))) (now (a .1 .0)) r (now (s .1 .0))
 c-decode-answers κs a r s = decode-tells 78 (now (a .0)) (length (now (a .1 .0)))

@@ -17,6 +17,7 @@ pub use Rattle.live.proofs.Answered.{how-far, told-at-flag, told-nothing, takes
 -- N - 2, with 6 first for a number that is no limit; each exactly then; from C, too; neither is ever handed out
 pub use Rattle.live.proofs.Answered.{refused-6, refused-5, refused-other, refusal-changes-nothing, not-refused}
 pub use Rattle.live.proofs.Answered.{says-no-5, says-no-6}
+pub use Rattle.live.proofs.Examples.{refused-rows, flag-rows, quiet-rows, block-row}
 pub use Rattle.live.proofs.InC.{block-refused-6, yes-exactly}
 -- "Two flags side by side hand out nothing; octets before the first flag are dropped": `stretches-are`, and of any record
 pub use Rattle.live.proofs.Flags.{unseen-dropped}

@@ -21,13 +21,13 @@ use Rattle.receiver.specs.Held.{Held, Usable, places, stretchSays}
 use Rattle.receiver.specs.Call.{Told, nothing, handed, Took, takes, received}
 use Rattle.receiver.specs.Call.{toldCounted, toldBy, tookBy, heldBy, outTold, outBy}
 use Rattle.receiver.specs.declared.Receiver.{Receiver}
-use Rattle.block.specs.Block.{yes, yesOctet, marksIn, marksOctets, heldIn, blockAfter}
+use Rattle.block.specs.Block.{yes, yesOctet, marksIn, marksOctets, heldIn, blockAfter, blockSize}
 use Rattle.capi.specs.Crossing.{refusals, crossed, heardCrossed, Crosses, takenAfter, Hears}
 use Rattle.capi.proofs.Crosses.{low-told}
 use Rattle.live.specs.Stretches.{heardLine}
 use Rattle.live.specs.Calls.{Offer, Worked, toldOuts, outsBy, withOuts, offers, runAgain, fed}
 use Rattle.live.specs.Sent.{Sent, sent, bodies, FitEach, allGiven, Written, AllWritten, writtenBodies, writtenLines}
-use Rattle.live.specs.InC.{blockSize, zeros, ReceiveTells, readC}
+use Rattle.live.specs.InC.{zeros, ReceiveTells, readC}
 use Rattle.live.specs.InC.{Lent, heldLent, withOutsC, offersC, fedC}
 use Rattle.live.proofs.Steps.{fresh, afterAll-usable}
 use Rattle.live.proofs.Answered.{numbers-said, frame-size, refused-6, refused-other, call-given}
@@ -136,11 +136,12 @@ module _ (N : ℕ) (h : Held) (s : List ℕ) (room : ℕ) {u : Took} (e : receiv
 
 module _ (N : ℕ) (b s o : List ℕ) {n r t : ℕ} {b' o' : List ℕ} where
   -- a call that was not refused, by what it told
-  module _ (u : Took) (e : received N (heldIn b) s (length o) ≡ gives u) (count : t ≡ u .count) where
+  module _ (u : Took) (e : received N (heldIn b) s (length o) ≡ gives u) (count : t ≡ u .count)
+      (block : b' ≡ u .held .store ++ marksOctets (u .held .marks)) where
     quiet-tells : u .told ≡ nothing → r ≡ 0 → o' ≡ o → ReceiveTells (gives u) b s o n r b' o' t
     quiet-tells q number octets =
         let all = count ∙ quiet-all N (heldIn b) s (length o) e q in (
-          λ z. record { took = u; answer = refl; told = q; count = all; octets = octets },
+          λ z. record { took = u; answer = refl; told = q; count = (count, all); block = block; octets = octets },
           λ p l. absurd (omega arith),
           λ l. absurd (omega arith),
         )
@@ -157,7 +158,15 @@ module _ (N : ℕ) (b s o : List ℕ) {n r t : ℕ} {b' o' : List ℕ} where
           λ z. absurd (omega arith),
           λ p l.
               let (this, long, octets) = low-told (gives f) c l in
-              record { took = u; answer = refl; told = q ∙ ap handed this; size = long; some = some; octets = octets },
+              record {
+                took = u;
+                answer = refl;
+                told = q ∙ ap handed this;
+                size = long;
+                count = (count, some);
+                block = block;
+                octets = octets;
+              },
           λ l. absurd (omega arith),
         )
 
@@ -175,7 +184,15 @@ module _ (N : ℕ) (b s o : List ℕ) {n r t : ℕ} {b' o' : List ℕ} where
           λ p l. absurd (omega arith),
           λ l.
               inl (rw (← same)
-              (record { among = among; took = u; answer = refl; told = q; some = some; octets = c .octets })),
+              (record {
+                among = among;
+                took = u;
+                answer = refl;
+                told = q;
+                count = (count, some);
+                block = block;
+                octets = c .octets;
+              })),
         )
 
     took-tells : (d : Told (List ℕ)) → u .told ≡ d → r ≡ heardCrossed (gives (toldCounted d)) → o' ≡ outTold d o
@@ -205,7 +222,7 @@ module _ (N : ℕ) (b s o : List ℕ) {n r t : ℕ} {b' o' : List ℕ} where
     where
       go : (x : Answer Took) → received N (heldIn b) s (length o) ≡ x → Hears x b o n r b' o' t
           → ReceiveTells x b s o n r b' o' t
-      go (gives u) e c = took-tells u e (c .taken) (u .told) refl (c .number) (c .octets)
+      go (gives u) e c = took-tells u e (c .taken) (c .block) (u .told) refl (c .number) (c .octets)
       go (refuses k) e c = declined-tells k e (c .number) (c .taken) (c .block) (c .octets)
 
 module _ (N : ℕ) where

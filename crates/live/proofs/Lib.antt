@@ -10,3 +10,4 @@ pub mod Called
 pub mod Played
 pub mod Asked
 pub mod InC
+pub mod Examples

@@ -1,10 +1,10 @@
 -- A caller in C, that lends a block for the record and an output: what the number that crosses tells it, and the call
 -- made again and again with the same block.
---   blockSize        == 267: the octets of a block; zeros == such a block of zeros
+--   zeros            == a block of zeros
 --   of a call with the answer x that had the run s, the block b, the output o and the count c, and left b', o' and t:
---   Quiet x s o t o' == it handed out nothing, and took the whole run
---   Frame x o r t o' == it handed out a frame, of r octets at the start of o'
---   Number k x o t o' == it handed out the refusal k of a stretch
+--   Quiet x s o b' o' t == it handed out nothing, and took the whole run
+--   Frame x o r b' o' t == it handed out a frame, of r octets at the start of o'
+--   Number k x o b' o' t == it handed out the refusal k of a stretch
 --   Declined k x b o c b' o' t == it was refused itself, with k: nothing is taken, and nothing is changed
 --   ReceiveTells x b s o c r b' o' t == what the number r tells of it
 --   readC r o        == what a caller reads of the number r that crosses and the output o that it got back
@@ -22,37 +22,37 @@ use lib.ListN.{length, take, drop, replicate}
 use Rattle.octets.specs.Octets.{holds, OneOf, _atStartOf_}
 use Rattle.refusal.specs.Answer.{Answer, gives, refuses}
 use Rattle.receiver.specs.Call.{nothing, handed, Took, received, tookBy}
-use Rattle.block.specs.Block.{heldIn, blockAfter}
+use Rattle.block.specs.Block.{blockSize, marksOctets, heldIn, blockAfter}
 use Rattle.capi.specs.Crossing.{refusals}
 use Rattle.live.specs.Calls.{Offer, Worked, outsBy, runAgain}
-
-abbrev pub blockSize : ℕ
-blockSize = 267
 
 abbrev pub zeros : List ℕ
 zeros = replicate blockSize 0
 
-pub record Quiet (x : Answer Took) (s o : List ℕ) (t : ℕ) (o' : List ℕ) : Type 0 where
+pub record Quiet (x : Answer Took) (s o b' o' : List ℕ) (t : ℕ) : Type 0 where
   pub took : Took
   pub answer : x ≡ gives took
   pub told : took .told ≡ nothing
-  pub count : t ≡ length s
+  pub count : (t ≡ took .count) × (t ≡ length s)
+  pub block : b' ≡ took .held .store ++ marksOctets (took .held .marks)
   pub octets : o' ≡ o
 
-pub record Frame (x : Answer Took) (o : List ℕ) (r t : ℕ) (o' : List ℕ) : Type 0 where
+pub record Frame (x : Answer Took) (o : List ℕ) (r : ℕ) (b' o' : List ℕ) (t : ℕ) : Type 0 where
   pub took : Took
   pub answer : x ≡ gives took
   pub told : took .told ≡ handed (gives (take r o'))
   pub size : r ≡ length (take r o')
-  pub some : 0 < t
+  pub count : (t ≡ took .count) × (0 < t)
+  pub block : b' ≡ took .held .store ++ marksOctets (took .held .marks)
   pub octets : o' ≡ take r o' atStartOf o
 
-pub record Number (k : ℕ) (x : Answer Took) (o : List ℕ) (t : ℕ) (o' : List ℕ) : Type 0 where
+pub record Number (k : ℕ) (x : Answer Took) (o b' o' : List ℕ) (t : ℕ) : Type 0 where
   pub among : OneOf k (1 ∷ 2 ∷ 3 ∷ 4 ∷ [])
   pub took : Took
   pub answer : x ≡ gives took
   pub told : took .told ≡ handed (refuses k)
-  pub some : 0 < t
+  pub count : (t ≡ took .count) × (0 < t)
+  pub block : b' ≡ took .held .store ++ marksOctets (took .held .marks)
   pub octets : o' ≡ o
 
 pub record Declined (k : ℕ) (x : Answer Took) (b o : List ℕ) (c : ℕ) (b' o' : List ℕ) (t : ℕ) : Type 0 where
@@ -64,9 +64,9 @@ pub record Declined (k : ℕ) (x : Answer Took) (b o : List ℕ) (c : ℕ) (b' o
 
 abbrev pub ReceiveTells : Answer Took → List ℕ → List ℕ → List ℕ → ℕ → ℕ → List ℕ → List ℕ → ℕ → Type 0
 ReceiveTells x b s o c r b' o' t =
-    (r ≡ 0 → Quiet x s o t o')
-    × (0 < r → r < refusals → Frame x o r t o')
-    × (refusals ≤ r → Number (r - refusals) x o t o' ⊎ Declined (r - refusals) x b o c b' o' t)
+    (r ≡ 0 → Quiet x s o b' o' t)
+    × (0 < r → r < refusals → Frame x o r b' o' t)
+    × (refusals ≤ r → Number (r - refusals) x o b' o' t ⊎ Declined (r - refusals) x b o c b' o' t)
 
 pub record Lent : Type 0 where
   pub block : List ℕ

@@ -13,7 +13,7 @@ use Rattle.refusal.proofs.Answers.{answered-here, answered-later}
 use Rattle.frame.specs.Line.{flag}
 use Rattle.frame.specs.Decode.{framed}
 use Rattle.receiver.specs.Held.{Held, Usable, heldOf, places, openMarks, afterFlag, afterOctet, stretched, closes, stretchSays}
-use Rattle.receiver.specs.Call.{nothing, handed, takes, Receives, heardOf, toldBy, tookBy, heldBy, outBy, toldCounted, outTold}
+use Rattle.receiver.specs.Call.{handed, takes, Receives, heardOf, toldBy, tookBy, heldBy, outBy, toldCounted, outTold}
 use Rattle.receiver.specs.Pieces.{furtherBy, Passes}
 use Rattle.receiver.specs.declared.Receiver.{Receiver}
 use Rattle.receiver.specs.declared.Heard.the-variants.{Nothing, HandedOut}

@@ -127,9 +127,9 @@ some-passed r s m (suc j) x u e f g c =
     (plain-pass (suc j) s (r .count) (r .more) (r .last) (r .any) m (c .few) (c .plain) (omega (arith, c .inside, u .0))
     (u .0))
 
-plain-append : (s t : List ℕ) → Plain s → Plain t → Plain (s ++ t)
-plain-append [] t p q = q
-plain-append (x ∷ xs) t p q = (p .0, plain-append xs t (p .1) q)
+plains-append : (s t : List ℕ) → Plain s → Plain t → Plain (s ++ t)
+plains-append [] t p q = q
+plains-append (x ∷ xs) t p q = (p .0, plains-append xs t (p .1) q)
 
 pub flag-special : (x : ℕ) → x ≡ flag → special x ≡ true
 unfolding special
@@ -158,7 +158,7 @@ module _ (s : List ℕ) (i : ℕ) (h : i < length s) where
   unfolding special
   more-plain a b p =
       rw one-more
-      (plain-append (take i s) (getD s i 0 ∷ []) p (rw (ne-eqb (getD s i 0) flag a, ne-eqb (getD s i 0) escape b) refl, tt))
+      (plains-append (take i s) (getD s i 0 ∷ []) p (rw (ne-eqb (getD s i 0) flag a, ne-eqb (getD s i 0) escape b) refl, tt))
 
   pub more-copied : (o : List ℕ) (at : ℕ) {m : List ℕ} → m ≡ sets o at (take i s)
       → set m (at + i) (getD s i 0) ≡ sets o at (take (i + 1) s)

@@ -197,7 +197,7 @@ fn listen(
     told(r, at, Heard::Nothing)
 }
 
-// The same call over a store that is part of something larger: any other number of places is no receiver's.
+// As `receive`, over a store that is part of something larger: any other number of places is no receiver's.
 pub fn receive_in(
     receiver: Receiver,
     limit: usize,
