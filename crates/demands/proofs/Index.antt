@@ -114,7 +114,8 @@ pub use Rattle.drives.proofs.Only.{obey-asks}
 -- ---- the demands
 pub use Rattle.states.proofs.Renews.{renewed-ends}
 pub use Rattle.demands.proofs.One.{hear-defined, judge-defined, decode-answers, write-answers, hand-out-answers}
-pub use Rattle.demands.proofs.One.{deliver-answers, receive-answers, receive-in-answers, c-receive-answers}
+pub use Rattle.demands.proofs.One.{deliver-answers, receiver-new-answers, receive-answers, receive-in-answers}
+pub use Rattle.demands.proofs.One.{block-receive-answers, c-receive-answers}
 pub use Rattle.demands.proofs.One.{c-decode-n-answers, c-write-n-answers, limit-words}
 pub use Rattle.demands.proofs.One.{decode-numbers-78, write-numbers-78, judge-numbers-78, hear-numbers-78}
 pub use Rattle.demands.proofs.One.{c-decode-answers, c-write-answers, probe-answers, report-answers, fresh-answers}

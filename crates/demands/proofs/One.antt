@@ -33,15 +33,19 @@ use Rattle.capi.proofs.gorittaem_write.Reads as c-write-reads
 use Rattle.capi.proofs.gorittaem_write_n.Reads as c-write-n-reads
 use Rattle.frame.proofs.decode.Reads as decode-reads
 use Rattle.frame.proofs.deliver.Reads as deliver-reads
+use Rattle.receiver.proofs.new.Reads as receiver-new-reads
 use Rattle.receiver.proofs.receive.Reads as receive-reads
+use Rattle.block.proofs.receive.Reads as block-receive-reads
 use Rattle.receiver.proofs.receive_in.Reads as receive-in-reads
 use Rattle.receiver.specs.Held.{heldOf}
-use Rattle.receiver.specs.Call.{received}
-use Rattle.block.specs.Block.{heldIn}
+use Rattle.receiver.specs.Call.{received, heldBy}
+use Rattle.receiver.specs.declared.Receiver.{Receiver}
+use Rattle.block.specs.Block.{heldIn, blockAfter}
 use Rattle.live.specs.Calls.{CallTells}
 use Rattle.live.specs.InC.{ReceiveTells}
 use Rattle.live.proofs.Answered.{receives-tells}
-use Rattle.live.proofs.InC.{receive-tells}
+use Rattle.live.proofs.Steps.{fresh}
+use Rattle.live.proofs.InC.{receive-tells, block-tells}
 use Rattle.writer.proofs.write.Reads as write-reads
 use Rattle.scan.proofs.probe.Reads as probe-reads
 use Rattle.scanner.proofs.report.Reads as report-reads
@@ -219,6 +223,28 @@ pub receive-in-answers : (κs : _) (a : _) (r : _) (s : _) → receive-in-reads.
     (now (a .1 .1 .1 .1 .0)) r (now (s .1 .1 .1 .0)) (now (s .1 .1 .1 .1 .0))
 receive-in-answers κs a r s =
     receives-tells (a .1 .0) (heldOf (a .0) (now (a .1 .1 .1 .0))) (now (a .1 .1 .0)) (now (a .1 .1 .1 .1 .0))
+
+-- a new one is before any octet, whatever its store holds
+pub receiver-new-answers : (κs : _) (a : _) (r : _) (s : _) → receiver-new-reads.Learnt κs a r s → (m : List ℕ)
+    → heldOf r m ≡ fresh m
+receiver-new-answers κs a r s e m = ap (λ (q : Receiver). heldOf q m) e
+
+-- with the record in a block of octets: as above, and the block after it, as it was where the call is refused
+pub block-receive-answers : (κs : _) (a : _) (r : _) (s : _) → block-receive-reads.Learnt κs a r s
+    → CallTells (received (a .1 .0) (heldIn (now (a .0))) (now (a .1 .1 .0)) (length (now (a .1 .1 .1 .0))))
+    (heldIn (now (a .0))) (now (a .1 .1 .0)) (now (a .1 .1 .1 .0))
+    (record {
+      receiver =
+          heldBy (received (a .1 .0) (heldIn (now (a .0))) (now (a .1 .1 .0)) (length (now (a .1 .1 .1 .0))))
+          (heldIn (now (a .0))) .marks;
+      taken = r .taken;
+      heard = r .heard;
+    })
+    (heldBy (received (a .1 .0) (heldIn (now (a .0))) (now (a .1 .1 .0)) (length (now (a .1 .1 .1 .0))))
+    (heldIn (now (a .0))) .store) (now (s .1 .1 .1 .0))
+    × (now (s .0) ≡ blockAfter (received (a .1 .0) (heldIn (now (a .0))) (now (a .1 .1 .0))
+    (length (now (a .1 .1 .1 .0)))) (now (a .0)))
+block-receive-answers κs a r s = block-tells (a .1 .0) (now (a .0)) (now (a .1 .1 .0)) (now (a .1 .1 .1 .0))
 
 -- codec and receiver, to a program in C: the number tells the answer
 pub c-decode-answers : (κs : _) (a : _) (r : _) (s : _) → c-decode-reads.Learnt κs a r s

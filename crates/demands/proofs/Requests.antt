@@ -11,18 +11,22 @@ pub use Rattle.live.proofs.InC.{c-reads, c-decoder, zeros-fresh, block-holds, o
 -- when a flag hands something out, and each number, exactly then, for any record: 4, then 2 where more came than the store has
 -- places, then 1, 2, 3
 pub use Rattle.live.proofs.Flags.{closes-exactly, flag-4, flag-2, flag-1, flag-3, flag-frame, fresh-words, flag-words}
+-- and what any other octet makes of any record that is not refused and has seen a flag, field by field
+pub use Rattle.live.proofs.Words.{octet-marks, octet-escape, octet-behind, octet-itself}
 -- "It stops after each closing flag that hands something out and tells how many octets it took": one at least, where there are any
 pub use Rattle.live.proofs.Answered.{how-far, told-at-flag, told-nothing, takes-at-least-one, takes-at-most, call-takes}
 -- "A record holding more octets than its store gets 6, then an output shorter than 76 gets 5; nothing is taken": which (iv) makes
--- N - 2, with 6 first for a number that is no limit; each exactly then; from C, too; neither is ever handed out
+-- N - 2, with 6 first for a number that is no limit; each exactly then; neither is ever handed out. From C: 6, and what a block
+-- holds, octet by octet
 pub use Rattle.live.proofs.Answered.{refused-6, refused-5, refused-other, refusal-changes-nothing, not-refused}
 pub use Rattle.live.proofs.Answered.{says-no-5, says-no-6}
-pub use Rattle.live.proofs.Examples.{refused-rows, flag-rows, quiet-rows, block-row}
-pub use Rattle.live.proofs.InC.{block-refused-6, yes-exactly}
--- "Two flags side by side hand out nothing; octets before the first flag are dropped": `stretches-are`, and of any record
+pub use Rattle.live.proofs.Examples.{refused-rows, flag-rows, quiet-rows, more-row, block-row}
+pub use Rattle.live.proofs.InC.{block-refused-6, yes-exactly, block-words, yes-written}
+-- "Two flags side by side hand out nothing; octets before the first flag are dropped": `stretches-are`; the second half of any
+-- record
 pub use Rattle.live.proofs.Flags.{unseen-dropped}
 -- "However the same octets are cut, the frames, refusals and end state agree": cut into runs, empty ones too, and lent again with
--- what was left, or offered in any way at all; every octet is taken once, in order; from C, too
+-- what was left, or offered in any way at all; every octet is taken once, in order. From C: cut into runs in two ways
 pub use Rattle.live.proofs.Cuts.{cuts, fed-all, any-way, offers-are}
 pub use Rattle.live.proofs.InC.{c-cuts}
 -- "After any noise, the next flag and what follows it are read as by a fresh receiver, save that this flag may also close the noisy
@@ -34,7 +38,7 @@ pub use Rattle.live.proofs.Trip.{lines-come-through, lines-and-rest, written-li
 pub use Rattle.live.proofs.Called.{called-lines, called-lines-and-rest, called-lines-of, written-called}
 pub use Rattle.live.proofs.InC.{c-lines, c-written}
 -- a hand-out goes by the N of the call that takes the flag; the record, and how far a call goes, by none: over calls with any
--- limits, outputs and records, refused ones among them
+-- limits and outputs, refused ones among them; the record of any record, what is handed out from a fresh one
 pub use Rattle.live.proofs.Called.{change-of-limit, limit-at-flag, flagless-taken}
 pub use Rattle.live.proofs.Asked.{asks-are, asks-refused, asked-decoder}
 -- for every record, also one that no receiver made: a frame that is handed out has the right check for its octets, those that stand

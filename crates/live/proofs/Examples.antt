@@ -7,7 +7,8 @@ use lib.ListN.{replicate}
 use Rattle.refusal.specs.Answer.{refuses, answered}
 use Rattle.limits.specs.Limits.{isLimit}
 use Rattle.frame.specs.Decode.{decodeRows}
-use Rattle.receiver.specs.Held.{Held, heldOf, closes, stretchSays}
+use Rattle.frame.specs.Line.{plainAfter}
+use Rattle.receiver.specs.Held.{Held, heldOf, addedBy, takenIn, raw, afterOctet, closes, stretchSays}
 use Rattle.receiver.specs.Call.{nothing, further, takes, receiveRows, received}
 use Rattle.block.specs.Block.{heldIn, marksIn}
 
@@ -37,6 +38,11 @@ pub quiet-rows : (takes 78 76 (made 10 false false false true 260) (0x7E ∷ [])
     × (takes 78 76 (made 10 false false true false 260) (0x7E ∷ []) .told ≡ nothing)
 unfolding takes further closes
 quiet-rows = (refl, refl)
+
+-- more octets than places stay so, whatever comes: one octet more, and the flag says 2
+pub more-row : stretchSays 78 76 (afterOctet (made 10 true false true true 260) 0x11) ≡ refuses 2
+unfolding stretchSays answered afterOctet raw takenIn addedBy plainAfter
+more-row = refl
 
 -- a block whose count is 261, low octet first
 pub block-row : received 260 (heldIn (replicate 260 0 ++ 0x05 ∷ 0x01 ∷ 0 ∷ 0 ∷ 0 ∷ 0 ∷ 0 ∷ [])) [] 258 ≡ refuses 6

@@ -1,7 +1,7 @@
 -- A receiver in C: the block that is lent holds the record from call to call, all zeros is a fresh one, the number that
 -- crosses tells what was handed out, and the calls made again and again hand out what the decoder says.
 -- Assumes nothing.
-use mathlib.Core.Path.{_≡_, refl, sym, ap, _∙_}
+use mathlib.Core.Path.{_≡_, refl, sym, ap, ap₂, _∙_}
 use mathlib.Core.Bool.{Bool, true, false, cond, not}
 use mathlib.Core.List.{List, [], _∷_, _++_, flatten}
 use mathlib.Core.Logic.{_↔_, _⊎_, inl, inr, ⊎-elim, ⊎-map}
@@ -21,17 +21,18 @@ use Rattle.receiver.specs.Held.{Held, Usable, places, stretchSays}
 use Rattle.receiver.specs.Call.{Told, nothing, handed, Took, takes, received}
 use Rattle.receiver.specs.Call.{toldCounted, toldBy, tookBy, heldBy, outTold, outBy}
 use Rattle.receiver.specs.declared.Receiver.{Receiver}
-use Rattle.block.specs.Block.{yes, yesOctet, marksIn, marksOctets, heldIn, blockAfter, blockSize}
+use Rattle.block.specs.Block.{yes, yesOctet, marksIn, marksOctets, heldIn, blockAfter, blockSize, Blocks}
+use Rattle.block.specs.declared.Returned.{Returned}
 use Rattle.capi.specs.Crossing.{refusals, crossed, heardCrossed, Crosses, takenAfter, Hears}
 use Rattle.capi.proofs.Crosses.{low-told}
 use Rattle.live.specs.Stretches.{heardLine}
-use Rattle.live.specs.Calls.{Offer, Worked, toldOuts, outsBy, withOuts, offers, runAgain, fed}
+use Rattle.live.specs.Calls.{Offer, Worked, toldOuts, outsBy, withOuts, offers, runAgain, fed, CallTells}
 use Rattle.live.specs.Sent.{Sent, sent, bodies, FitEach, allGiven, Written, AllWritten, writtenBodies, writtenLines}
 use Rattle.live.specs.InC.{zeros, ReceiveTells, readC}
 use Rattle.live.specs.InC.{Lent, heldLent, withOutsC, offersC, fedC}
 use Rattle.live.proofs.Steps.{fresh, afterAll-usable}
 use Rattle.live.proofs.Answered.{numbers-said, frame-size, refused-6, refused-other, call-given}
-use Rattle.live.proofs.Answered.{told-nothing, told-at-flag}
+use Rattle.live.proofs.Answered.{told-nothing, told-at-flag, receives-tells}
 use Rattle.live.proofs.Cuts.{one-call, cuts}
 use Rattle.live.proofs.Called.{called-decoder, called-lines-and-rest, written-called}
 
@@ -345,3 +346,41 @@ module _ (N : ℕ) (limit : isLimit N ≡ true) where
     pub c-written : (ws : List Written) → AllWritten N ws → flatten rs ≡ flatten (writtenLines ws)
         → fedC N room zeros rs .outs ≡ allGiven (writtenBodies ws)
     c-written ws all e = zeros-outs ∙ written-called N limit (replicate places 0) refl room fits rs ws all e
+
+-- what a block holds, octet by octet: the count, low octet first, and for each yes or no an octet that is no exactly if 0
+pub block-words : (b : List ℕ) → (heldIn b .marks .count ≡ pairOf (getD b 260 0) (getD b 261 0))
+    × (heldIn b .marks .more ≡ false ↔ getD b 262 0 ≡ 0) × (heldIn b .marks .escaping ≡ false ↔ getD b 263 0 ≡ 0)
+    × (heldIn b .marks .last ≡ false ↔ getD b 264 0 ≡ 0) × (heldIn b .marks .any ≡ false ↔ getD b 265 0 ≡ 0)
+    × (heldIn b .marks .seen ≡ false ↔ getD b 266 0 ≡ 0) × (heldIn b .store ≡ take 260 b)
+unfolding heldIn marksIn
+block-words b =
+    let at : (i : ℕ) → getD (drop places b) i 0 ≡ getD b (places + i) 0 = λ i. getD-drop places b i 0 in (
+      ap₂ pairOf (at 0) (at 1),
+      rw (at 2) (yes-exactly (getD b 262 0)),
+      rw (at 3) (yes-exactly (getD b 263 0)),
+      rw (at 4) (yes-exactly (getD b 264 0)),
+      rw (at 5) (yes-exactly (getD b 265 0)),
+      rw (at 6) (yes-exactly (getD b 266 0)),
+      refl,
+    )
+
+-- a yes is written as 1, and a no as 0
+pub yes-written : (yesOctet true ≡ 1) × (yesOctet false ≡ 0)
+yes-written = (refl, refl)
+
+-- what a caller of the block's own function learns: as of `receive`, with the record that the block holds; and the block after it
+pub block-tells : (N : ℕ) (b s o : List ℕ) {r : Returned} {b' o' : List ℕ}
+    → Blocks (received N (heldIn b) s (length o)) b o r b' o'
+    → CallTells (received N (heldIn b) s (length o)) (heldIn b) s o
+    (record {
+      receiver = heldBy (received N (heldIn b) s (length o)) (heldIn b) .marks;
+      taken = r .taken;
+      heard = r .heard;
+    })
+    (heldBy (received N (heldIn b) s (length o)) (heldIn b) .store) o'
+    × (b' ≡ blockAfter (received N (heldIn b) s (length o)) b)
+block-tells N b s o w = (
+  receives-tells N (heldIn b) s o
+      (record { answer = w .answer; count = w .count; held = refl; octets = w .octets }),
+  w .block,
+)

@@ -4,6 +4,7 @@ pub mod Answered
 pub mod Flags
 pub mod Cuts
 pub mod Decoder
+pub mod Words
 pub mod Noise
 pub mod Trip
 pub mod Called
