@@ -29,18 +29,13 @@ use Rattle.frame.proofs.Checks.{split-two, check-exactly}
 use Rattle.receiver.specs.Held.{Held, heldOf, Usable, places, afterFlag, afterOctet, closes, stretchSays}
 use Rattle.receiver.specs.Call.{Told, nothing, handed, Took, further, takes, receiveRows, received}
 use Rattle.receiver.specs.Call.{heardOf, toldCounted, toldBy, tookBy, heldBy, outTold, outBy, Receives}
+use Rattle.receiver.proofs.After.{by-test}
 use Rattle.receiver.proofs.Refusals.{in-order}
 use Rattle.receiver.proofs.Only.{nothing-not-handed}
 use Rattle.receiver.specs.declared.Heard.{Heard}
 use Rattle.receiver.specs.declared.Heard.the-variants.{Nothing, HandedOut, Refused}
 use Rattle.receiver.specs.declared.Received.{Received}
 use Rattle.live.specs.Calls.{afterAll, handOuts, toldOuts, outsBy, HeardTells, CallTells, readOut}
-
--- what holds on each side of a test holds by it
-pub by-test : {A : Type 0} (P : A → Type 0) (t : Bool) {a b : A}
-    → (t ≡ true → P a) → (t ≡ false → P b) → P (cond t a b)
-by-test P true p q = p refl
-by-test P false p q = q refl
 
 module _ {A : Type 0} (a : A) where
   -- a number that is given is that of a row
@@ -310,6 +305,13 @@ module _ (N room : ℕ) (h : Held) (s : List ℕ) where
       (λ u. absurd (nothing-not-handed (sym e ∙ u .1 .told)))
       (how-far N room h s)
 
+-- a call that is not refused and hands out nothing takes every octet
+pub quiet-all : (N : ℕ) (h : Held) (s : List ℕ) (room : ℕ) {u : Took} → received N h s room ≡ gives u
+    → u .told ≡ nothing → u .count ≡ length s
+quiet-all N h s room e q =
+    let these = call-given N h s room e .3 in
+    sym (ap (λ (w : Took). w .count) these) ∙ told-nothing N room h s (ap (λ (w : Took). w .told) these ∙ q) .0
+
 handed-same : {A : Type 0} {a b : Answer A} → handed a ≡ handed b → a ≡ b
 handed-same e = cc
 
@@ -320,9 +322,7 @@ module _ (N : ℕ) (h : Held) (s o : List ℕ) (r : Received) (m o' : List ℕ) 
       (held : heldOf (r .receiver) m ≡ t .held) where
     quiet-told : t .told ≡ nothing → o' ≡ o → HeardTells Nothing (gives t) h s o r m o'
     quiet-told q octets =
-        let these = call-given N h s (length o) e .3 in
-        let all = told-nothing N (length o) h s (ap (λ (w : Took). w .told) these ∙ q) .0 in
-        (t, refl, q, count ∙ sym (ap (λ (w : Took). w .count) these) ∙ all, held, octets)
+        (t, refl, q, count ∙ quiet-all N h s (length o) e q, held, octets)
 
     handed-told : (a : Answer (List ℕ)) (q : Handed) → t .told ≡ handed a → Hands a o q o'
         → HeardTells (HandedOut q) (gives t) h s o r m o'

@@ -32,7 +32,7 @@ use Rattle.live.specs.InC.{zeros, ReceiveTells, readC}
 use Rattle.live.specs.InC.{Lent, heldLent, withOutsC, offersC, fedC}
 use Rattle.live.proofs.Steps.{fresh, afterAll-usable}
 use Rattle.live.proofs.Answered.{numbers-said, frame-size, refused-6, refused-other, call-given}
-use Rattle.live.proofs.Answered.{told-nothing, told-at-flag, receives-tells}
+use Rattle.live.proofs.Answered.{quiet-all, told-at-flag, receives-tells}
 use Rattle.live.proofs.Cuts.{one-call, cuts}
 use Rattle.live.proofs.Called.{called-decoder, called-lines-and-rest, written-called}
 
@@ -121,12 +121,6 @@ numbers-once {k} e =
 module _ (N : ℕ) (h : Held) (s : List ℕ) (room : ℕ) {u : Took} (e : received N h s room ≡ gives u) where
   these : takes N room h s ≡ u
   these = call-given N h s room e .3
-
-  -- handed out nothing: every octet is taken
-  quiet-all : u .told ≡ nothing → u .count ≡ length s
-  quiet-all q =
-      sym (ap (λ (w : Took). w .count) these)
-      ∙ told-nothing N room h s (ap (λ (w : Took). w .told) these ∙ q) .0
 
   -- handed out what was to be said of a record: a flag is taken
   told-said : {a : Answer (List ℕ)} → u .told ≡ handed a → (0 < u .count) × (g : Held) × (stretchSays N room g ≡ a)

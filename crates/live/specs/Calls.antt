@@ -66,7 +66,7 @@ outsBy (refuses k) = []
 unfoldable pub withOuts : List (Answer (List ℕ)) → Worked → Worked
 withOuts a w = record { held = w .held; left = w .left; outs = a ++ w .outs }
 
--- "and to call again with what was left"
+-- what a call did not take is offered again
 unfoldable pub offers : ℕ → Held → List ℕ → List Offer → Worked
 offers N h s [] = record { held = h; left = s; outs = [] }
 offers N h s (c ∷ cs) =

@@ -1,5 +1,5 @@
 -- One octet: a flag, and one that is none; a record that is not refused stays so. Assumes nothing.
-use mathlib.Core.Path.{_≡_, _∙_}
+use mathlib.Core.Path.{_≡_, refl, _∙_}
 use mathlib.Core.Bool.{Bool, true, false, cond}
 use Prim.Native.Nat.{ℕ}
 use native.Mathlib.Omega.{arith}
@@ -12,15 +12,17 @@ taken-usable : (h : Held) (x : ℕ) → Usable h → Usable (takenIn h x)
 unfolding takenIn
 taken-usable h x u = (length-sets (h .store) (h .marks .count) (addedBy h x) ∙ u .0, omega arith)
 
--- what holds of both holds by either test
-either : (P : Held → Type 0) (t : Bool) {g h : Held} → P g → P h → P (cond t g h)
-either P true p q = p
-either P false p q = q
+-- what holds on each side of a test holds by it
+pub by-test : {A : Type 0} (P : A → Type 0) (t : Bool) {a b : A}
+    → (t ≡ true → P a) → (t ≡ false → P b) → P (cond t a b)
+by-test P true p q = p refl
+by-test P false p q = q refl
 
 pub after-usable : (h : Held) (x : ℕ) → Usable h → Usable (afterOctet h x)
 unfolding afterOctet afterFlag raw
 after-usable h x u =
-    either Usable (eqb x flag) (u .0, omega arith) (either Usable (h .marks .seen) (taken-usable h x u) u)
+    by-test Usable (eqb x flag) (λ e. (u .0, omega arith))
+    (λ e. by-test Usable (h .marks .seen) (λ f. taken-usable h x u) (λ f. u))
 
 module _ (h : Held) (x : ℕ) where
   pub after-flag : eqb x flag ≡ true → afterOctet h x ≡ afterFlag h

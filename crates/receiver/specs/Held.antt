@@ -40,7 +40,7 @@ Usable h = (length (h .store) ≡ places) × (h .marks .count ≤ places)
 abbrev pub freshMarks : Receiver
 freshMarks = record { count = 0; more = false; escaping = false; last = false; any = false; seen = false }
 
--- "It also opens the next stretch"
+-- a flag that closes a stretch opens the next one
 abbrev pub openMarks : Receiver
 openMarks = record { count = 0; more = false; escaping = false; last = false; any = false; seen = true }
 
