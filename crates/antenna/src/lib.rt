@@ -1,18 +1,19 @@
 // One drive: its range, its tilt, its movement and its alarms. What is asked of it is in `aim`, what happens to it in
 // `event`; the definitions of both and the laws about them are here. Assumes nothing of its caller.
 // Headline: a movement starts only where nothing moves or waits and the tilt asked is in range (proofs/Movements.antt).
+#![tactic(auto)]
 ghost use Rattle.std.specs.Prelude.{◌≡◌};
 ghost use Rattle.antenna.specs.Alarms.{differs, any_differ};
 ghost use Rattle.antenna.specs.Motions.{busy_of};
 
 // Tenths of a degree.
-#[derive(Drop)]
+#[derive(Clone, Copy)]
 pub struct Angle {
     pub tenths: i16,
 }
 
 // A flag for each alarm code that there is, in ascending order of the codes.
-#[derive(Drop)]
+#[derive(Clone, Copy)]
 pub struct Alarms {
     pub flags: [bool; 6],
 }
@@ -23,7 +24,7 @@ pub const CODES: [u8; 6] = [0x02, 0x03, 0x0E, 0x0F, 0x11, 0x27];
 pub const CALM: Alarms = Alarms { flags: [false; 6] };
 
 // Nothing moves or waits; a movement that owes nothing; one whose result is owed; a result that waits.
-#[derive(Drop)]
+#[derive(Clone, Copy)]
 pub enum Motion {
     Still,
     Moving,
@@ -32,7 +33,7 @@ pub enum Motion {
 }
 
 // All of an antenna but its motion: who changes one field copies the rest as one.
-#[derive(Drop)]
+#[derive(Clone, Copy)]
 pub struct Drive {
     pub lowest: Angle,
     pub highest: Angle,
@@ -40,14 +41,14 @@ pub struct Drive {
     pub raised: Alarms,
 }
 
-#[derive(Drop)]
+#[derive(Clone, Copy)]
 pub struct Antenna {
     pub motion: Motion,
     pub drive: Drive,
 }
 
 // What becomes of a tilt that is asked.
-#[derive(Drop)]
+#[derive(Clone, Copy)]
 pub enum Aim {
     Busy,
     Outside,
@@ -55,14 +56,14 @@ pub enum Aim {
 }
 
 // A result that waits: whether the tilt asked was reached.
-#[derive(Drop)]
+#[derive(Clone, Copy)]
 pub enum Waits {
     Nothing,
     Result { reached: bool },
 }
 
 // An antenna after a tilt was asked.
-#[derive(Drop)]
+#[derive(Clone, Copy)]
 pub struct Aimed {
     pub aim: Aim,
     pub antenna: Antenna,

@@ -10,7 +10,7 @@ use script::Asked;
 use terms::Term;
 
 // The receiver's record, and the store that a call lends it.
-#[derive(Drop)]
+#[derive(Clone, Copy)]
 pub struct Ear {
     receiver: Receiver,
     store: [u8; PLACES],

@@ -15,7 +15,7 @@ const RUN: usize = 4096;
 
 // The octets of the run from `from` to `end` are still to be read; `len` octets of a line have come. A whole line had a
 // 0x0A, and the last one, at the end of the input, has none.
-#[derive(Drop)]
+#[derive(Clone, Copy)]
 pub struct Input {
     pub whole: bool,
     run: [u8; RUN],

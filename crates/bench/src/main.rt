@@ -3,6 +3,7 @@
 // and what the commands do is the libraries', and so is each word of an answer (`terms`); here are the row of devices, the
 // scan by hand and the receiver that the bench holds. A function that hands back a value promises which (specs/); one that
 // only prints is proved safe and ending, since no promise can speak of what standard output gets.
+#![tactic(auto)]
 mod answers;
 mod ear;
 mod handed;

@@ -1,6 +1,7 @@
 // A receiver whose record is a block of octets that the caller lends, for programs that know no structs of ours: the store,
 // the count in two octets, low one first, and five octets that each stand for a yes or a no. All zeros is a fresh one.
 // Assumes nothing of its caller: any octets may be handed in.
+#![tactic(auto)]
 ghost use Rattle.std.specs.Prelude.{◌≡◌, length};
 ghost use Rattle.receiver.specs.Call.{received, heard_of};
 ghost use Rattle.block.specs.Block.{marks_size, block_size, refused_call, yes_octet, marks_in, marks_octets, held_in, Blocks};
@@ -13,7 +14,7 @@ const MARKS: usize = 7;
 pub const BLOCK: usize = PLACES + MARKS;
 
 // A call's answer: how many octets were taken, and what was handed out.
-#[derive(Drop)]
+#[derive(Clone, Copy)]
 pub struct Returned {
     pub taken: usize,
     pub heard: Heard,

@@ -3,11 +3,12 @@
 // Headline: the controls that 01 names are read as what they are, and no other is (proofs/Named.antt); they are read in
 // crate link.
 // Assumes nothing of its caller.
+#![tactic(auto)]
 ghost use Rattle.std.specs.Prelude.{◌≡◌};
 ghost use Rattle.control.specs.Control.{next_of, info_of, rr_of};
 
 // What a control octet with its poll bit set asks.
-#[derive(Drop)]
+#[derive(Clone, Copy)]
 pub enum Order {
     Xid,
     Snrm,
@@ -20,7 +21,7 @@ pub enum Order {
 
 // Which parameters a negotiation asks, and its answer has: the lengths sent and received, the windows of sending and
 // receiving.
-#[derive(Drop)]
+#[derive(Clone, Copy)]
 pub struct AskedFor {
     pub sent: bool,
     pub received: bool,

@@ -1,6 +1,7 @@
 // The tilt device on its line: a decoded frame judged, octets from between two flags heard.
 // Headline: which number is given, exactly when; a refusal leaves the device and the buffer as they were, silence the
 // buffer (proofs/Exact.antt). Assumes nothing of its caller: a record that no run ever made may be handed in.
+#![tactic(auto)]
 ghost use Rattle.std.specs.Prelude.{◌≡◌, ◌≤◌, length, take};
 ghost use Rattle.std.proofs.lemmas.List.Edits.{sets};
 ghost use Rattle.refusal.specs.Answer.{gives};
@@ -14,14 +15,14 @@ use speech::SPOKEN_MOST;
 use station::Say;
 
 // Nothing is said; so many octets stand at the start of the answer buffer; or the number for "no".
-#[derive(Drop)]
+#[derive(Clone, Copy)]
 pub enum Said {
     Silence,
     Frame(usize),
     Refused(Refusal),
 }
 
-#[derive(Drop)]
+#[derive(Clone, Copy)]
 pub struct Judged {
     pub said: Said,
     pub device: Device,

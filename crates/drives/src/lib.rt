@@ -2,6 +2,7 @@
 // the bench script (`script`); its words are values, and octets that the HEX words stand for.
 // Headline: for every command the row after it, the answer, and the lent output (specs/Drives.antt). Assumes nothing of its
 // caller: a number that is no device, no command, no tilt or no alarm has its answer.
+#![tactic(auto)]
 ghost use Rattle.std.specs.Prelude.{◌≡◌, true, ◌<◌, length, get_or};
 ghost use Rattle.refusal.specs.Answer.{Changes};
 ghost use Rattle.record.specs.Allowed.{limit_of};
@@ -24,7 +25,7 @@ pub type Values = [usize; 8];
 
 // An answer: `error command`, `error device`, `error full`; `device K`; `done` or `refused N`; `answer`, `silence` or
 // `refused N`; `state`, of the device at this place of the row; `limit N`.
-#[derive(Drop)]
+#[derive(Clone, Copy)]
 pub enum Response {
     NoCommand,
     NoDevice,
@@ -37,7 +38,7 @@ pub enum Response {
 }
 
 // The row after a command, and the answer to it.
-#[derive(Drop)]
+#[derive(Clone, Copy)]
 pub struct Obeyed {
     pub row: Row,
     pub answer: Response,

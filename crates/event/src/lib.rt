@@ -3,6 +3,7 @@
 // Headline: an allowed record stays allowed under every event; 6 and 8 are given exactly when 01 says
 // (record/proofs/Stays.antt, record/proofs/Only.antt); a stop makes a result that waits exactly where one was owed
 // (antenna/proofs/Movements.antt).
+#![tactic(auto)]
 ghost use Rattle.std.specs.Prelude.{◌≡◌};
 ghost use Rattle.refusal.specs.Answer.{Changes};
 ghost use Rattle.antenna.specs.Angles.{same_as};
@@ -15,7 +16,7 @@ use record::{Changed, Device, Event};
 use refusal::{Outcome, Refusal};
 
 // An antenna after an event.
-#[derive(Drop)]
+#[derive(Clone, Copy)]
 struct Befallen {
     outcome: Outcome,
     antenna: Antenna,

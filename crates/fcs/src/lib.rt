@@ -1,6 +1,8 @@
 // The frame check of ISO/IEC 13239 (also RFC 1662), worked with a table of 256 remainders, or with one of 16.
 // Headline: after a frame with its check the register is 0xF0B8, and only then (proofs/Residue.antt).
 // Assumes nothing of its caller.
+#![tactic(auto)]
+
 mod halves;
 mod table;
 

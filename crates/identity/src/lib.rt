@@ -1,4 +1,6 @@
 // Identities, and beginnings as octets. Assumes nothing of its caller.
+#![tactic(auto)]
+
 ghost use Rattle.std.specs.Prelude.{◌≡◌, false, ◌≤◌, min, take, drop, get_or};
 ghost use Rattle.identity.specs.Bits.{word, digit};
 ghost use Rattle.identity.specs.Identity.{depth, all_printable, allowed_identity, octets_of};

@@ -1,5 +1,7 @@
 // The frame limit N, the most octets of address, control, payload and check: 78, and up to 260 by negotiation; and what
 // follows from it. Assumes nothing of its caller: any number may be handed in.
+#![tactic(auto)]
+
 ghost use Rattle.std.specs.Prelude.{◌≡◌};
 ghost use Rattle.limits.specs.Limits.{is_limit, frame_most};
 

@@ -1,6 +1,7 @@
 // A row of devices on one cable, and a scan of it run to its end: each probe is written as a line, every device hears
 // what lies between its flags, and whether one answered is reported. With allowed devices of different padded identities
 // it is demand 3's scan (proofs/Demand.antt). Assumes nothing of its caller.
+#![tactic(auto)]
 ghost use Rattle.std.specs.Prelude.{◌≡◌, ◌||◌, take};
 ghost use Rattle.refusal.specs.Answer.{state_after};
 ghost use Rattle.frame.specs.Line.{inside};
@@ -17,7 +18,7 @@ use refusal::Handed;
 use scan::{PROBE, Scan};
 
 // A scan that was run to its end, and the row after it.
-#[derive(Drop)]
+#[derive(Clone, Copy)]
 pub struct Swept {
     pub scan: Scan,
     pub row: Row,
@@ -26,14 +27,14 @@ pub struct Swept {
 // ---- the line of the probe that is next
 
 // A line: the first `len` of the octets.
-#[derive(Drop)]
+#[derive(Clone, Copy)]
 struct Written {
     octets: [u8; LINE_MOST],
     len: usize,
 }
 
 // Whether the scan asks, and the line of its probe.
-#[derive(Drop)]
+#[derive(Clone, Copy)]
 struct Asked {
     asks: bool,
     line: Written,
@@ -85,14 +86,14 @@ fn ask(scan: Scan) -> Asked
 // ---- the line goes to every device
 
 // A device after the line, and whether it or one before answered.
-#[derive(Drop)]
+#[derive(Clone, Copy)]
 struct Listened {
     heard: bool,
     device: Device,
 }
 
 // Whether some device answered, and the devices after it.
-#[derive(Drop)]
+#[derive(Clone, Copy)]
 struct Heard {
     heard: bool,
     devices: [Device; MOST],

@@ -2,6 +2,7 @@
 // Headline: set tilt alone starts a movement, and exactly where the message is 33 02 00 and two octets, nothing moves
 // or waits, and the tilt asked is in range (proofs/Moves.antt); each return code is given exactly when 01 says
 // (proofs/Exact.antt).
+#![tactic(auto)]
 ghost use Rattle.std.specs.Prelude.{◌≡◌, ◌≤◌, length, get_or};
 ghost use Rattle.octets.specs.Octets.{holds};
 ghost use Rattle.refusal.specs.Answer.{answered};
@@ -54,14 +55,14 @@ const WRONG_LENGTH: u8 = 0x24;
 
 const NOT_SUPPORTED: u8 = 0x25;
 
-#[derive(Drop)]
+#[derive(Clone, Copy)]
 pub enum Reply {
     None,
     Answer,
 }
 
 // What comes of a message: an answer, whose payload lies beside it, or none; and what the message leaves behind.
-#[derive(Drop)]
+#[derive(Clone, Copy)]
 pub struct Carried {
     pub reply: Reply,
     pub payload: Payload,
@@ -71,7 +72,7 @@ pub struct Carried {
 }
 
 // Whether a message is as it must be, or its return code.
-#[derive(Drop)]
+#[derive(Clone, Copy)]
 enum Check {
     Passed,
     Failed(u8),

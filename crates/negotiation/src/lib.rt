@@ -1,6 +1,7 @@
 // Longer frames by negotiation: what the payload of an XID frame to the own address asks of the link, whose frame limit
 // is `limit`. Headline: the limit agreed is the whole octets in the smaller length asked and 4 more, 78 to 260,
 // exactly; none asked keeps it (proofs/Exactly.antt). Assumes nothing of its caller: any octets, any limit.
+#![tactic(auto)]
 ghost use Rattle.std.specs.Prelude.{◌≡◌, not, ◌*◌, min, take, drop};
 ghost use Rattle.limits.specs.Limits.{limit_most, payload_most};
 ghost use Rattle.params.specs.Walk.{part_in, is_absent, value_at};
@@ -27,7 +28,7 @@ const LENGTH_OCTETS: usize = 4;
 const WINDOW_OCTETS: usize = 1;
 
 // What a payload comes to: no negotiation; or the frame limit from now on, and what was asked.
-#[derive(Drop)]
+#[derive(Clone, Copy)]
 pub enum Offer {
     Malformed,
     Agreed { limit: usize, asked: AskedFor },

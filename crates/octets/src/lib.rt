@@ -1,6 +1,8 @@
 // Octets in a lent buffer: stored where they are inside it, and nowhere else. A part of a slice. Two octets as
 // a number.
 // Assumes nothing of its caller.
+#![tactic(auto)]
+
 ghost use Rattle.std.specs.Prelude.{◌≡◌, min, set};
 ghost use Rattle.std.proofs.lemmas.List.Edits.{sets};
 ghost use Rattle.octets.specs.Octets.{pair_of, part_of, place_of};

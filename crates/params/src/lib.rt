@@ -1,6 +1,7 @@
 // The parameter field of an XID payload, over its group, read where it lies by the reader of crate reader.
 // Headline: for every group the walk finds exactly the parameters whose triples make up the payload, for octets of any
 // content (proofs/Exact.antt, proofs/Values.antt). Assumes nothing of its caller.
+#![tactic(auto)]
 ghost use Rattle.std.specs.Prelude.{◌≡◌, cond, ◌&&◌, leb, take, drop};
 ghost use Rattle.params.specs.Field.{table_rows, right_length, opened, triples_of, checked};
 ghost use Rattle.params.specs.Walk.{place_in, part_in, is_absent, unformed, found_from, found_in};
@@ -14,7 +15,7 @@ pub const ROWS: usize = 5;
 pub const FORMAT: u8 = 0x81;
 
 // An identifier of a group, and how many octets its value may have.
-#[derive(Drop)]
+#[derive(Clone, Copy)]
 pub struct Identifier {
     pub id: u8,
     pub least: usize,
@@ -22,27 +23,27 @@ pub struct Identifier {
 }
 
 // A group of parameters. Where it has fewer identifiers, its last rows have a least above their most: none is right.
-#[derive(Drop)]
+#[derive(Clone, Copy)]
 pub struct Group {
     pub octet: u8,
     pub table: [Identifier; ROWS],
 }
 
 // Where the value of a parameter stands, if it is given.
-#[derive(Drop)]
+#[derive(Clone, Copy)]
 pub enum Part {
     Absent,
     At { from: usize, len: usize },
 }
 
 // A part as an array's element: an array in a struct cannot hold enums themselves.
-#[derive(Drop)]
+#[derive(Clone, Copy)]
 pub struct Slot {
     pub part: Part,
 }
 
 // Whether the payload is well formed; the part of each identifier, at its place in the table.
-#[derive(Drop)]
+#[derive(Clone, Copy)]
 pub struct Found {
     pub formed: bool,
     pub parts: [Slot; ROWS],

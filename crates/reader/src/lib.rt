@@ -2,11 +2,12 @@
 // Headline: a step finds the triple that stands at the cursor and goes behind it; an end, and less than a triple, stay
 // (specs/Read.antt, proofs/Steps.antt). The reader's functions and `next_at` are proved by hand over `step_at`; who
 // calls `next_at` is covered. Assumes nothing of its caller.
+#![tactic(auto)]
 ghost use Rattle.std.specs.Prelude.{◌≡◌};
 ghost use Rattle.reader.specs.Read.{stands_at, step_at, reader_of, next_in, reader_after};
 
 // What stands at a place of a field: its end; less than a whole triple; a triple, its value `len` octets at `from`.
-#[derive(Drop)]
+#[derive(Clone, Copy)]
 pub enum Stands {
     End,
     Broken,
@@ -36,7 +37,7 @@ fn stands_at(s: &[u8], at: usize) -> Stands
 }
 
 // What a step of the reader finds, and the cursor after it.
-#[derive(Drop)]
+#[derive(Clone, Copy)]
 pub struct Step {
     pub found: Stands,
     pub cursor: usize,
@@ -58,7 +59,7 @@ fn step_at(s: &[u8], at: usize) -> Step
 }
 
 // The frame in which the parameters lie, and the cursor: where the next one stands.
-#[derive(Drop)]
+#[derive(Clone, Copy)]
 pub struct Reader<'a> {
     pub frame: &'a [u8],
     pub cursor: usize,

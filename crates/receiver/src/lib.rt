@@ -2,6 +2,7 @@
 // closes it. The record is `Receiver` and its lent store.
 // Headline: what it hands out is what the decoder says of each stretch between two flags, however the octets are cut
 // (crate live). Assumes nothing of its caller: any record of the type may be handed in.
+#![tactic(auto)]
 ghost use Rattle.std.specs.Prelude.{◌≡◌, not, ◌&&◌, ◌<◌, eqb, length, take};
 ghost use Rattle.refusal.specs.Answer.{gives, Hands};
 ghost use Rattle.frame.specs.Line.{escape};
@@ -18,7 +19,7 @@ use refusal::{Handed, Refusal};
 pub const PLACES: usize = LIMIT_MOST;
 
 // What is held of the stretch since the last flag, beside the decoded octets in the store.
-#[derive(Drop)]
+#[derive(Clone, Copy)]
 pub struct Receiver {
     // how many of them
     pub count: usize,
@@ -35,7 +36,7 @@ pub struct Receiver {
 }
 
 // Nothing was handed out; what the flag that was taken last handed out; or the call is refused, and nothing was taken.
-#[derive(Drop)]
+#[derive(Clone, Copy)]
 pub enum Heard {
     Nothing,
     HandedOut(Handed),
@@ -43,7 +44,7 @@ pub enum Heard {
 }
 
 // A call's answer: the record after it, and how many octets were taken.
-#[derive(Drop)]
+#[derive(Clone, Copy)]
 pub struct Received {
     pub receiver: Receiver,
     pub taken: usize,

@@ -2,6 +2,7 @@
 // in `fresh`, events happen in `event`, and a session ends in `ending`; the definitions of these and the laws about them
 // are here. Assumes nothing of its caller: any record of the type may be handed in.
 // Headline: an allowed record stays allowed under every event and at a session's end (proofs/Stays.antt).
+#![tactic(auto)]
 ghost use Rattle.std.specs.Prelude.{◌≡◌, leb};
 ghost use Rattle.antenna.specs.Motions.{in_range, owes_of};
 ghost use Rattle.record.specs.Allowed.{reply_most, identity_allowed, plates_allowed, numbers_allowed, pending_fits};
@@ -17,26 +18,26 @@ pub const PRODUCT: usize = 20;
 pub const VERSION: usize = 14;
 
 // Vendor and serial number: the first `len` octets.
-#[derive(Drop)]
+#[derive(Clone, Copy)]
 pub struct Identity {
     pub octets: [u8; identity::OCTETS],
     pub len: usize,
 }
 
-#[derive(Drop)]
+#[derive(Clone, Copy)]
 pub struct Product {
     pub octets: [u8; PRODUCT],
     pub len: usize,
 }
 
-#[derive(Drop)]
+#[derive(Clone, Copy)]
 pub struct Version {
     pub octets: [u8; VERSION],
     pub len: usize,
 }
 
 // The device's fixed data.
-#[derive(Drop)]
+#[derive(Clone, Copy)]
 pub struct Plate {
     pub identity: Identity,
     pub product: Product,
@@ -45,7 +46,7 @@ pub struct Plate {
 }
 
 // What is pending in a session: an answer's payload lies in `reply`, an indication says `said`.
-#[derive(Drop)]
+#[derive(Clone, Copy)]
 pub enum Pending {
     Nothing,
     Answer,
@@ -53,14 +54,14 @@ pub enum Pending {
 }
 
 // R, the next number due from the master; S, the number of the next unacknowledged answer.
-#[derive(Drop)]
+#[derive(Clone, Copy)]
 pub struct Session {
     pub r: u8,
     pub s: u8,
     pub pending: Pending,
 }
 
-#[derive(Drop)]
+#[derive(Clone, Copy)]
 pub enum Link {
     NoAddress,
     AddressAssigned,
@@ -71,7 +72,7 @@ pub enum Link {
 pub const REPLY: usize = 74;
 
 // The payload of an answer: the first `len` octets.
-#[derive(Drop)]
+#[derive(Clone, Copy)]
 pub struct Payload {
     pub octets: [u8; REPLY],
     pub len: usize,
@@ -84,7 +85,7 @@ pub const NO_REPLY: Payload = Payload {
 };
 
 // All of a station but its link: who changes one field copies the rest as one. `limit` is the link's frame limit.
-#[derive(Drop)]
+#[derive(Clone, Copy)]
 pub struct Desk {
     pub address: u8,
     pub limit: usize,
@@ -95,13 +96,13 @@ pub struct Desk {
 }
 
 // One port's side of the cable.
-#[derive(Drop)]
+#[derive(Clone, Copy)]
 pub struct Station {
     pub link: Link,
     pub desk: Desk,
 }
 
-#[derive(Drop)]
+#[derive(Clone, Copy)]
 pub struct Device {
     pub plate: Plate,
     pub station: Station,
@@ -109,7 +110,7 @@ pub struct Device {
 }
 
 // A drive's range and its present tilt.
-#[derive(Drop)]
+#[derive(Clone, Copy)]
 pub struct Span {
     pub lowest: Angle,
     pub highest: Angle,
@@ -117,14 +118,14 @@ pub struct Span {
 }
 
 // What happens to a device: the motor stopped there, this alarm rose, this alarm fell.
-#[derive(Drop)]
+#[derive(Clone, Copy)]
 pub enum Event {
     Stopped(Angle),
     Raised(u8),
     Cleared(u8),
 }
 
-#[derive(Drop)]
+#[derive(Clone, Copy)]
 pub struct Changed {
     pub outcome: Outcome,
     pub device: Device,

@@ -1,11 +1,13 @@
 // The numbers for "no", and what a function answers that hands octets out into a lent output.
 // Assumes nothing of its caller.
+#![tactic(auto)]
+
 ghost use Rattle.std.specs.Prelude.{◌≡◌, length};
 ghost use Rattle.refusal.specs.Numbers.{number_of};
 ghost use Rattle.refusal.specs.Answer.{Hands, handed_out};
 
 // One case for each row of the table of numbers, in its order.
-#[derive(Drop)]
+#[derive(Clone, Copy)]
 pub enum Refusal {
     TooShort,
     TooLong,
@@ -19,14 +21,14 @@ pub enum Refusal {
 }
 
 // So many octets stand at the start of the lent output; or the number for "no", and the output is as it was.
-#[derive(Drop)]
+#[derive(Clone, Copy)]
 pub enum Handed {
     Octets(usize),
     Refused(Refusal),
 }
 
 // A change was made; or the number for "no", and all is as it was.
-#[derive(Drop)]
+#[derive(Clone, Copy)]
 pub enum Outcome {
     Done,
     Refused(Refusal),

@@ -4,6 +4,7 @@
 // raw octets of the open stretch.
 // Headline: over a capture of any length, however it is cut, what comes out is what 02 says (crate capture).
 // Assumes nothing of its caller: any record of the type may be handed in.
+#![tactic(auto)]
 ghost use Rattle.std.specs.Prelude.{◌≡◌, ◌+◌, ◌<◌, ◌≤◌, min, true, not, ◌&&◌, length, nat_lt};
 ghost use Rattle.std.proofs.lemmas.List.Edits.{sets};
 ghost use Rattle.octets.specs.Puts.{Puts};
@@ -29,7 +30,7 @@ pub const RAW: usize = 2 * LIMIT_MOST;
 pub const SPARE: usize = RAW + 1;
 
 // The octets since the last flag, or since the start.
-#[derive(Drop)]
+#[derive(Clone, Copy)]
 pub struct OpenStretch {
     // their place in the capture
     pub offset: u64,
@@ -40,7 +41,7 @@ pub struct OpenStretch {
 }
 
 // Counts of what lies before the open stretch.
-#[derive(Drop)]
+#[derive(Clone, Copy)]
 pub struct Totals {
     pub frames: u64,
     // their octets, as they stood
@@ -51,7 +52,7 @@ pub struct Totals {
     pub dropped: u64,
 }
 
-#[derive(Drop)]
+#[derive(Clone, Copy)]
 pub struct Salvage {
     pub receiver: Receiver,
     pub stretch: OpenStretch,
@@ -61,7 +62,7 @@ pub struct Salvage {
 }
 
 // What was left out. Its number is the receiver's, or 0 before the first flag and after the last.
-#[derive(Drop)]
+#[derive(Clone, Copy)]
 pub struct Stretch {
     pub offset: u64,
     pub length: u64,
@@ -69,7 +70,7 @@ pub struct Stretch {
 }
 
 // Nothing was left out; the stretch that the octet taken last closed; or the call is refused, and nothing was taken.
-#[derive(Drop)]
+#[derive(Clone, Copy)]
 pub enum Listing {
     Nothing,
     LeftOut(Stretch),
@@ -77,7 +78,7 @@ pub enum Listing {
 }
 
 // A call's answer: the record after it, how many octets were taken, and how many stand at the start of the output.
-#[derive(Drop)]
+#[derive(Clone, Copy)]
 pub struct Salvaged {
     pub salvage: Salvage,
     pub taken: usize,
@@ -86,14 +87,14 @@ pub struct Salvaged {
 }
 
 // The answer to the last call.
-#[derive(Drop)]
+#[derive(Clone, Copy)]
 pub struct Finished {
     pub salvage: Salvage,
     pub listing: Listing,
 }
 
 // What becomes of the open stretch: it is still open; it ends without an octet, is kept, or left out with a number.
-#[derive(Drop)]
+#[derive(Clone, Copy)]
 pub enum Verdict {
     Still,
     Empty,
@@ -102,7 +103,7 @@ pub enum Verdict {
 }
 
 // The octets up to and with the next flag, or all: what they touch, how many, and what becomes of the stretch.
-#[derive(Drop)]
+#[derive(Clone, Copy)]
 pub struct Gathered {
     receiver: Receiver,
     stretch: OpenStretch,

@@ -3,6 +3,7 @@
 // how it ended: the counts, `failed` or `refused`; in the last two cases a sentence stands on standard error.
 // Of what is read and written no promise can speak: but for the number among its words (specs/), all here is proved safe and
 // ending, and .ci/captures holds what it does to the second program.
+#![tactic(auto)]
 mod words;
 
 use libc::{STDERR_FILENO, STDOUT_FILENO};
@@ -19,7 +20,7 @@ const ROOM: usize = RUN + SPARE;
 const SOON: u64 = 4096;
 
 // How it stands: well; well, and at the end of CAPTURE; or CAPTURE, GOOD or the list has failed.
-#[derive(Drop)]
+#[derive(Clone, Copy)]
 enum State {
     Well,
     Over,
@@ -29,7 +30,7 @@ enum State {
 }
 
 // The record, and how it stands.
-#[derive(Drop)]
+#[derive(Clone, Copy)]
 struct Step {
     salvage: Salvage,
     state: State,

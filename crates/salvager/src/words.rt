@@ -13,7 +13,7 @@ const DIGITS: usize = 20;
 // A number of which no more is asked than that it is past every frame limit.
 const PAST: usize = 1000;
 
-#[derive(Drop)]
+#[derive(Clone, Copy)]
 pub struct Word {
     pub octets: [u8; MOST],
     pub len: usize,

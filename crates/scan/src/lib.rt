@@ -1,5 +1,6 @@
 // A scan's record, and the probe that is next. The record goes in by value; any record of the type may be handed in.
 // The definitions and laws of the whole scanner are here, its other calls in `scanner`. Assumes nothing of its caller.
+#![tactic(auto)]
 ghost use Rattle.std.specs.Prelude.{◌≡◌, length, take};
 ghost use Rattle.identity.specs.Bits.{ones};
 ghost use Rattle.identity.specs.Identity.{octets_of};
@@ -27,7 +28,7 @@ const HEAD: usize = VALUE + OCTETS;
 const MASK: usize = HEAD + 2;
 
 // Asking: the 0 half just before was silent; some heard beginning had both halves silent. Or one of the four ends.
-#[derive(Drop)]
+#[derive(Clone, Copy)]
 pub enum State {
     Asking { quiet: bool, doubt: bool },
     Complete,
@@ -37,7 +38,7 @@ pub enum State {
 }
 
 // The limit and the count of the probes answered, the identities listed, the beginning that is asked or named.
-#[derive(Drop)]
+#[derive(Clone, Copy)]
 pub struct Scan {
     pub limit: u16,
     pub count: u16,

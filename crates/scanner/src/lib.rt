@@ -1,5 +1,6 @@
 // The master's scanner: a new scan, and an answer reported to one. The record goes in by value and comes back; any
 // record of the type may be handed in. Assumes nothing of its caller.
+#![tactic(auto)]
 ghost use Rattle.std.specs.Prelude.{◌≡◌, ◌||◌, ◌*◌, ◌≤◌, ◌<◌, length, take};
 ghost use Rattle.std.proofs.lemmas.List.Edits.{sets};
 ghost use Rattle.refusal.specs.Answer.{Changes};
@@ -14,7 +15,7 @@ use refusal::{Outcome, Refusal};
 use scan::{LIST, LIST_MOST, Scan, State};
 
 // What an answer comes to, and the scan after it; where it is refused, the scan as it was.
-#[derive(Drop)]
+#[derive(Clone, Copy)]
 pub struct Reported {
     pub outcome: Outcome,
     pub scan: Scan,

@@ -1,5 +1,6 @@
 // A line of the bench script, read: its command, and what each word behind it stands for, or its fault.
 // Assumes nothing of its caller.
+#![tactic(auto)]
 ghost use Rattle.std.specs.Prelude.{◌≡◌, [], set};
 ghost use Rattle.std.proofs.Math.Option.{some};
 ghost use Rattle.script.specs.Words.{spelled, first_of, behind_first, word_at, spaces_in, place_from};
@@ -9,7 +10,7 @@ ghost use Rattle.script.specs.Script.{command_of, wordless, with_value, with_hex
 ghost use Rattle.script.specs.Script.{is_unanswered, read_line};
 
 // The faults of a line, by the words that its answer has for them.
-#[derive(Drop)]
+#[derive(Clone, Copy)]
 pub enum Fault {
     Long,
     Command,
@@ -21,7 +22,7 @@ pub enum Fault {
 }
 
 // What one word stands for.
-#[derive(Drop)]
+#[derive(Clone, Copy)]
 enum Value {
     Means(usize),
     Bad(Fault),
@@ -86,7 +87,7 @@ pub const COMMANDS: usize = 18;
 // ---- a line
 
 // A line: no answer, a fault, or a command.
-#[derive(Drop)]
+#[derive(Clone, Copy)]
 pub enum Line {
     Silent,
     Faulty(Fault),
@@ -95,7 +96,7 @@ pub enum Line {
 
 // What a line asks: the value of each word by its place, the command's own word at 0, and the octets of its HEX words,
 // one behind the other. The value of HEX is where its octets end.
-#[derive(Drop)]
+#[derive(Clone, Copy)]
 pub struct Asked {
     pub line: Line,
     pub values: [usize; 8],

@@ -1,6 +1,7 @@
 // What a device says, as the octets of a frame: address, control, payload.
 // Headline: an answer has at most 76 octets and carries the device's address (device/proofs/Fits.antt).
 // Assumes nothing of its caller.
+#![tactic(auto)]
 ghost use Rattle.std.specs.Prelude.{◌≡◌, [], ◌∷◌, ◌≤◌, take};
 ghost use Rattle.std.proofs.Math.Option.{some};
 ghost use Rattle.speech.specs.Speech.{octets_held, pending_octets, link_octets, is_silent, control_by, payload_by};
@@ -13,7 +14,7 @@ use station::Say;
 pub const SPOKEN_MOST: usize = REPLY + 2;
 
 // A frame of `len` octets; none where `len` is 0.
-#[derive(Drop)]
+#[derive(Clone, Copy)]
 pub struct Spoken {
     pub octets: [u8; SPOKEN_MOST],
     pub len: usize,

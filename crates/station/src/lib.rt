@@ -1,4 +1,5 @@
 // What a device says, and the answer that becomes pending. Assumes nothing of its caller.
+#![tactic(auto)]
 ghost use Rattle.std.specs.Prelude.{◌≡◌};
 ghost use Rattle.station.specs.Station.{resent, answers_with};
 ghost use Rattle.station.specs.Turns.{answering};
@@ -8,7 +9,7 @@ use record::{Device, Link, Payload, Pending, Session, Station};
 
 // What a device says: nothing; a control alone; a frame reject; an I-frame with the pending answer; the answer to a
 // scan, to an assignment, and to a negotiation that asked for this.
-#[derive(Drop)]
+#[derive(Clone, Copy)]
 pub enum Say {
     Silence,
     Bare { control: u8 },
@@ -20,7 +21,7 @@ pub enum Say {
 }
 
 // The device after a frame, and what it says.
-#[derive(Drop)]
+#[derive(Clone, Copy)]
 pub struct Turn {
     pub device: Device,
     pub say: Say,

@@ -1,6 +1,7 @@
 // The words of the bench's answers, one for each case of what the libraries answer. Assumes nothing of its caller.
 // Headline: the word is the script's, and `complete` is said of a scan that is complete and of no other
 // (proofs/Said.antt).
+#![tactic(auto)]
 ghost use Rattle.std.specs.Prelude.{◌≡◌};
 ghost use Rattle.terms.specs.Terms.{name_of, fault_word, outcome_word, said_word, reply_word, given_word};
 ghost use Rattle.terms.specs.Terms.{handed_word, heard_word, end_word, link_word, pending_word, drive_word, word_of};
@@ -21,7 +22,7 @@ pub type Name = [u8; 14];
 // What a word is for: a line's fault; an answer of the row of devices; an outcome; what a command handed out, by its place
 // among the names; what a call of the receiver told; where a scan stands; LINK, PENDING and DRIVE of `show`; a scan by hand
 // that is made anew; a receiver that is; how many octets it took.
-#[derive(Drop)]
+#[derive(Clone, Copy)]
 pub enum Term {
     Fault(Fault),
     Reply(Response),

@@ -1,6 +1,7 @@
 // What the payload of an XID frame to 0xFF means to a device with this plate. Headline: a scan is answered exactly if
 // the padded identity under the mask is the value, an assignment taken exactly if all that it names fits, and no
 // payload is both (proofs/Exactly.antt). Assumes nothing of its caller: any plate, any octets.
+#![tactic(auto)]
 ghost use Rattle.std.specs.Prelude.{◌≡◌, true, take, get_or};
 ghost use Rattle.identity.specs.Bits.{masked};
 ghost use Rattle.identity.specs.Identity.{padded, same};
@@ -37,7 +38,7 @@ pub const KIND_ID: u8 = 4;
 const VENDOR_ID: u8 = 6;
 
 // One part for each identifier of the group.
-#[derive(Drop)]
+#[derive(Clone, Copy)]
 struct Parts {
     identity: Part,
     address: Part,
@@ -47,7 +48,7 @@ struct Parts {
 }
 
 // What a payload means: nothing to answer; a scan that is answered; an assignment that is taken.
-#[derive(Drop)]
+#[derive(Clone, Copy)]
 pub enum Xid {
     Silence,
     Scan,

@@ -1,6 +1,7 @@
 // The payloads of a device's answers to a scan, to an assignment and to a negotiation. Headline: they are the
 // well-formed payloads that 01 and 02 list, the first two with length fields n+8 and n+5 (proofs/Lengths.antt), and who
 // reads the third reads the limit agreed on (proofs/Agreement.antt). Assumes nothing of its caller: any plate, any limit.
+#![tactic(auto)]
 ghost use Rattle.std.specs.Prelude.{◌≡◌, cond, [], ◌+◌, ◌≤◌, length, take};
 ghost use Rattle.std.proofs.lemmas.List.Edits.{sets};
 ghost use Rattle.identity.specs.Identity.{width};

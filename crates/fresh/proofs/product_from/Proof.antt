@@ -11,7 +11,7 @@ put-all-requires : tie.Need-put-all-requires
 put-all-requires c κs = search rules
 
 returns : tie.Need-returns
-returns c = product-laid _ c.before.before.before.before.requires c.before.put_all_lem.ensures
+returns c = product-laid _ c.before.before.before.before.requires c.before.put_all.ensures
 
 pub product-from-spec : {M : Type 1} → statement M
 product-from-spec = tie.close (tie.spec slice-aggregate-put-all put-all-requires returns)

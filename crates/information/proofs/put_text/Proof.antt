@@ -28,7 +28,7 @@ same_length c = search rules
 returns : tie.Need-returns
 returns c =
     let late = c.before.before in
-    text-put _ _ _ late.before.before.before.before.put.ensures late.put_all_lem.ensures
+    text-put _ _ _ late.before.before.before.before.put.ensures late.put_all.ensures
 
 pub put-text-spec : {M : Type 1} → statement M
 put-text-spec =

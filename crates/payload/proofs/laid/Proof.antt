@@ -37,7 +37,7 @@ add-t5 : tie.Need-overflow-add-t5
 add-t5 c = search rules
 
 returns : tie.Need-returns
-returns c = laid-is _ _ c.before.before.before.before.fewer.ensures c.before.put_all_lem.ensures
+returns c = laid-is _ _ c.before.before.before.before.fewer.ensures c.before.put_all.ensures
 
 pub laid-spec : {M : Type 1} → statement M
 laid-spec =

@@ -27,7 +27,7 @@ returns : tie.Need-returns
 unfolding add64
 returns c =
     let eight = c.before.before.before.before.before.before.before.before in
-    (grown-is _ _ eight.requires c.before.wrapping-add-u64.ensures c.fewer.ensures, c.before.before.before.before.put_all_lem.ensures)
+    (grown-is _ _ eight.requires c.before.wrapping-add-u64.ensures c.fewer.ensures, c.before.before.before.before.put_all.ensures)
 
 pub hold-spec : {M : Type 1} → statement M
 hold-spec =

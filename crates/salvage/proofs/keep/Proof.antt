@@ -53,7 +53,7 @@ returns c =
     let twelve = eight.before.before.before.before in
     let known = twelve.before.before.before in
     rw c.before.before.put.ensures
-    (kept_put _ _ _ known.requires.0 eight.before.before.before.put_first.ensures four.before.before.put_all_lem.ensures
+    (kept_put _ _ _ known.requires.0 eight.before.before.before.put_first.ensures four.before.before.put_all.ensures
     four.before.before.before.part.ensures)
 
 pub keep_spec : {M : Type 1} → statement M

@@ -57,7 +57,7 @@ returns c =
     let first = value.before.before.before in
     let start = first.before.before.before in
     probe-built start.args.beginning start.args.bits (omega (arith, start.well-formed))
-    value.octets-of.ensures mask.mask-of.ensures first.put_all_lem.ensures second.put-all2.ensures
+    value.octets-of.ensures mask.mask-of.ensures first.put_all.ensures second.put-all2.ensures
     third.put-all3.ensures fourth.put-all4.ensures
 
 pub probe-of-spec : {M : Type 1} → statement M

@@ -21,7 +21,7 @@ with-value-requires c κs = search rules
 
 returns-2 : tie.Need-returns-2
 unfolding with_word
-returns-2 c = search (tests, sym c.with_value.ensures, sym c.before.value_of_lem.ensures)
+returns-2 c = search (tests, sym c.with_value.ensures, sym c.before.value_of.ensures)
 
 pub with-word-spec : {M : Type 1} → statement M
 with-word-spec =

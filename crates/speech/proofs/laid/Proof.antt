@@ -34,7 +34,7 @@ returns : tie.Need-returns
 returns c =
     let a = c.before.before.before.before.before.args in
     let count = c.before.before.before.before.fewer.ensures in
-    laid-is _ _ _ a.len (search rules) count c.before.put_all_lem.ensures
+    laid-is _ _ _ a.len (search rules) count c.before.put_all.ensures
 
 pub laid-spec : {M : Type 1} → statement M
 laid-spec =

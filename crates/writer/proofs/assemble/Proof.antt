@@ -55,7 +55,7 @@ returns c =
     let mid = late.before.before.before.before in
     let early = mid.before.before.before.before.before.before.before.before in
     assembled _ _ _ _ early.before.before.before.before.requires
-    early.put.ensures mid.before.before.before.before.put2.ensures mid.put_all_lem.ensures
+    early.put.ensures mid.before.before.before.before.put2.ensures mid.put_all.ensures
     late.check.ensures c.before.before.before.before.before.before.put3.ensures
     c.before.before.put4.ensures
 

@@ -38,7 +38,7 @@ returns c =
     let first = second.before.before.before.before in
     let a = first.before.before.before.before.args in
     param-stored a.at a.id a.value.now _ first.put.ensures second.put2.ensures
-    c.before.before.put_all_lem.ensures
+    c.before.before.put_all.ensures
 
 pub put-param-spec : {M : Type 1} → statement M
 put-param-spec =

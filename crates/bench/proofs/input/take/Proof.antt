@@ -43,7 +43,7 @@ returns c =
     let part = find.before in
     let a = part.before.before.before.before.args in
     taken_is a.input part.part.ensures find.find.ensures
-    (put.put_all_lem.ensures ∙ ap (sets a.input.line a.input.len) part2.part2.ensures)
+    (put.put_all.ensures ∙ ap (sets a.input.line a.input.len) part2.part2.ensures)
     c.before.before.moved.ensures c.before.moved2.ensures c.moved3.ensures
 
 pub take_spec : {M : Type 1} → statement M

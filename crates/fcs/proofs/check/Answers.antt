@@ -4,15 +4,8 @@ use mathlib.Core.Path.{ap}
 use Prim.Native.Nat.{ℕ}
 use lib.Bits.{bit_xor}
 use Rattle.fcs.specs.Check.{check_of}
-use Rattle.fcs.proofs.check.Statement.{statement}
-use Rattle.fcs.proofs.check.Tie as tie
+use Rattle.fcs.proofs.check.Goals as goal
 
-go-on-requires : tie.Need-go-on-requires
-go-on-requires c κs = search rules
-
-returns : tie.Need-returns
+pub returns : goal.returns
 unfolding check_of
 returns c = ap (λ (x : ℕ). bit_xor x 0xFFFF) c.go_on.ensures
-
-pub check-spec : {M : Type 1} → statement M
-check-spec = tie.close (tie.spec go-on-requires returns)

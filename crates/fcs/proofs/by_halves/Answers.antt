@@ -1,0 +1,12 @@
+-- `fcs::by_halves` meets its promise: the constant table passes the test at each of its 16 entries, which antt computes.
+-- Assumes nothing.
+use borrow.Author.Rules.{rules}
+use mathlib.Core.Path.{refl}
+use mathlib.Core.Logic.{inl}
+use Rattle.fcs.specs.Check.{bit_step, bit_steps}
+use Rattle.fcs.proofs.Rule.{rule}
+use Rattle.fcs.proofs.by_halves.Goals as goal
+
+pub run_by_two-requires : goal.run_by_two-requires
+unfolding bit_steps bit_step
+run_by_two-requires c = inl (rule 4 _ refl tt)

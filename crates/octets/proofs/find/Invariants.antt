@@ -1,0 +1,15 @@
+-- `octets::find` meets its promise: the octets passed, and the place in what is left. Assumes nothing.
+use borrow.Author.Rules.{rules}
+use mathlib.Core.Path.{◌≡◌}
+use Prim.Native.Nat.{◌+◌, ◌-◌, ◌≤◌}
+use native.Mathlib.Nat.{zero-add}
+use lib.ListN.{length, drop}
+use Rattle.octets.specs.Octets.{place_of}
+use Rattle.octets.proofs.Words.{place_here, place-more, place-done}
+use Rattle.octets.proofs.find.Given as goal
+
+abbrev pub invariant-loop-i : goal.invariant-loop-i
+invariant-loop-i l = (l.i ≤ length l.s) × (l.i + place_of l.octet (drop l.i l.s) ≡ place_of l.octet l.s)
+
+abbrev pub decreases-loop-i : goal.decreases-loop-i
+decreases-loop-i l = length l.s - l.i

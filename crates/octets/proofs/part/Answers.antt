@@ -1,0 +1,9 @@
+-- `part` meets its promise: no more octets than there are. Assumes nothing.
+use Rattle.octets.proofs.Takes.{part-is}
+use borrow.Author.Rules.{rules}
+use Rattle.octets.proofs.part.Goals as goal
+
+pub returns : goal.returns
+returns c =
+    let a = c.args in
+    part-is a.from a.end a.s.now c.fewer-last.ensures c.fewer-first.ensures
