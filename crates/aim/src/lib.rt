@@ -3,6 +3,7 @@
 // Headline: a movement starts only where nothing moves or waits and the tilt asked is in range
 // (antenna/proofs/Movements.antt).
 #![tactic(auto)]
+
 ghost use Rattle.std.specs.Prelude.{◌≡◌};
 ghost use Rattle.antenna.specs.Angles.{at_most};
 ghost use Rattle.antenna.specs.Motions.{in_range, aimed_at, Aims};

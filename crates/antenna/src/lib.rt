@@ -2,6 +2,7 @@
 // `event`; the definitions of both and the laws about them are here. Assumes nothing of its caller.
 // Headline: a movement starts only where nothing moves or waits and the tilt asked is in range (proofs/Movements.antt).
 #![tactic(auto)]
+
 ghost use Rattle.std.specs.Prelude.{◌≡◌};
 ghost use Rattle.antenna.specs.Alarms.{differs, any_differ};
 ghost use Rattle.antenna.specs.Motions.{busy_of};

@@ -4,6 +4,7 @@
 // crate link.
 // Assumes nothing of its caller.
 #![tactic(auto)]
+
 ghost use Rattle.std.specs.Prelude.{◌≡◌};
 ghost use Rattle.control.specs.Control.{next_of, info_of, rr_of};
 

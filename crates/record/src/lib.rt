@@ -3,6 +3,7 @@
 // are here. Assumes nothing of its caller: any record of the type may be handed in.
 // Headline: an allowed record stays allowed under every event and at a session's end (proofs/Stays.antt).
 #![tactic(auto)]
+
 ghost use Rattle.std.specs.Prelude.{◌≡◌, leb};
 ghost use Rattle.antenna.specs.Motions.{in_range, owes_of};
 ghost use Rattle.record.specs.Allowed.{reply_most, identity_allowed, plates_allowed, numbers_allowed, pending_fits};

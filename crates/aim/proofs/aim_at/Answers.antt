@@ -1,0 +1,26 @@
+-- `aim::aim_at` meets its promise: each way out, by the tests that lead to it. Assumes nothing.
+use mathlib.Core.Path.{refl, sym, ◌∙◌}
+use Rattle.antenna.specs.declared.Aim.TheVariants.{Busy, Outside}
+use Rattle.antenna.specs.Motions.{aim_number, moves}
+use Rattle.antenna.proofs.Movements.{aim-05, aim-13, starts}
+use Rattle.antenna.proofs.Aims.{refused-aims, started-aims}
+use borrow.Author.Rules.{rules}
+use Rattle.aim.proofs.aim_at.Goals as goal
+
+pub returns-then-busy : goal.returns-then-busy
+unfolding aim_number
+returns-then-busy c = refused-aims Busy refl ((aim-05 _ _).1 (sym c.busy.ensures ∙ c.if-busy.true))
+
+pub returns-then-in_range : goal.returns-then-in_range
+unfolding moves
+returns-then-in_range c =
+    let free = sym c.busy.ensures ∙ c.if-busy.false in
+    let inside = sym c.in_range.ensures ∙ c.if-in_range.true in
+    started-aims ((starts _ _ _).1 (free, inside, refl))
+
+pub returns : goal.returns
+unfolding aim_number
+returns c =
+    let free = sym c.busy.ensures ∙ c.if-busy.false in
+    let outside = sym c.in_range.ensures ∙ c.if-in_range.false in
+    refused-aims Outside refl ((aim-13 _ _).1 (free, outside))
