@@ -2,6 +2,7 @@
 // Headline: told changes at an acknowledged indication alone, to what it said (proofs/Settled.antt).
 // Assumes nothing of its caller.
 #![tactic(auto)]
+
 ghost use Rattle.std.specs.Prelude.{◌≡◌};
 ghost use Rattle.acknowledge.specs.Acknowledge.{emptied, told_after, relieved, session_after, station_after};
 ghost use Rattle.acknowledge.specs.Acknowledge.{acknowledged};

@@ -2,6 +2,7 @@
 // Assumes nothing of its caller: any record of the type may be handed in.
 // Headline: an allowed record stays allowed at a session's end (record/proofs/Stays.antt).
 #![tactic(auto)]
+
 ghost use Rattle.std.specs.Prelude.{◌≡◌};
 ghost use Rattle.antenna.specs.Motions.{unowed_of};
 ghost use Rattle.record.specs.Changes.{unsaid_at, emptied_as};

@@ -4,6 +4,7 @@
 // (record/proofs/Stays.antt, record/proofs/Only.antt); a stop makes a result that waits exactly where one was owed
 // (antenna/proofs/Movements.antt).
 #![tactic(auto)]
+
 ghost use Rattle.std.specs.Prelude.{◌≡◌};
 ghost use Rattle.refusal.specs.Answer.{Changes};
 ghost use Rattle.antenna.specs.Angles.{same_as};

@@ -3,6 +3,7 @@
 // Headline: a fresh device is allowed, and 6 is given exactly where its data is not (record/proofs/Stays.antt,
 // record/proofs/Only.antt).
 #![tactic(auto)]
+
 ghost use Rattle.std.specs.Prelude.{◌≡◌, true, ◌≤◌, length};
 ghost use Rattle.refusal.specs.Answer.{Changes};
 ghost use Rattle.identity.specs.Identity.{width};

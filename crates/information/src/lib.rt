@@ -2,6 +2,7 @@
 // Assumes nothing of its caller: any record of the type may be handed in.
 // Headline: it never has more than 73 octets (proofs/Laws.antt).
 #![tactic(auto)]
+
 ghost use Rattle.std.specs.Prelude.{◌≡◌, ◌≤◌, length, take};
 ghost use Rattle.payload.specs.Payloads.{payload_of, success_of};
 ghost use Rattle.octets.specs.Puts.{Puts};

@@ -2,6 +2,7 @@
 // Assumes nothing of its caller.
 // Headline: no payload has more than 74 octets (proofs/Laws.antt).
 #![tactic(auto)]
+
 ghost use Rattle.std.specs.Prelude.{◌≡◌, [], take};
 ghost use Rattle.payload.specs.Payloads.{payload_of, message_of, success_of, failure_of, body_most};
 

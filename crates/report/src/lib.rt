@@ -2,6 +2,7 @@
 // Assumes nothing of its caller: any record of the type may be handed in.
 // Headline: an indication says nothing exactly if nothing differs (proofs/Laws.antt).
 #![tactic(auto)]
+
 ghost use Rattle.std.specs.Prelude.{◌≡◌, ◌∷◌};
 ghost use Rattle.antenna.specs.Alarms.{codes_of, changes_of, flag_octet, differs};
 ghost use Rattle.payload.specs.Payloads.{payload_of, success_of};

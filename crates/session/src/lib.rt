@@ -1,6 +1,7 @@
 // A session's numbers: what is pending, and which N(R) acknowledges it. Assumes nothing of its caller: any numbers.
 // Headline: R moves only where an I-frame is accepted, S only where an answer is acknowledged (conduct/proofs/Numbers.antt).
 #![tactic(auto)]
+
 ghost use Rattle.std.specs.Prelude.{◌≡◌};
 ghost use Rattle.session.specs.Session.{pends, acknowledges};
 

@@ -1,5 +1,6 @@
 // What a device says, and the answer that becomes pending. Assumes nothing of its caller.
 #![tactic(auto)]
+
 ghost use Rattle.std.specs.Prelude.{◌≡◌};
 ghost use Rattle.station.specs.Station.{resent, answers_with};
 ghost use Rattle.station.specs.Turns.{answering};

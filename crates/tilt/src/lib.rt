@@ -1,6 +1,7 @@
 // Tilts as octets: the tilt that two octets stand for, and the answer that tells one. Assumes nothing of its caller.
 // Headline: get tilt -15 is 34 03 00 00 F1 FF, and a tilt told reads back (proofs/Laws.antt).
 #![tactic(auto)]
+
 ghost use Rattle.std.specs.Prelude.{◌≡◌};
 ghost use Rattle.std.proofs.Common.{of_z};
 ghost use Rattle.std.specs.Int.{w16};

@@ -1,0 +1,22 @@
+-- `event::rested` meets its promise: each way out, by the tests that lead to it. Assumes nothing.
+use Rattle.antenna.specs.Events.{rested_of}
+use mathlib.Core.Path.{sym}
+use Rattle.octets.proofs.Rules.{tests}
+use borrow.Author.Rules.{rules}
+use Rattle.event.proofs.rested.Goals as goal
+
+pub returns-in-Still : goal.returns-in-Still
+unfolding rested_of
+returns-in-Still c = search (tests, c.in-Still.is)
+
+pub returns-in-Moving : goal.returns-in-Moving
+unfolding rested_of
+returns-in-Moving c = search (tests, c.in-Moving.is)
+
+pub returns-in-Owing : goal.returns-in-Owing
+unfolding rested_of
+returns-in-Owing c = search (tests, sym c.same.ensures, c.in-Owing.is)
+
+pub returns-in-Stopped : goal.returns-in-Stopped
+unfolding rested_of
+returns-in-Stopped c = search (tests, c.in-Stopped.is)

@@ -1,0 +1,47 @@
+-- `report::put_codes` meets its promise: what is left of the flags is what is left to store. Assumes nothing.
+use borrow.Author.Rules.{rules}
+use mathlib.Core.Path.{◌≡◌}
+use Prim.Native.Nat.{◌+◌, ◌-◌, ◌<◌, ◌≤◌}
+use native.Mathlib.Omega.{arith}
+use lib.ListN.{length, drop}
+use Rattle.octets.proofs.Runs.{Run, run-all, run-one, run_is}
+use Rattle.antenna.specs.Alarms.{alarm_codes, codes_among, codes_of}
+use Rattle.report.proofs.Flags.{codes-on, codes-off, codes-done}
+use Rattle.payload.proofs.Backs.{success-put}
+use Rattle.report.proofs.put_codes.Goals as goal
+
+pub loop-i-init : goal.loop-i-init
+loop-i-init c = (search rules, search rules, search rules, search rules, run-all)
+
+pub loop-i-preserved-then-on : goal.loop-i-preserved-then-on
+loop-i-preserved-then-on c =
+    let test = c in
+    let at = test.loop-i in
+    let h : at.i < 6 = omega arith in
+    let k : at.i < length test.args.flags
+    = omega arith in (
+      search rules,
+      search rules,
+      search rules,
+      search rules,
+      run-one _ c.put-then-on.ensures (codes-on alarm_codes _ at.i h k test.if-on.true) at.invariant.4,
+    )
+
+pub loop-i-preserved : goal.loop-i-preserved
+loop-i-preserved c =
+    let at = c.loop-i in
+    let h : at.i < 6 = omega arith in
+    let start = c.args in
+    let k : at.i < length start.flags = omega arith in (
+      search rules,
+      search rules,
+      search rules,
+      search rules,
+      run_is (codes-off alarm_codes _ at.i h k c.if-on.false) at.invariant.4,
+    )
+
+pub returns : goal.returns
+returns c =
+    let at = c.loop-i in
+    success-put _ _ c.put.ensures
+    (run_is (codes-done alarm_codes _ at.i c.loop-i-test.false) at.invariant.4)
