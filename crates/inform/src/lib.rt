@@ -2,6 +2,7 @@
 // Headline: a message is carried out only where its number is the next one due and nothing is pending, and R then moves
 // on by one (conduct/proofs/Due.antt). Assumes nothing of its caller.
 #![tactic(auto)]
+
 ghost use Rattle.std.specs.Prelude.{◌≡◌};
 ghost use Rattle.session.specs.Session.{accepts, taken};
 ghost use Rattle.inform.specs.Inform.{heed_of, carried_here, replied_by, carried_by, inform_of};

@@ -3,6 +3,7 @@
 // or waits, and the tilt asked is in range (proofs/Moves.antt); each return code is given exactly when 01 says
 // (proofs/Exact.antt).
 #![tactic(auto)]
+
 ghost use Rattle.std.specs.Prelude.{◌≡◌, ◌≤◌, length, get_or};
 ghost use Rattle.octets.specs.Octets.{holds};
 ghost use Rattle.refusal.specs.Answer.{answered};

@@ -1,6 +1,7 @@
 // RR in a session: the pending answer again, a result that waits, an indication, or RR.
 // Assumes nothing of its caller.
 #![tactic(auto)]
+
 ghost use Rattle.std.specs.Prelude.{◌≡◌};
 ghost use Rattle.antenna.specs.Motions.{Awaits};
 ghost use Rattle.payload.specs.Payloads.{payload_of, result_of};

@@ -1,6 +1,7 @@
 // The three link states: what a frame that is read at the own address does in each. An XID there is link's.
 // Assumes nothing of its caller.
 #![tactic(auto)]
+
 ghost use Rattle.std.specs.Prelude.{◌≡◌};
 ghost use Rattle.session.specs.Session.{good_number, counts_of};
 ghost use Rattle.station.specs.Turns.{saying};
