@@ -1,5 +1,6 @@
 // Rows of octets compared. Assumes nothing of its caller.
 #![tactic(auto)]
+
 ghost use Rattle.std.specs.Prelude.{◌≡◌};
 ghost use Rattle.identity.specs.Identity.{same};
 

@@ -2,6 +2,7 @@
 // Headline: for every group the walk finds exactly the parameters whose triples make up the payload, for octets of any
 // content (proofs/Exact.antt, proofs/Values.antt). Assumes nothing of its caller.
 #![tactic(auto)]
+
 ghost use Rattle.std.specs.Prelude.{◌≡◌, cond, ◌&&◌, leb, take, drop};
 ghost use Rattle.params.specs.Field.{table_rows, right_length, opened, triples_of, checked};
 ghost use Rattle.params.specs.Walk.{place_in, part_in, is_absent, unformed, found_from, found_in};

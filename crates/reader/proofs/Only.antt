@@ -22,7 +22,7 @@ facts-tell 𝓤 {φ} {ψ} {χ} f =
     fact_use 𝓤 φ (conj_l 𝓤 (fact 𝓤 φ) (fact 𝓤 ψ))
     (λ x. fact_use 𝓤 ψ (conj_r 𝓤 (fact 𝓤 φ) (fact 𝓤 ψ)) (λ y. fact_i 𝓤 χ _ (f x y)))
 
--- the promises of `new` and `next`, which have no `Reads`: of whoever holds two of them, at any model
+-- the promises of `new` and `next`, as their clauses say them: of whoever holds two of them, at any model
 pub new-only : (w : World) (κs : _) (a : _) (r q : _) (s t : _) →
     let says = (new.clauses w.𝓛 w.𝓜.mem w.𝓡.run κs a).ensures tt in
     ent w.𝓤 (conj w.𝓤 (says r s) (says q t)) (fact w.𝓤 (r ≡ q))

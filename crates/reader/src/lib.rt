@@ -1,8 +1,8 @@
 // The reader of a parameter field: it holds the frame's slice and a cursor, and finds one parameter after the other.
 // Headline: a step finds the triple that stands at the cursor and goes behind it; an end, and less than a triple, stay
-// (specs/Read.antt, proofs/Steps.antt). The reader's functions and `next_at` are proved by hand over `step_at`; who
-// calls `next_at` is covered. Assumes nothing of its caller.
+// (specs/Read.antt, proofs/Steps.antt). Assumes nothing of its caller.
 #![tactic(auto)]
+
 ghost use Rattle.std.specs.Prelude.{◌≡◌};
 ghost use Rattle.reader.specs.Read.{stands_at, step_at, reader_of, next_in, reader_after};
 
@@ -83,7 +83,7 @@ impl<'a> Reader<'a> {
     }
 }
 
-// The next parameter of a frame from a place on. Its own parameters are plain, so that its callers are covered.
+// The next parameter of a frame from a place on. Its own parameters are plain: its callers hold a place, and no reader.
 pub fn next_at(frame: &[u8], at: usize) -> Step
     ensures { result ≡ step_at frame.now at }
 {

@@ -12,7 +12,7 @@ use Rattle.identity.specs.Bits.{Bits}
 use Rattle.walk.specs.Probes.{Mark, hit, beginnings_of, hits, place, Doubt}
 use Rattle.walk.specs.Machine.{Phase, asking, complete, doubtful, limited, full, Ended, Walk, start, run}
 use Rattle.walk.specs.Demand.{AsksNext, AnyEnd, AnyAnswers}
-use Rattle.walk.proofs.Play.{ended, phase-is}
+use Rattle.walk.proofs.Play.{phase-is}
 use Rattle.walk.proofs.Doubts.{doubts, doubts-in, doubts-out}
 use Rattle.walk.proofs.Places.{hits-append, hits_more, place-hit, place-late, place-all, asked-at, heard-at}
 use Rattle.walk.proofs.Endings.{last, probes, Ending, all_asked, at-limit, at-full, ending}
