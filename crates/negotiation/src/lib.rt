@@ -2,6 +2,7 @@
 // is `limit`. Headline: the limit agreed is the whole octets in the smaller length asked and 4 more, 78 to 260,
 // exactly; none asked keeps it (proofs/Exactly.antt). Assumes nothing of its caller: any octets, any limit.
 #![tactic(auto)]
+
 ghost use Rattle.std.specs.Prelude.{◌≡◌, not, ◌*◌, min, take, drop};
 ghost use Rattle.limits.specs.Limits.{limit_most, payload_most};
 ghost use Rattle.params.specs.Walk.{part_in, is_absent, value_at};

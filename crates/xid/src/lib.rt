@@ -2,6 +2,7 @@
 // the padded identity under the mask is the value, an assignment taken exactly if all that it names fits, and no
 // payload is both (proofs/Exactly.antt). Assumes nothing of its caller: any plate, any octets.
 #![tactic(auto)]
+
 ghost use Rattle.std.specs.Prelude.{◌≡◌, true, take, get_or};
 ghost use Rattle.identity.specs.Bits.{masked};
 ghost use Rattle.identity.specs.Identity.{padded, same};

@@ -1,0 +1,18 @@
+-- `xid::under_mask` meets its promise: what is left, masked, is what is left of the value exactly if all is.
+-- Assumes nothing.
+use borrow.Author.Rules.{rules}
+use mathlib.Core.Path.{◌≡◌, refl, sym, ◌∙◌}
+use Prim.Native.Nat.{◌-◌, ◌≤◌}
+use lib.ListN.{drop}
+use Rattle.identity.specs.Bits.{masked}
+use Rattle.identity.specs.Identity.{same}
+use Rattle.compare.proofs.Laws.{same-differ}
+use Rattle.xid.proofs.Octetwise.{length-masked, masked-not, masked-more, masked-done}
+use Rattle.xid.proofs.under_mask.Given as goal
+
+abbrev pub invariant-loop-i : goal.invariant-loop-i
+invariant-loop-i l =
+    (l.i ≤ l.n) × (same (masked (drop l.i l.s) (drop l.i l.mask)) (drop l.i l.value) ≡ same (masked l.s l.mask) l.value)
+
+abbrev pub decreases-loop-i : goal.decreases-loop-i
+decreases-loop-i l = l.n - l.i
