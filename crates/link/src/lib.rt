@@ -2,6 +2,7 @@
 // Headline: a frame starts a movement exactly if it is a set tilt that is the next one due (conduct/proofs/Due.antt);
 // an allowed device stays allowed (conduct/proofs/Stays.antt). Assumes nothing of its caller.
 #![tactic(auto)]
+
 ghost use Rattle.std.specs.Prelude.{◌≡◌};
 ghost use Rattle.control.specs.Control.{polled, numbered_by, Asks};
 ghost use Rattle.station.specs.Turns.{saying};

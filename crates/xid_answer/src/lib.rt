@@ -2,6 +2,7 @@
 // well-formed payloads that 01 and 02 list, the first two with length fields n+8 and n+5 (proofs/Lengths.antt), and who
 // reads the third reads the limit agreed on (proofs/Agreement.antt). Assumes nothing of its caller: any plate, any limit.
 #![tactic(auto)]
+
 ghost use Rattle.std.specs.Prelude.{◌≡◌, cond, [], ◌+◌, ◌≤◌, length, take};
 ghost use Rattle.std.proofs.lemmas.List.Edits.{sets};
 ghost use Rattle.identity.specs.Identity.{width};
@@ -22,7 +23,7 @@ use xid::{ADDRESS_ID, GROUP_OCTET, IDENTITY_ID, KIND, KIND_ID};
 // Puts a triple at a place, as far as there is room, and gives the place behind it.
 fn put_param(out: &mut [u8], at: usize, id: u8, value: &[u8]) -> usize
     requires { (at ≤ reply_most) × (length value.now ≤ width) }
-    ensures { Puts out.old at (triple_of (id is (λ x. x.now) value.entry)) result out.new }
+    ensures { Puts out.old at (triple_of (id is value.now)) result out.new }
 {
     octets::put(out, at, id);
     octets::put(out, at + 1, value.len() as u8);
@@ -81,7 +82,7 @@ fn if_asked(asked: bool, count: u8) -> u8
 // Puts a triple at a place where it was asked, and gives the place behind it.
 fn put_if(out: &mut [u8], at: usize, asked: bool, id: u8, value: &[u8]) -> usize
     requires { (at ≤ reply_most) × (length value.now ≤ width) }
-    ensures { Puts out.old at (cond asked (triple_of (id is (λ x. x.now) value.entry)) []) result
+    ensures { Puts out.old at (cond asked (triple_of (id is value.now)) []) result
         out.new × (result ≤ at + (length value.now + 2)) }
 {
     if asked {
