@@ -3,6 +3,7 @@
 // Headline: what `write` wrote decodes to what was put in, and no other line without needless escapes does
 // (proofs/Trip.antt, proofs/Unique.antt). Assumes nothing of its caller.
 #![tactic(auto)]
+
 ghost use Rattle.std.specs.Prelude.{◌≡◌, ◌≤◌, false, eqb, length};
 ghost use Rattle.octets.specs.Octets.{holds, last_of};
 ghost use Rattle.octets.specs.Puts.{Puts};

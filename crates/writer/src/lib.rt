@@ -2,6 +2,7 @@
 // Headline: what `write` wrote is the line that frame/specs/Write.antt says, or a refusal changes nothing; what lies
 // between its flags decodes to what was put in (frame/proofs/Trip.antt). Assumes nothing of its caller.
 #![tactic(auto)]
+
 ghost use Rattle.std.specs.Prelude.{◌≡◌, ◌∷◌, ◌+◌, ◌≤◌, length, drop};
 ghost use Rattle.octets.specs.Puts.{Puts};
 ghost use Rattle.refusal.specs.Answer.{Hands, handed_out, shorter};
