@@ -1,6 +1,6 @@
 -- Which records take no probe and no answer. Assumes nothing.
 use mathlib.Core.Path.{◌≡◌, refl, sym, ◌∙◌}
-use mathlib.Core.Bool.{true, false, not, or-true}
+use mathlib.Core.Bool.{Bool, true, false, not, or-true}
 use mathlib.Core.List.{[], ◌∷◌}
 use mathlib.Core.Logic.{⊎_elim}
 use Prim.Native.Nat.{◌≤◌, ◌<◌}
@@ -18,7 +18,7 @@ use Rattle.scan.specs.declared.State.{State}
 use Rattle.scan.specs.declared.State.TheVariants.{Asking, Complete, Doubtful, Limit, Full}
 use Rattle.scan.specs.contracts.State.{the_type}
 
--- what a `match` on the state tells
+-- a state by the number of its variant
 pub tag-ended : (t : State) → OneOf (1 ∷ 2 ∷ 3 ∷ 4 ∷ []) (tag_of the_type t) → ended t ≡ true
 unfolding ended
 tag-ended (Asking q w) k =
@@ -35,6 +35,15 @@ tag-asking Complete k = absurd (omega arith)
 tag-asking Doubtful k = absurd (omega arith)
 tag-asking Limit k = absurd (omega arith)
 tag-asking Full k = absurd (omega arith)
+
+-- what a `match` on the state tells: a state that is not asking is an end
+pub ended-not_asking : (t : State) → ((quiet doubt : Bool) → t ≡ Asking quiet doubt → ⊥) → ended t ≡ true
+unfolding ended
+ended-not_asking (Asking quiet doubt) k = absurd (k quiet doubt refl)
+ended-not_asking Complete k = refl
+ended-not_asking Doubtful k = refl
+ended-not_asking Limit k = refl
+ended-not_asking Full k = refl
 
 module _ (s : Scan) where
   pub over-ended : ended s.state ≡ true → true ≡ over s

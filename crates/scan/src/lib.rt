@@ -1,6 +1,7 @@
 // A scan's record, and the probe that is next. The record goes in by value; any record of the type may be handed in.
 // The definitions and laws of the whole scanner are here, its other calls in `scanner`. Assumes nothing of its caller.
 #![tactic(auto)]
+
 ghost use Rattle.std.specs.Prelude.{◌≡◌, length, take};
 ghost use Rattle.identity.specs.Bits.{ones};
 ghost use Rattle.identity.specs.Identity.{octets_of};

@@ -1,6 +1,7 @@
 // The master's scanner: a new scan, and an answer reported to one. The record goes in by value and comes back; any
 // record of the type may be handed in. Assumes nothing of its caller.
 #![tactic(auto)]
+
 ghost use Rattle.std.specs.Prelude.{◌≡◌, ◌||◌, ◌*◌, ◌≤◌, ◌<◌, length, take};
 ghost use Rattle.std.proofs.lemmas.List.Edits.{sets};
 ghost use Rattle.refusal.specs.Answer.{Changes};
