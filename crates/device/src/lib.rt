@@ -2,6 +2,7 @@
 // Headline: which number is given, exactly when; a refusal leaves the device and the buffer as they were, silence the
 // buffer (proofs/Exact.antt). Assumes nothing of its caller: a record that no run ever made may be handed in.
 #![tactic(auto)]
+
 ghost use Rattle.std.specs.Prelude.{◌≡◌, ◌≤◌, length, take};
 ghost use Rattle.std.proofs.lemmas.List.Edits.{sets};
 ghost use Rattle.refusal.specs.Answer.{gives};

@@ -2,6 +2,7 @@
 // Headline: an answer has at most 76 octets and carries the device's address (device/proofs/Fits.antt).
 // Assumes nothing of its caller.
 #![tactic(auto)]
+
 ghost use Rattle.std.specs.Prelude.{◌≡◌, [], ◌∷◌, ◌≤◌, take};
 ghost use Rattle.std.proofs.Math.Option.{some};
 ghost use Rattle.speech.specs.Speech.{octets_held, pending_octets, link_octets, is_silent, control_by, payload_by};
