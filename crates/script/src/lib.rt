@@ -1,6 +1,7 @@
 // A line of the bench script, read: its command, and what each word behind it stands for, or its fault.
 // Assumes nothing of its caller.
 #![tactic(auto)]
+
 ghost use Rattle.std.specs.Prelude.{◌≡◌, [], set};
 ghost use Rattle.std.proofs.Math.Option.{some};
 ghost use Rattle.script.specs.Words.{spelled, first_of, behind_first, word_at, spaces_in, place_from};

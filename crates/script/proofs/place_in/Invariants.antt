@@ -1,0 +1,15 @@
+-- `place_in` meets its promise: the place among the names left is the place among all. Assumes nothing.
+use borrow.Author.Rules.{rules}
+use mathlib.Core.Path.{◌≡◌, sym, ap, ◌∙◌}
+use mathlib.Core.List.{List}
+use Prim.Native.Nat.{ℕ, ◌-◌, ◌≤◌}
+use Rattle.identity.specs.Identity.{same}
+use Rattle.script.specs.Words.{place_from}
+use Rattle.script.proofs.WordLaws.{name-all, name-here, name-more, name_done}
+use Rattle.script.proofs.place_in.Given as goal
+
+abbrev pub invariant-loop-i : goal.invariant-loop-i
+invariant-loop-i l = (l.i ≤ l.count) × (place_from l.i (l.count - l.i) l.names l.name ≡ place_from 0 l.count l.names l.name)
+
+abbrev pub decreases-loop-i : goal.decreases-loop-i
+decreases-loop-i l = l.count - l.i
