@@ -1,10 +1,9 @@
 -- `antenna::differ` meets its promise: each way out, by the tests that lead to it. Assumes nothing.
 use borrow.Author.Rules.{rules}
-use mathlib.Core.Path.{◌≡◌, refl, sym, ◌∙◌}
-use Prim.Native.Nat.{◌-◌, ◌<◌, ◌≤◌}
+use mathlib.Core.Path.{refl, sym, ◌∙◌}
+use Prim.Native.Nat.{◌<◌, ◌≤◌}
 use native.Mathlib.Omega.{arith}
-use lib.ListN.{length, drop}
-use Rattle.antenna.specs.Alarms.{any_differ}
+use lib.ListN.{length}
 use Rattle.antenna.proofs.Flags.{differ-here, differ-more, differ-done}
 use Rattle.antenna.proofs.differ.Goals as goal
 

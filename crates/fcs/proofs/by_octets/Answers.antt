@@ -1,6 +1,5 @@
 -- `fcs::by_octets` meets its promise: the constant table passes the test at each of its 256 entries, which antt computes.
 -- Assumes nothing.
-use borrow.Author.Rules.{rules}
 use mathlib.Core.Path.{refl}
 use mathlib.Core.Logic.{inr}
 use Rattle.fcs.specs.Check.{bit_step, bit_steps}

@@ -1,5 +1,4 @@
 -- `fcs::check` meets its promise: the register after all octets, complemented. Assumes nothing.
-use borrow.Author.Rules.{rules}
 use mathlib.Core.Path.{ap}
 use Prim.Native.Nat.{ℕ}
 use lib.Bits.{bit_xor}

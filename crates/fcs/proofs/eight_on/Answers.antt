@@ -1,6 +1,5 @@
 -- `fcs::eight_on` meets its promise: the low half, then the high one; or a shift, and the entry of the eight low bits.
 -- Assumes nothing.
-use borrow.Author.Rules.{rules}
 use Rattle.fcs.proofs.Rule.{by-entry, entry-below, sixteen, not-sixteen, two-halves}
 use Rattle.fcs.proofs.eight_on.Goals as goal
 

@@ -1,5 +1,4 @@
 -- `fcs::four_on` meets its promise: a shift, and the entry of the four low bits. Assumes nothing.
-use borrow.Author.Rules.{rules}
 use Rattle.fcs.proofs.Rule.{by-entry, entry-below}
 use Rattle.fcs.proofs.four_on.Goals as goal
 

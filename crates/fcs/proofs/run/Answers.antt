@@ -1,10 +1,6 @@
 -- `fcs::run` meets its promise: the octets that are left, from the register as it is, give what all gave from the
 -- start. Assumes nothing.
 use borrow.Author.Rules.{rules}
-use mathlib.Core.Path.{◌≡◌}
-use Prim.Native.Nat.{◌≤◌, ◌-◌, ◌%◌}
-use lib.ListN.{length, drop}
-use Rattle.fcs.specs.Check.{register_after}
 use Rattle.fcs.proofs.Register.{register-eight, register-rest}
 use Rattle.fcs.proofs.run.Goals as goal
 

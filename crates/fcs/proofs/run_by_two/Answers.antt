@@ -1,11 +1,7 @@
 -- `fcs::run_by_two` meets its promise: the octets that are left, from the register as it is, give what all gave from
 -- the start. Assumes nothing.
 use borrow.Author.Rules.{rules}
-use mathlib.Core.Path.{◌≡◌, refl}
-use Prim.Native.Nat.{◌≤◌, ◌-◌, ◌%◌}
-use native.Mathlib.Omega.{arith}
-use lib.ListN.{length, drop}
-use Rattle.fcs.specs.Check.{register_after}
+use mathlib.Core.Path.{refl}
 use Rattle.fcs.proofs.Register.{register-two, register-last, register-done}
 use Rattle.fcs.proofs.run_by_two.Goals as goal
 

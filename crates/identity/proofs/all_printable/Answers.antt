@@ -1,9 +1,5 @@
 -- `identity::all_printable` meets its promise: what is left of the octets decides as all of them do. Assumes nothing.
-use mathlib.Core.Path.{◌≡◌, refl}
-use Prim.Native.Nat.{◌-◌}
-use native.Mathlib.Omega.{arith}
-use lib.ListN.{length, drop}
-use Rattle.identity.specs.Identity.{all_printable}
+use mathlib.Core.Path.{refl}
 use Rattle.identity.proofs.Identities.{printable-low, printable-high, printable-more, printable-done}
 use Rattle.identity.proofs.all_printable.Goals as goal
 

@@ -1,10 +1,8 @@
 -- `identity::all_printable` meets its promise: what is left of the octets decides as all of them do. Assumes nothing.
-use mathlib.Core.Path.{◌≡◌, refl}
+use mathlib.Core.Path.{◌≡◌}
 use Prim.Native.Nat.{◌-◌}
-use native.Mathlib.Omega.{arith}
 use lib.ListN.{length, drop}
 use Rattle.identity.specs.Identity.{all_printable}
-use Rattle.identity.proofs.Identities.{printable-low, printable-high, printable-more, printable-done}
 use Rattle.identity.proofs.all_printable.Given as goal
 
 abbrev pub invariant-loop-i : goal.invariant-loop-i

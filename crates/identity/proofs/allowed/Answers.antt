@@ -1,5 +1,4 @@
 -- `identity::allowed` meets its promise: a law of `Identities` for each way out. Assumes nothing.
-use borrow.Author.Rules.{rules}
 use mathlib.Core.Path.{◌∙◌}
 use Rattle.identity.proofs.Identities.{too_short, too_long, last-blank, last-other}
 use Rattle.identity.proofs.allowed.Goals as goal

@@ -1,5 +1,4 @@
 -- `identity::bit` meets its promise: a law of `Words` for each way out. Assumes nothing.
-use borrow.Author.Rules.{rules}
 use mathlib.Core.Bool.{true, false}
 use Rattle.identity.proofs.Words.{bit_in, bit_past}
 use Rattle.identity.proofs.bit.Goals as goal

@@ -1,10 +1,8 @@
 -- `identity::octets_of` meets its promise: what is stored and what is left to store are the octets. Assumes nothing.
-use borrow.Author.Rules.{rules}
 use mathlib.Core.Path.{◌≡◌, ap, ◌∙◌}
-use Prim.Native.Nat.{ℕ, ◌+◌, ◌-◌, ◌≤◌}
+use Prim.Native.Nat.{ℕ}
 use native.Mathlib.Omega.{arith}
-use lib.ListN.{length, take, drop, length-set, length-replicate}
-use lib.Seq.{sets}
+use lib.ListN.{length, take, length-set, length-replicate}
 use Rattle.identity.specs.Identity.{octets_of, width, depth}
 use Rattle.octets.proofs.Takes.{take_within}
 use Rattle.identity.proofs.Words.{fill_start, fill_more, fill_done}

@@ -1,13 +1,9 @@
 -- `identity::octets_of` meets its promise: what is stored and what is left to store are the octets. Assumes nothing.
-use borrow.Author.Rules.{rules}
-use mathlib.Core.Path.{◌≡◌, ap, ◌∙◌}
-use Prim.Native.Nat.{ℕ, ◌+◌, ◌-◌, ◌≤◌}
-use native.Mathlib.Omega.{arith}
-use lib.ListN.{length, take, drop, length-set, length-replicate}
+use mathlib.Core.Path.{◌≡◌}
+use Prim.Native.Nat.{◌+◌, ◌-◌, ◌≤◌}
+use lib.ListN.{length, take, drop}
 use lib.Seq.{sets}
-use Rattle.identity.specs.Identity.{octets_of, width, depth}
-use Rattle.octets.proofs.Takes.{take_within}
-use Rattle.identity.proofs.Words.{fill_start, fill_more, fill_done}
+use Rattle.identity.specs.Identity.{octets_of, width}
 use Rattle.identity.proofs.octets_of.Given as goal
 
 abbrev pub invariant-loop-j : goal.invariant-loop-j

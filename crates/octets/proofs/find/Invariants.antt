@@ -1,11 +1,8 @@
 -- `octets::find` meets its promise: the octets passed, and the place in what is left. Assumes nothing.
-use borrow.Author.Rules.{rules}
 use mathlib.Core.Path.{◌≡◌}
 use Prim.Native.Nat.{◌+◌, ◌-◌, ◌≤◌}
-use native.Mathlib.Nat.{zero-add}
 use lib.ListN.{length, drop}
 use Rattle.octets.specs.Octets.{place_of}
-use Rattle.octets.proofs.Words.{place_here, place-more, place-done}
 use Rattle.octets.proofs.find.Given as goal
 
 abbrev pub invariant-loop-i : goal.invariant-loop-i

@@ -1,6 +1,5 @@
 -- `part` meets its promise: no more octets than there are. Assumes nothing.
 use Rattle.octets.proofs.Takes.{part-is}
-use borrow.Author.Rules.{rules}
 use Rattle.octets.proofs.part.Goals as goal
 
 pub returns : goal.returns

@@ -1,5 +1,4 @@
 -- `octets::put` meets its promise: a store past the end changes nothing. Assumes nothing.
-use borrow.Author.Rules.{rules}
 use mathlib.Core.Path.{sym}
 use lib.Seq.{set_out}
 use Rattle.octets.proofs.put.Goals as goal

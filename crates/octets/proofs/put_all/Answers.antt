@@ -1,11 +1,10 @@
 -- `octets::put_all` meets its promise: what is left of the source is what is left to store. Assumes nothing.
 use borrow.Author.Rules.{rules}
-use mathlib.Core.Path.{◌≡◌, sym}
-use Prim.Native.Nat.{◌+◌, ◌-◌, ◌<◌, ◌≤◌, min}
+use mathlib.Core.Path.{sym}
+use Prim.Native.Nat.{◌-◌, ◌<◌, ◌≤◌, min}
 use native.Mathlib.Nat.{add-zero}
 use native.Mathlib.Omega.{arith}
-use lib.ListN.{length, drop}
-use lib.Seq.{sets}
+use lib.ListN.{length}
 use Rattle.octets.proofs.Stores.{sets-past, sets_more, sets-done}
 use Rattle.octets.proofs.put_all.Goals as goal
 

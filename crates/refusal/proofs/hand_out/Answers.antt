@@ -1,5 +1,4 @@
 -- `refusal::hand_out` meets its promise: a law of `Answers` for each way out. Assumes nothing.
-use borrow.Author.Rules.{rules}
 use Rattle.refusal.specs.declared.Refusal.TheVariants.{NoRoom}
 use Rattle.refusal.proofs.Answers.{refused, handed, no_room, in-room}
 use Rattle.refusal.proofs.hand_out.Goals as goal
