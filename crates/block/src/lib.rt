@@ -2,6 +2,7 @@
 // the count in two octets, low one first, and five octets that each stand for a yes or a no. All zeros is a fresh one.
 // Assumes nothing of its caller: any octets may be handed in.
 #![tactic(auto)]
+
 ghost use Rattle.std.specs.Prelude.{◌≡◌, length};
 ghost use Rattle.receiver.specs.Call.{received, heard_of};
 ghost use Rattle.block.specs.Block.{marks_size, block_size, refused_call, yes_octet, marks_in, marks_octets, held_in, Blocks};

@@ -5,6 +5,7 @@
 // part of an output in an input; of a receiver's block and of the number taken, a pointer that is good for 267 octets and for
 // one number, and no part of one of them in another.
 #![tactic(auto)]
+
 ghost use Rattle.std.specs.Prelude.{◌≡◌, length};
 ghost use Rattle.refusal.specs.Answer.{answer_of};
 ghost use Rattle.fcs.specs.Check.{check_of};

@@ -3,6 +3,7 @@
 // Headline: what it hands out is what the decoder says of each stretch between two flags, however the octets are cut
 // (crate live). Assumes nothing of its caller: any record of the type may be handed in.
 #![tactic(auto)]
+
 ghost use Rattle.std.specs.Prelude.{◌≡◌, not, ◌&&◌, ◌<◌, eqb, length, take};
 ghost use Rattle.refusal.specs.Answer.{gives, Hands};
 ghost use Rattle.frame.specs.Line.{escape};
