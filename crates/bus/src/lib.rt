@@ -2,6 +2,7 @@
 // with no premise about hearing, and the installer's job after it). The crates below are proved to do what these
 // statements speak of; the code that holds such a row in memory stands above. Assumes nothing.
 #![tactic(auto)]
+
 use record::Device;
 
 // The most devices of a row in memory.
