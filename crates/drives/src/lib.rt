@@ -3,6 +3,7 @@
 // Headline: for every command the row after it, the answer, and the lent output (specs/Drives.antt). Assumes nothing of its
 // caller: a number that is no device, no command, no tilt or no alarm has its answer.
 #![tactic(auto)]
+
 ghost use Rattle.std.specs.Prelude.{◌≡◌, true, ◌<◌, length, get_or};
 ghost use Rattle.refusal.specs.Answer.{Changes};
 ghost use Rattle.record.specs.Allowed.{limit_of};

@@ -2,6 +2,7 @@
 // what lies between its flags, and whether one answered is reported. With allowed devices of different padded identities
 // it is demand 3's scan (proofs/Demand.antt). Assumes nothing of its caller.
 #![tactic(auto)]
+
 ghost use Rattle.std.specs.Prelude.{◌≡◌, ◌||◌, take};
 ghost use Rattle.refusal.specs.Answer.{state_after};
 ghost use Rattle.frame.specs.Line.{inside};

@@ -1,0 +1,11 @@
+-- `mast::line_of` meets its promise: the octets that the writer handed out are the line. Assumes nothing.
+use native.Mathlib.Omega.{arith}
+use Rattle.scan.specs.Scan.{probe_length}
+use Rattle.mast.proofs.Lines.{probe-line}
+use borrow.Author.Rules.{rules}
+use Rattle.mast.proofs.line_of.Goals as goal
+
+pub returns : goal.returns
+returns c =
+    let a = c.args in
+    probe-line a.probe probe_length (omega arith) c.write-handed.ensures c.size_in.ensures
