@@ -2,6 +2,7 @@
 // Headline: the word is the script's, and `complete` is said of a scan that is complete and of no other
 // (proofs/Said.antt).
 #![tactic(auto)]
+
 ghost use Rattle.std.specs.Prelude.{◌≡◌};
 ghost use Rattle.terms.specs.Terms.{name_of, fault_word, outcome_word, said_word, reply_word, given_word};
 ghost use Rattle.terms.specs.Terms.{handed_word, heard_word, end_word, link_word, pending_word, drive_word, word_of};
