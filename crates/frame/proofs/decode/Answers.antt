@@ -33,14 +33,14 @@ pub returns-then-limit-le-LIMIT_LEAST : goal.returns-then-limit-le-LIMIT_LEAST
 returns-then-limit-le-LIMIT_LEAST c =
     let whole = sym c.is_broken.ensures ∙ c.if-is_broken.false in
     let limit = sym c.is_limit.ensures ∙ c.if-not-is_limit.false in
-    refused TooLong (when-overlong _ limit _ _ whole (omega (arith, c.if-limit-le-LIMIT_LEAST.true, c.if-src-le-LINE_MOST.false)))
+    refused TooLong (when-overlong _ limit _ _ whole (omega arith))
 
 pub returns-then-src-gt-LONGEST_LINE : goal.returns-then-src-gt-LONGEST_LINE
 returns-then-src-gt-LONGEST_LINE c =
     let whole = sym c.is_broken.ensures ∙ c.if-is_broken.false in
     let limit = sym c.is_limit.ensures ∙ c.if-not-is_limit.false in
     let few = (is-limit-exactly _).0 limit in
-    refused TooLong (when-overlong _ limit _ _ whole (omega (arith, c.if-src-gt-LONGEST_LINE.true)))
+    refused TooLong (when-overlong _ limit _ _ whole (omega arith))
 
 pub decode_long-requires : goal.decode_long-requires
 decode_long-requires c =

@@ -16,27 +16,27 @@ pub returns-then-payload-le-PAYLOAD_MOST : goal.returns-then-payload-le-PAYLOAD_
 returns-then-payload-le-PAYLOAD_MOST c =
     let limit = sym c.is_limit.ensures ∙ c.if-not-is_limit.false in
     let least = (is-limit-exactly _).0 limit in
-    hands-is (sym (payload-fits _ limit _ _ _ _ (omega (arith, c.if-payload-le-PAYLOAD_MOST.true))))
+    hands-is (sym (payload-fits _ limit _ _ _ _ (omega arith)))
     c.write_short.ensures
 
 pub returns-then-limit-le-LIMIT_LEAST : goal.returns-then-limit-le-LIMIT_LEAST
 returns-then-limit-le-LIMIT_LEAST c =
     let limit = sym c.is_limit.ensures ∙ c.if-not-is_limit.false in
-    refused PayloadTooLong (payload-long _ limit _ _ _ _ (omega (arith, c.if-limit-le-LIMIT_LEAST.true, c.if-payload-le-PAYLOAD_MOST.false)))
+    refused PayloadTooLong (payload-long _ limit _ _ _ _ (omega arith))
 
 pub returns-then-limit-payload : goal.returns-then-limit-payload
 returns-then-limit-payload c =
     let limit = sym c.is_limit.ensures ∙ c.if-not-is_limit.false in
-    refused PayloadTooLong (payload-long _ limit _ _ _ _ (omega (arith, c.if-limit-payload.true)))
+    refused PayloadTooLong (payload-long _ limit _ _ _ _ (omega arith))
 
 pub write_long-requires : goal.write_long-requires
 write_long-requires c =
     let limit = sym c.is_limit.ensures ∙ c.if-not-is_limit.false in
     let most = (is-limit-exactly _).0 limit in
-    omega (arith, c.if-limit-payload.false)
+    omega arith
 
 pub returns : goal.returns
 returns c =
     let limit = sym c.is_limit.ensures ∙ c.if-not-is_limit.false in
-    hands-is (sym (payload-fits _ limit _ _ _ _ (omega (arith, c.if-limit-payload.false))))
+    hands-is (sym (payload-fits _ limit _ _ _ _ (omega arith)))
     c.write_long.ensures
