@@ -9,6 +9,7 @@ use lib.Dec.{ltb, eqb}
 use lib.ListN.{length, take, drop, get_or, set, replicate, length-take, drop_of_length-le}
 use lib.Seq.{sets, get_or-take}
 use borrow.Author.Tests.{eq-eqb, ne_eqb}
+use Rattle.std.specs.Prelude.{Result, Ok, Err, IfOk}
 use Rattle.octets.specs.Octets.{last_of, place_of}
 use Rattle.octets.proofs.Rest.{rest}
 use Rattle.octets.proofs.Words.{last-at, last_empty}
@@ -42,6 +43,12 @@ use Rattle.bench.specs.Written.{digit_of, hexed}
 use Rattle.bench.specs.Input.{line_kept, run_most}
 use Rattle.bench.specs.Input.{rest_of, taken_to, line_taken, refilled, anew, Run, after_runs, Arrives, without_return}
 use Rattle.bench.specs.declared.input.Input.{Input}
+
+-- ---- what is handed back, if nothing failed
+
+pub ok-same : {T E A : Type 0} (r : Result T E) (f : T → A) {x y : A} → IfOk r (λ v. f v ≡ x) → x ≡ y → IfOk r (λ v. f v ≡ y)
+ok-same (Ok v) f e g = e ∙ g
+ok-same (Err x) f e g = tt
 
 -- ---- HEX
 

@@ -7,8 +7,8 @@ ghost use Rattle.bench.specs.Written.{digit_of, hex_row};
 use crate::rows;
 use antenna::Angle;
 use device::Said;
-use libc::STDOUT_FILENO;
 use refusal::{Handed, Outcome, Refusal};
+use std::io::{Result, Stdout};
 use terms::Term;
 
 // The longest lent output, and the octet that it is filled with.
@@ -21,8 +21,8 @@ const LONGEST: usize = 1201;
 
 // ---- words, numbers, octets
 
-pub fn say_octets(s: &[u8]) {
-    io::write_all(STDOUT_FILENO, s);
+pub fn say_octets(out: Stdout, s: &[u8]) -> Result<()> {
+    out.write_all(s)
 }
 
 // What a name has before its first full stop.
@@ -32,25 +32,25 @@ fn letters(name: &[u8]) -> &[u8]
     octets::part(name, 0, octets::find(b'.', name))
 }
 
-pub fn say(term: Term) {
+pub fn say(out: Stdout, term: Term) -> Result<()> {
     let name = terms::word(term);
-    say_octets(letters(&name));
+    say_octets(out, letters(&name))
 }
 
-pub fn say_number(mark: u8, number: usize) {
-    say_octets(&[mark]);
-    io::print_decimal(STDOUT_FILENO, number as u64);
+pub fn say_number(out: Stdout, mark: u8, number: usize) -> Result<()> {
+    say_octets(out, &[mark])?;
+    out.print(number)
 }
 
 // A tilt's pattern of 16 bits stands in the answer to get tilt. One with the first bit set is negative.
-pub fn say_tilt(mark: u8, tilt: Angle) {
+pub fn say_tilt(out: Stdout, mark: u8, tilt: Angle) -> Result<()> {
     let told = tilt::tilt(tilt);
     let pattern = octets::pair(told.octets[4], told.octets[5]) as usize;
     if pattern < 32768 {
-        return say_number(mark, pattern);
+        return say_number(out, mark, pattern);
     }
-    say_octets(&[mark]);
-    say_number(b'-', 65536 - pattern);
+    say_octets(out, &[mark])?;
+    say_number(out, b'-', 65536 - pattern)
 }
 
 fn digit(value: u8) -> u8
@@ -81,46 +81,50 @@ fn in_hex(mark: u8, s: &[u8]) -> [u8; LONGEST]
 }
 
 // Octets in HEX, `-` where there are none.
-pub fn say_hex(mark: u8, s: &[u8]) {
+pub fn say_hex(out: Stdout, mark: u8, s: &[u8]) -> Result<()> {
     let row = in_hex(mark, s);
     let n = s.len();
     if n == 0 {
-        return say_octets(octets::part(&row, 0, 2));
+        return say_octets(out, octets::part(&row, 0, 2));
     }
-    say_octets(octets::part(&row, 0, rows::moved(rows::moved(1, n, LONGEST), n, LONGEST)));
+    say_octets(
+        out,
+        octets::part(&row, 0, rows::moved(rows::moved(1, n, LONGEST), n, LONGEST)),
+    )
 }
 
 // ---- what stands behind the word of several commands
 
-pub fn say_refusal(refusal: Refusal) {
-    say_number(b' ', refusal::number(refusal) as usize);
+pub fn say_refusal(out: Stdout, refusal: Refusal) -> Result<()> {
+    say_number(out, b' ', refusal::number(refusal) as usize)
 }
 
-pub fn say_outcome(outcome: Outcome) {
+pub fn say_outcome(out: Stdout, outcome: Outcome) -> Result<()> {
     if let Outcome::Refused(refusal) = outcome {
-        say_refusal(refusal);
+        return say_refusal(out, refusal);
     }
+    Ok(())
 }
 
 // Octets that were handed out, or why not.
-pub fn say_handed(handed: Handed) {
+pub fn say_handed(out: Stdout, handed: Handed) -> Result<()> {
     match handed {
-        Handed::Octets(n) => say_number(b' ', n),
-        Handed::Refused(refusal) => say_refusal(refusal),
+        Handed::Octets(n) => say_number(out, b' ', n),
+        Handed::Refused(refusal) => say_refusal(out, refusal),
     }
 }
 
 // The whole of a lent output.
-pub fn say_buffer(lent: [u8; ROOM], room: usize) {
-    say_hex(b' ', octets::part(&lent, 0, room));
+pub fn say_buffer(out: Stdout, lent: [u8; ROOM], room: usize) -> Result<()> {
+    say_hex(out, b' ', octets::part(&lent, 0, room))
 }
 
 // A device's answer.
-pub fn say_said(said: Said, lent: [u8; ROOM], room: usize) {
+pub fn say_said(out: Stdout, said: Said, lent: [u8; ROOM], room: usize) -> Result<()> {
     match said {
         Said::Silence => {}
-        Said::Frame(n) => say_number(b' ', n),
-        Said::Refused(refusal) => say_refusal(refusal),
+        Said::Frame(n) => say_number(out, b' ', n)?,
+        Said::Refused(refusal) => say_refusal(out, refusal)?,
     }
-    say_buffer(lent, room);
+    say_buffer(out, lent, room)
 }

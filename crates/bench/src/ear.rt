@@ -1,5 +1,5 @@
 // `listen` and `octets`: the bench's one receiver of the live line. Assumes nothing of the caller.
-ghost use Rattle.std.specs.Prelude.{◌≡◌};
+ghost use Rattle.std.specs.Prelude.{◌≡◌, IfOk};
 ghost use Rattle.receiver.specs.Call.{held_by};
 ghost use Rattle.bench.specs.Bench.{ear_of, fresh_ear, ear_call, ear_after};
 
@@ -7,6 +7,7 @@ use crate::answers::{FILL, ROOM};
 use crate::{answers, rows};
 use receiver::{Heard, PLACES, Receiver};
 use script::Asked;
+use std::io::{Result, Stdout};
 use terms::Term;
 
 // The receiver's record, and the store that a call lends it.
@@ -27,34 +28,34 @@ pub fn fresh() -> Ear
 }
 
 // How many octets were taken stands in front of what was handed out.
-fn say_taken(taken: usize) {
-    answers::say(Term::Took);
-    answers::say_number(b' ', taken);
-    answers::say_octets(b" ");
+fn say_taken(out: Stdout, taken: usize) -> Result<()> {
+    answers::say(out, Term::Took)?;
+    answers::say_number(out, b' ', taken)?;
+    answers::say_octets(out, b" ")
 }
 
 // What a call told; one that is refused took nothing.
-fn say_heard(heard: Heard, taken: usize) {
+fn say_heard(out: Stdout, heard: Heard, taken: usize) -> Result<()> {
     match heard {
         Heard::Nothing => {
-            say_taken(taken);
-            answers::say(Term::Heard(heard));
+            say_taken(out, taken)?;
+            answers::say(out, Term::Heard(heard))
         }
         Heard::HandedOut(handed) => {
-            say_taken(taken);
-            answers::say(Term::Heard(heard));
-            answers::say_handed(handed);
+            say_taken(out, taken)?;
+            answers::say(out, Term::Heard(heard))?;
+            answers::say_handed(out, handed)
         }
         Heard::Refused(refusal) => {
-            answers::say(Term::Heard(heard));
-            answers::say_refusal(refusal);
+            answers::say(out, Term::Heard(heard))?;
+            answers::say_refusal(out, refusal)
         }
     }
 }
 
 // One call; octets that it did not take are forgotten.
-fn call(ear: Ear, asked: Asked) -> Ear
-    ensures { ear_of result ≡ held_by (ear_call (ear_of ear) asked) (ear_of ear) }
+fn call(out: Stdout, ear: Ear, asked: Asked) -> Result<Ear>
+    ensures { IfOk result (λ after. ear_of after ≡ held_by (ear_call (ear_of ear) asked) (ear_of ear)) }
 {
     let receiver = ear.receiver;
     let mut store = ear.store;
@@ -71,21 +72,21 @@ fn call(ear: Ear, asked: Asked) -> Ear
     );
     let heard = received.heard;
     let receiver = received.receiver;
-    say_heard(heard, received.taken);
-    answers::say_buffer(lent, room);
-    Ear { receiver, store }
+    say_heard(out, heard, received.taken)?;
+    answers::say_buffer(out, lent, room)?;
+    Ok(Ear { receiver, store })
 }
 
 // Any other command leaves the receiver alone.
-pub fn hear(ear: Ear, command: usize, asked: Asked) -> Ear
-    ensures { ear_of result ≡ ear_after command (ear_of ear) asked }
+pub fn hear(out: Stdout, ear: Ear, command: usize, asked: Asked) -> Result<Ear>
+    ensures { IfOk result (λ after. ear_of after ≡ ear_after command (ear_of ear) asked) }
 {
     if command == script::LISTEN {
-        answers::say(Term::Listening);
-        return fresh();
+        answers::say(out, Term::Listening)?;
+        return Ok(fresh());
     }
     if command == script::OCTETS {
-        return call(ear, asked);
+        return call(out, ear, asked);
     }
-    ear
+    Ok(ear)
 }

@@ -9,6 +9,7 @@ use crate::{answers, rows};
 use refusal::Handed;
 use scan::Scan;
 use script::Asked;
+use std::io::{Result, Stdout};
 use terms::Term;
 
 fn is_decode(command: usize) -> bool
@@ -67,12 +68,12 @@ fn handed_by(scan: Scan, command: usize, asked: Asked, lent: &mut [u8]) -> Hande
 }
 
 // The word for what was handed out, and the whole of the lent output.
-fn hand_out(scan: Scan, command: usize, asked: Asked, room: usize) {
+fn hand_out(out: Stdout, scan: Scan, command: usize, asked: Asked, room: usize) -> Result<()> {
     let mut lent = [FILL; ROOM];
     let handed = handed_by(scan, command, asked, rows::front(&mut lent, room));
-    answers::say(Term::Handed { command, handed });
-    answers::say_handed(handed);
-    answers::say_buffer(lent, room);
+    answers::say(out, Term::Handed { command, handed })?;
+    answers::say_handed(out, handed)?;
+    answers::say_buffer(out, lent, room)
 }
 
 // The place of ROOM, the last word; 0 where a command hands out nothing.
@@ -90,11 +91,11 @@ fn room_at(command: usize) -> usize
 }
 
 // Any other command hands out nothing.
-pub fn obey(scan: Scan, command: usize, asked: Asked) {
+pub fn obey(out: Stdout, scan: Scan, command: usize, asked: Asked) -> Result<()> {
     let values = asked.values;
     let at = room_at(command);
     if at == 0 {
-        return;
+        return Ok(());
     }
-    hand_out(scan, command, asked, values[at % 8]);
+    hand_out(out, scan, command, asked, values[at % 8])
 }

@@ -1,11 +1,11 @@
 // Standard input, cut into lines. Assumes nothing of the caller: an input that holds no such octets has an empty line.
-ghost use Rattle.std.specs.Prelude.{◌≡◌, ◌%◌, take};
+ghost use Rattle.std.specs.Prelude.{◌≡◌, ◌%◌, take, IfOk};
 ghost use Rattle.script.specs.Script.{read_line};
 ghost use Rattle.bench.specs.Input.{unread, line_taken, refilled, Arrives, without_return};
 
 use crate::rows;
-use libc::STDIN_FILENO;
 use script::Asked;
+use std::io::{Read, Result, Stdin};
 
 // Octets kept of a line: one more than the longest has and a 0x0D, so that a longer one is too long whatever follows.
 const KEPT: usize = script::LONGEST + 2;
@@ -58,21 +58,21 @@ fn take(input: Input) -> Input
 }
 
 // The next run; none at the end of the input.
-fn refill(input: Input) -> Input
-    ensures { result ≡ refilled input result.run result.end }
+fn refill(from: Stdin, input: Input) -> Result<Input>
+    ensures { IfOk result (λ next. next ≡ refilled input next.run next.end) }
 {
+    let mut from = from;
     let mut next = input;
     let mut run = [0u8; RUN];
-    let got = libc::read(STDIN_FILENO, &mut run);
-    next.end = io::count(got, &run);
+    next.end = from.read(&mut run)?;
     next.run = run;
     next.from = 0;
-    next
+    Ok(next)
 }
 
 // A proved loop has to end, and nothing says that a line does.
-pub fn next_line(input: Input) -> Input
-    ensures { Arrives input result }
+pub fn next_line(from: Stdin, input: Input) -> Result<Input>
+    ensures { IfOk result (λ next. Arrives input next) }
 {
     let mut next = input;
     next.len = 0;
@@ -81,14 +81,14 @@ pub fn next_line(input: Input) -> Input
         turns -= 1;
         next = take(next);
         if next.whole {
-            return next;
+            return Ok(next);
         }
-        next = refill(next);
+        next = refill(from, next)?;
         if next.end == 0 {
-            return next;
+            return Ok(next);
         }
     }
-    next
+    Ok(next)
 }
 
 // A line without the 0x0D before its end.

@@ -4,6 +4,7 @@
 // scan by hand and the receiver that the bench holds. A function that hands back a value promises which (specs/); one that
 // only prints is proved safe and ending, since no promise can speak of what standard output gets.
 #![tactic(auto)]
+
 mod answers;
 mod ear;
 mod handed;
@@ -13,7 +14,7 @@ mod scanned;
 mod scans;
 mod shown;
 
-ghost use Rattle.std.specs.Prelude.{◌≡◌, ◌%◌};
+ghost use Rattle.std.specs.Prelude.{◌≡◌, ◌%◌, IfOk};
 ghost use Rattle.mast.specs.Mast.{swept};
 ghost use Rattle.bench.specs.Bench.{no_devices, command_in, is_driven, row_driven, row_after};
 
@@ -22,6 +23,7 @@ use bus::{MOST, Row};
 use drives::Response;
 use record::Span;
 use script::{Asked, Line};
+use std::io::{Result, Stdin, Stdout};
 use terms::Term;
 
 // Behind the places of the commands: a line with a fault, and one that gets no answer.
@@ -54,39 +56,46 @@ fn no_devices() -> Row
 
 // The command that a line asks for. One with a fault, which is said, asks for none, and one that gets no answer for
 // nothing.
-fn command_of(line: Line) -> usize
-    ensures { result ≡ command_in line }
+#[tactic(auto, unfolding(crate::specs::Bench::command_in))]
+fn command_of(out: Stdout, line: Line) -> Result<usize>
+    ensures { IfOk result (λ command. command ≡ command_in line) }
 {
     match line {
-        Line::Silent => UNANSWERED,
+        Line::Silent => Ok(UNANSWERED),
         Line::Faulty(fault) => {
-            answers::say(Term::Fault(fault));
-            FAULTY
+            answers::say(out, Term::Fault(fault))?;
+            Ok(FAULTY)
         }
-        Line::Asks(command) => command,
+        Line::Asks(command) => Ok(command),
     }
 }
 
 // What stands behind an answer's word.
-fn say_behind(answer: Response, row: Row, lent: [u8; answers::ROOM], room: usize) {
+fn say_behind(
+    out: Stdout,
+    answer: Response,
+    row: Row,
+    lent: [u8; answers::ROOM],
+    room: usize,
+) -> Result<()> {
     match answer {
-        Response::NoCommand => {}
-        Response::NoDevice => {}
-        Response::Full => {}
-        Response::Device(k) => answers::say_number(b' ', k),
-        Response::Outcome(outcome) => answers::say_outcome(outcome),
-        Response::Said(said) => answers::say_said(said, lent, room),
+        Response::NoCommand => Ok(()),
+        Response::NoDevice => Ok(()),
+        Response::Full => Ok(()),
+        Response::Device(k) => answers::say_number(out, b' ', k),
+        Response::Outcome(outcome) => answers::say_outcome(out, outcome),
+        Response::Said(said) => answers::say_said(out, said, lent, room),
         Response::State(place) => {
             let devices = row.devices;
-            shown::show(devices[place % MOST]);
+            shown::show(out, devices[place % MOST])
         }
-        Response::Limit(n) => answers::say_number(b' ', n),
+        Response::Limit(n) => answers::say_number(out, b' ', n),
     }
 }
 
 // The commands of `drives`: to a device, and `device`.
-fn drive(row: Row, command: usize, asked: Asked) -> Row
-    ensures { result ≡ row_driven command row asked }
+fn drive(out: Stdout, row: Row, command: usize, asked: Asked) -> Result<Row>
+    ensures { IfOk result (λ after. after ≡ row_driven command row asked) }
 {
     let values = asked.values;
     let room = values[3];
@@ -95,18 +104,18 @@ fn drive(row: Row, command: usize, asked: Asked) -> Row
     let obeyed = drives::obey(row, command, values, hex, rows::front(&mut lent, room));
     let answer = obeyed.answer;
     let next = obeyed.row;
-    answers::say(Term::Reply(answer));
-    say_behind(answer, next, lent, room);
-    next
+    answers::say(out, Term::Reply(answer))?;
+    say_behind(out, answer, next, lent, room)?;
+    Ok(next)
 }
 
 // A scan of the row; the scan by hand stands aside.
-fn sweep(row: Row, limit: usize) -> Row
-    ensures { result ≡ (swept row (limit % 65536)).row }
+fn sweep(out: Stdout, row: Row, limit: usize) -> Result<Row>
+    ensures { IfOk result (λ after. after ≡ (swept row (limit % 65536)).row) }
 {
     let swept = mast::sweep(row, (limit % 65536) as u16);
-    scanned::say_scan(swept.scan);
-    swept.row
+    scanned::say_scan(out, swept.scan)?;
+    Ok(swept.row)
 }
 
 // Whether a command is one of `drives`.
@@ -123,28 +132,29 @@ fn is_driven(command: usize) -> bool
 }
 
 // The commands to the row; any other leaves it alone.
-fn obey(row: Row, command: usize, asked: Asked) -> Row
-    ensures { result ≡ row_after command row asked }
+fn obey(out: Stdout, row: Row, command: usize, asked: Asked) -> Result<Row>
+    ensures { IfOk result (λ after. after ≡ row_after command row asked) }
 {
     if is_driven(command) {
-        return drive(row, command, asked);
+        return drive(out, row, command, asked);
     }
     if command == script::SCAN {
         let values = asked.values;
-        return sweep(row, values[1]);
+        return sweep(out, row, values[1]);
     }
-    row
+    Ok(row)
 }
 
-fn end_answer(command: usize) {
+fn end_answer(out: Stdout, command: usize) -> Result<()> {
     if command < UNANSWERED {
-        answers::say_octets(b"\n");
+        return answers::say_octets(out, b"\n");
     }
+    Ok(())
 }
 
 // A proved loop has to end, and nothing says that a script does: the turns are counted down from a number that no script
 // uses up.
-fn play(row: Row) {
+fn play(from: Stdin, out: Stdout, row: Row) -> Result<()> {
     let mut row = row;
     let mut scan = scanner::new(0);
     let mut ear = ear::fresh();
@@ -152,21 +162,22 @@ fn play(row: Row) {
     let mut turns = u64::MAX;
     while 0 < turns {
         turns -= 1;
-        input = input::next_line(input);
+        input = input::next_line(from, input)?;
         let asked = input::asked_of(input, row.count);
         let line = asked.line;
-        let command = command_of(line);
-        row = obey(row, command, asked);
-        scan = scans::by_hand(scan, command, asked);
-        handed::obey(scan, command, asked);
-        ear = ear::hear(ear, command, asked);
-        end_answer(command);
+        let command = command_of(out, line)?;
+        row = obey(out, row, command, asked)?;
+        scan = scans::by_hand(out, scan, command, asked)?;
+        handed::obey(out, scan, command, asked)?;
+        ear = ear::hear(out, ear, command, asked)?;
+        end_answer(out, command)?;
         if !input.whole {
-            return;
+            return Ok(());
         }
     }
+    Ok(())
 }
 
-fn main() {
-    play(no_devices());
+fn main(rt: HostRuntime) -> Result<()> {
+    play(rt.stdin(), rt.stdout(), no_devices())
 }

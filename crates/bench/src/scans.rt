@@ -1,5 +1,5 @@
 // `begin` and `report`: a scan by hand. Assumes nothing of the caller.
-ghost use Rattle.std.specs.Prelude.{◌≡◌, get_or};
+ghost use Rattle.std.specs.Prelude.{◌≡◌, get_or, IfOk};
 ghost use Rattle.refusal.specs.Answer.{state_after};
 ghost use Rattle.scan.specs.Scan.{reported};
 ghost use Rattle.bench.specs.Bench.{scan_after};
@@ -8,36 +8,37 @@ use crate::{answers, scanned};
 use refusal::Outcome;
 use scan::Scan;
 use script::Asked;
+use std::io::{Result, Stdout};
 use terms::Term;
 
-fn report(scan: Scan, heard: bool) -> Scan
-    ensures { result ≡ state_after (reported scan heard) scan }
+fn report(out: Stdout, scan: Scan, heard: bool) -> Result<Scan>
+    ensures { IfOk result (λ after. after ≡ state_after (reported scan heard) scan) }
 {
     let reported = scanner::report(scan, heard);
     let outcome = reported.outcome;
     let scan = reported.scan;
     match outcome {
-        Outcome::Done => scanned::say_scan(scan),
+        Outcome::Done => scanned::say_scan(out, scan)?,
         Outcome::Refused(refusal) => {
-            answers::say(Term::Outcome(outcome));
-            answers::say_refusal(refusal);
+            answers::say(out, Term::Outcome(outcome))?;
+            answers::say_refusal(out, refusal)?;
         }
     }
-    scan
+    Ok(scan)
 }
 
 // Any other command leaves the scan alone.
-pub fn by_hand(scan: Scan, command: usize, asked: Asked) -> Scan
-    ensures { result ≡ scan_after command scan (get_or asked.values 1 0) }
+pub fn by_hand(out: Stdout, scan: Scan, command: usize, asked: Asked) -> Result<Scan>
+    ensures { IfOk result (λ after. after ≡ scan_after command scan (get_or asked.values 1 0)) }
 {
     let values = asked.values;
     let value = values[1];
     if command == script::BEGIN {
-        answers::say(Term::Begun);
-        return scanner::new((value % 65536) as u16);
+        answers::say(out, Term::Begun)?;
+        return Ok(scanner::new((value % 65536) as u16));
     }
     if command == script::REPORT {
-        return report(scan, value == 1);
+        return report(out, scan, value == 1);
     }
-    scan
+    Ok(scan)
 }

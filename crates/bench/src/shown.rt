@@ -5,25 +5,27 @@ ghost use Rattle.conduct.specs.Endings.{pending_in};
 use crate::answers;
 use antenna::{Alarms, Motion};
 use record::{Desk, Device, Link, Payload, Pending};
+use std::io::{Result, Stdout};
 use terms::Term;
 
 // A word behind a space.
-fn say_word(term: Term) {
-    answers::say_octets(b" ");
-    answers::say(term);
+fn say_word(out: Stdout, term: Term) -> Result<()> {
+    answers::say_octets(out, b" ")?;
+    answers::say(out, term)
 }
 
-fn say_link(link: Link) {
-    say_word(Term::Link(link));
+fn say_link(out: Stdout, link: Link) -> Result<()> {
+    say_word(out, Term::Link(link))?;
     if let Link::Connected(session) = link {
-        answers::say_number(b':', session.r as usize);
-        answers::say_number(b':', session.s as usize);
+        answers::say_number(out, b':', session.r as usize)?;
+        answers::say_number(out, b':', session.s as usize)?;
     }
+    Ok(())
 }
 
 // The octets of a payload, from a place on.
-fn say_payload(mark: u8, payload: Payload, from: usize) {
-    answers::say_hex(mark, octets::part(&payload.octets, from, payload.len));
+fn say_payload(out: Stdout, mark: u8, payload: Payload, from: usize) -> Result<()> {
+    answers::say_hex(out, mark, octets::part(&payload.octets, from, payload.len))
 }
 
 fn pending_of(link: Link) -> Pending
@@ -36,42 +38,43 @@ fn pending_of(link: Link) -> Pending
     }
 }
 
-fn say_pending(pending: Pending, desk: Desk) {
+fn say_pending(out: Stdout, pending: Pending, desk: Desk) -> Result<()> {
     match pending {
-        Pending::Nothing => say_word(Term::Pending(pending)),
-        Pending::Answer => say_payload(b' ', desk.reply, 0),
+        Pending::Nothing => say_word(out, Term::Pending(pending)),
+        Pending::Answer => say_payload(out, b' ', desk.reply, 0),
         Pending::Indication => {
-            say_word(Term::Pending(pending));
-            say_payload(b':', report::indication(desk.said, desk.told), 0);
+            say_word(out, Term::Pending(pending))?;
+            say_payload(out, b':', report::indication(desk.said, desk.told), 0)
         }
     }
 }
 
-fn say_drive(motion: Motion) {
-    say_word(Term::Drive(motion));
+fn say_drive(out: Stdout, motion: Motion) -> Result<()> {
+    say_word(out, Term::Drive(motion))?;
     if let Motion::Owing { asked } = motion {
-        answers::say_tilt(b':', asked);
+        return answers::say_tilt(out, b':', asked);
     }
+    Ok(())
 }
 
 // The codes stand in the answer to alarm status behind its code, its length and its return code.
-fn say_alarms(alarms: Alarms) {
-    say_payload(b' ', report::alarms(alarms), 4);
+fn say_alarms(out: Stdout, alarms: Alarms) -> Result<()> {
+    say_payload(out, b' ', report::alarms(alarms), 4)
 }
 
-pub fn show(device: Device) {
+pub fn show(out: Stdout, device: Device) -> Result<()> {
     let station = device.station;
     let antenna = device.antenna;
     let link = station.link;
     let desk = station.desk;
     let motion = antenna.motion;
     let drive = antenna.drive;
-    say_link(link);
-    answers::say_number(b' ', desk.address as usize);
-    say_pending(pending_of(link), desk);
-    say_drive(motion);
-    answers::say_tilt(b' ', drive.tilt);
-    say_alarms(drive.raised);
-    say_alarms(desk.told);
-    answers::say_number(b' ', desk.subscribed as usize);
+    say_link(out, link)?;
+    answers::say_number(out, b' ', desk.address as usize)?;
+    say_pending(out, pending_of(link), desk)?;
+    say_drive(out, motion)?;
+    answers::say_tilt(out, b' ', drive.tilt)?;
+    say_alarms(out, drive.raised)?;
+    say_alarms(out, desk.told)?;
+    answers::say_number(out, b' ', desk.subscribed as usize)
 }

@@ -5,15 +5,8 @@ use Rattle.receiver.specs.declared.Receiver.{Receiver}
 use Rattle.receiver.specs.Held.{held_of, places}
 use Rattle.bench.specs.Bench.{fresh_ear}
 use borrow.Author.Rules.{rules}
-use Rattle.bench.proofs.ear.fresh.Statement.{statement}
-use Rattle.bench.proofs.ear.fresh.Tie as tie
+use Rattle.bench.proofs.ear.fresh.Goals as goal
 
-new-requires : tie.Need-new-requires
-new-requires c κs = search rules
-
-returns : tie.Need-returns
+pub returns : goal.returns
 unfolding fresh_ear
 returns c = ap (λ (r : Receiver). held_of r (replicate places 0)) c.new.ensures
-
-pub fresh-spec : {M : Type 1} → statement M
-fresh-spec = tie.close (tie.spec new-requires returns)

@@ -1,0 +1,16 @@
+-- `handed_by` meets its promise: each way out, by the test that leads to it. Assumes nothing.
+use Rattle.bench.proofs.Laws.{hands-probe, hands-coded}
+use borrow.Author.Rules.{rules}
+use Rattle.bench.proofs.handed.handed_by.Goals as goal
+
+pub returns-then-command-eq-PROBE : goal.returns-then-command-eq-PROBE
+returns-then-command-eq-PROBE c =
+    let a = c.args in
+    hands-probe a.command a.scan a.asked _ c.if-command-eq-PROBE.true
+    c.probe.ensures
+
+pub returns : goal.returns
+returns c =
+    let a = c.args in
+    hands-coded a.command a.scan a.asked _ c.if-command-eq-PROBE.false
+    c.coded_by.ensures
