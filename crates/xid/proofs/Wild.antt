@@ -12,7 +12,7 @@ use lib.ListN.{length, length-append, get_or, take}
 use lib.Seq.{get_or-take}
 use Rattle.octets.specs.Octets.{holds}
 use Rattle.octets.proofs.Words.{true-not-false}
-use Rattle.identity.specs.Identity.{vendor, same, allowed_identity}
+use Rattle.identity.specs.Identity.{same, allowed_identity}
 use Rattle.identity.proofs.Exactly.{identity-exactly}
 use Rattle.params.specs.Field.{Param, ◌is◌, triple_of, field_of, xid_payload, right_length, identifiers, none_twice}
 use Rattle.params.specs.Field.{WellFormed, value_for, given}

@@ -3,7 +3,6 @@ use Rattle.record.specs.Changes.{device_of}
 use Rattle.acknowledge.specs.Acknowledge.{acknowledged}
 use Rattle.octets.proofs.Rules.{tests}
 use mathlib.Core.Path.{sym}
-use borrow.Author.Rules.{rules}
 use Rattle.acknowledge.proofs.device_after.Goals as goal
 
 pub returns : goal.returns

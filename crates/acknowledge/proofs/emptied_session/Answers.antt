@@ -2,7 +2,6 @@
 use Rattle.acknowledge.specs.Acknowledge.{emptied}
 use mathlib.Core.Path.{sym}
 use Rattle.octets.proofs.Rules.{tests}
-use borrow.Author.Rules.{rules}
 use Rattle.acknowledge.proofs.emptied_session.Goals as goal
 
 pub returns : goal.returns

@@ -2,7 +2,6 @@
 use Rattle.acknowledge.specs.Acknowledge.{relieved}
 use mathlib.Core.Path.{sym}
 use Rattle.octets.proofs.Rules.{tests}
-use borrow.Author.Rules.{rules}
 use Rattle.acknowledge.proofs.relieve.Goals as goal
 
 pub returns : goal.returns

@@ -2,7 +2,6 @@
 use Rattle.acknowledge.specs.Acknowledge.{session_after}
 use mathlib.Core.Path.{sym, ◌∙◌}
 use Rattle.octets.proofs.Rules.{tests}
-use borrow.Author.Rules.{rules}
 use Rattle.acknowledge.proofs.session_after.Goals as goal
 
 pub returns-then-is_acknowledged : goal.returns-then-is_acknowledged

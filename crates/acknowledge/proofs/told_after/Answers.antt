@@ -1,7 +1,6 @@
 -- `acknowledge::told_after` meets its promise: each way out, by the tests that lead to it. Assumes nothing.
 use Rattle.acknowledge.specs.Acknowledge.{told_after}
 use Rattle.octets.proofs.Rules.{tests}
-use borrow.Author.Rules.{rules}
 use Rattle.acknowledge.proofs.told_after.Goals as goal
 
 pub returns-in-Nothing : goal.returns-in-Nothing

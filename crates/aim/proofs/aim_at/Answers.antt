@@ -4,7 +4,6 @@ use Rattle.antenna.specs.declared.Aim.TheVariants.{Busy, Outside}
 use Rattle.antenna.specs.Motions.{aim_number, moves}
 use Rattle.antenna.proofs.Movements.{aim-05, aim-13, starts}
 use Rattle.antenna.proofs.Aims.{refused-aims, started-aims}
-use borrow.Author.Rules.{rules}
 use Rattle.aim.proofs.aim_at.Goals as goal
 
 pub returns-then-busy : goal.returns-then-busy

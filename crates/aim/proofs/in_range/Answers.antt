@@ -2,7 +2,6 @@
 use Rattle.antenna.specs.Motions.{in_range}
 use mathlib.Core.Path.{sym, ◌∙◌}
 use Rattle.octets.proofs.Rules.{tests}
-use borrow.Author.Rules.{rules}
 use Rattle.aim.proofs.in_range.Goals as goal
 
 pub returns-then-at_most : goal.returns-then-at_most

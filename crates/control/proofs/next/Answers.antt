@@ -1,7 +1,6 @@
 -- `control::next` meets its promise: each way out, by the tests that lead to it. Assumes nothing.
 use Rattle.control.specs.Control.{next_of}
 use Rattle.octets.proofs.Rules.{tests}
-use borrow.Author.Rules.{rules}
 use Rattle.control.proofs.next.Goals as goal
 
 pub returns : goal.returns

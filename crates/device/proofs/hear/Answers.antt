@@ -2,7 +2,6 @@
 use lib.ListN.{length-take}
 use native.Mathlib.Omega.{arith}
 use Rattle.device.proofs.Reacts.{heard-refused, heard-judged, heard-count, judges-is}
-use borrow.Author.Rules.{rules}
 use Rattle.device.proofs.hear.Goals as goal
 
 pub returns-in_default : goal.returns-in_default

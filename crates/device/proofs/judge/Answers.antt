@@ -4,7 +4,6 @@ use mathlib.Core.Path.{sym, ◌∙◌}
 use mathlib.Core.List.{[]}
 use native.Mathlib.Omega.{arith}
 use Rattle.device.proofs.Reacts.{refused, judged-5, judged-6, roomy, turned}
-use borrow.Author.Rules.{rules}
 use Rattle.device.proofs.judge.Goals as goal
 
 pub returns-then-answer-frame_most : goal.returns-then-answer-frame_most

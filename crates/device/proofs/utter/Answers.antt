@@ -1,6 +1,5 @@
 -- `device::utter` meets its promise: each way out, by the tests that lead to it. Assumes nothing.
 use Rattle.device.proofs.Reacts.{silent, framed}
-use borrow.Author.Rules.{rules}
 use Rattle.device.proofs.utter.Goals as goal
 
 pub returns-then-spoken-eq0 : goal.returns-then-spoken-eq0

@@ -1,7 +1,6 @@
 -- `ending::emptied` meets its promise: the station with nothing pending, the motion with nothing owed. Assumes nothing.
 use Rattle.antenna.specs.Motions.{moves}
 use Rattle.record.specs.Changes.{emptied_as}
-use borrow.Author.Rules.{rules}
 use Rattle.ending.proofs.emptied.Goals as goal
 
 pub returns : goal.returns

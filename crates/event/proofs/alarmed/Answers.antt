@@ -1,5 +1,4 @@
 -- `event::alarmed` meets its promise: each way out, by the tests that lead to it. Assumes nothing.
-use borrow.Author.Rules.{rules}
 use Rattle.refusal.specs.declared.Refusal.TheVariants.{CannotBe}
 use Rattle.refusal.proofs.Answers.{unchanged, changed}
 use Rattle.antenna.proofs.Happenings.{known, unknown}

@@ -1,7 +1,6 @@
 -- `event::antenna_after` meets its promise: each event is the antenna's own. Assumes nothing.
 use Rattle.refusal.proofs.Answers.{changes-is}
 use Rattle.record.proofs.Happened.{stop-happened, raise-happened, clear-happened}
-use borrow.Author.Rules.{rules}
 use Rattle.event.proofs.antenna_after.Goals as goal
 
 pub returns-in-Stopped : goal.returns-in-Stopped

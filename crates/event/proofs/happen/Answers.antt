@@ -3,7 +3,6 @@ use mathlib.Core.Path.{sym, ◌∙◌}
 use Rattle.refusal.specs.declared.Refusal.TheVariants.{NotAllowed}
 use Rattle.refusal.proofs.Answers.{unchanged}
 use Rattle.record.proofs.Happened.{not-allowed, device-happened}
-use borrow.Author.Rules.{rules}
 use Rattle.event.proofs.happen.Goals as goal
 
 pub returns-then-allowed : goal.returns-then-allowed

@@ -2,7 +2,6 @@
 use Rattle.antenna.specs.Events.{rested_of}
 use mathlib.Core.Path.{sym}
 use Rattle.octets.proofs.Rules.{tests}
-use borrow.Author.Rules.{rules}
 use Rattle.event.proofs.rested.Goals as goal
 
 pub returns-in-Still : goal.returns-in-Still

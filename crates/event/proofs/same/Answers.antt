@@ -2,7 +2,6 @@
 use Rattle.antenna.specs.Angles.{same_as}
 use mathlib.Core.Path.{sym, ◌∙◌}
 use Rattle.octets.proofs.Rules.{tests}
-use borrow.Author.Rules.{rules}
 use Rattle.event.proofs.same.Goals as goal
 
 pub returns-then-at_most : goal.returns-then-at_most

@@ -1,5 +1,4 @@
 -- `event::stopped` meets its promise: each way out, by the tests that lead to it. Assumes nothing.
-use borrow.Author.Rules.{rules}
 use mathlib.Core.Path.{sym, ◌∙◌}
 use Rattle.refusal.specs.declared.Refusal.TheVariants.{CannotBe}
 use Rattle.refusal.proofs.Answers.{unchanged, changed}

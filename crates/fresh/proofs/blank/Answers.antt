@@ -3,7 +3,6 @@ use mathlib.Core.Path.{ap, ◌∙◌}
 use Rattle.antenna.specs.declared.Antenna.{Antenna}
 use Rattle.octets.specs.Octets.{◌at_start_of◌}
 use Rattle.record.specs.Fresh.{identity_from, product_from, version_from, plate_from, fresh_from, blank_device}
-use borrow.Author.Rules.{rules}
 use Rattle.fresh.proofs.blank.Goals as goal
 
 pub returns : goal.returns

@@ -2,7 +2,6 @@
 use Rattle.record.specs.Fresh.{data_allowed}
 use mathlib.Core.Path.{sym, ◌∙◌}
 use Rattle.octets.proofs.Rules.{tests}
-use borrow.Author.Rules.{rules}
 use Rattle.fresh.proofs.data_allowed.Goals as goal
 
 pub returns-then-texts_allowed : goal.returns-then-texts_allowed

@@ -3,7 +3,6 @@ use mathlib.Core.Path.{sym, ◌∙◌}
 use Rattle.refusal.specs.declared.Refusal.TheVariants.{NotAllowed}
 use Rattle.refusal.proofs.Answers.{unchanged, changed}
 use Rattle.record.proofs.Freshly.{data-texts, data-wrong, data-right}
-use borrow.Author.Rules.{rules}
 use Rattle.fresh.proofs.fresh.Goals as goal
 
 pub plate_from-plate-requires : goal.plate_from-plate-requires

@@ -1,5 +1,4 @@
 -- `fresh::identity_from` meets its promise: each way out, by the tests that lead to it. Assumes nothing.
-use borrow.Author.Rules.{rules}
 use Rattle.record.proofs.Laid.{identity-laid}
 use Rattle.fresh.proofs.identity_from.Goals as goal
 

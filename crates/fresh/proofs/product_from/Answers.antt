@@ -1,5 +1,4 @@
 -- `fresh::product_from` meets its promise: each way out, by the tests that lead to it. Assumes nothing.
-use borrow.Author.Rules.{rules}
 use Rattle.record.proofs.Laid.{product-laid}
 use Rattle.fresh.proofs.product_from.Goals as goal
 

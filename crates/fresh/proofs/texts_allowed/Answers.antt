@@ -2,7 +2,6 @@
 use Rattle.record.specs.Fresh.{texts_allowed}
 use mathlib.Core.Path.{sym, ◌∙◌}
 use Rattle.octets.proofs.Rules.{tests}
-use borrow.Author.Rules.{rules}
 use Rattle.fresh.proofs.texts_allowed.Goals as goal
 
 pub returns-then-product-gt-PRODUCT : goal.returns-then-product-gt-PRODUCT

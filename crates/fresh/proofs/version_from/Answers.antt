@@ -1,5 +1,4 @@
 -- `fresh::version_from` meets its promise: each way out, by the tests that lead to it. Assumes nothing.
-use borrow.Author.Rules.{rules}
 use Rattle.record.proofs.Laid.{version-laid}
 use Rattle.fresh.proofs.version_from.Goals as goal
 

@@ -2,7 +2,6 @@
 use Rattle.inform.specs.Inform.{carried_by}
 use Rattle.octets.proofs.Rules.{tests}
 use mathlib.Core.Path.{sym}
-use borrow.Author.Rules.{rules}
 use Rattle.inform.proofs.carry.Goals as goal
 
 pub returns : goal.returns

@@ -3,7 +3,6 @@ use Rattle.station.specs.Turns.{saying}
 use Rattle.inform.specs.Inform.{inform_of}
 use Rattle.octets.proofs.Rules.{tests}
 use mathlib.Core.Path.{sym, ◌∙◌}
-use borrow.Author.Rules.{rules}
 use Rattle.inform.proofs.inform.Goals as goal
 
 pub returns-then-is_accepted : goal.returns-then-is_accepted

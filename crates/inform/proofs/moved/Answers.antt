@@ -2,7 +2,6 @@
 use Rattle.session.specs.Session.{taken}
 use mathlib.Core.Path.{sym}
 use Rattle.octets.proofs.Rules.{tests}
-use borrow.Author.Rules.{rules}
 use Rattle.inform.proofs.moved.Goals as goal
 
 pub returns : goal.returns

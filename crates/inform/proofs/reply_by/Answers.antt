@@ -4,7 +4,6 @@ use Rattle.inform.proofs.Replies.{answered-by}
 use Rattle.inform.specs.Inform.{replied_by}
 use Rattle.octets.proofs.Rules.{tests}
 use mathlib.Core.Path.{sym}
-use borrow.Author.Rules.{rules}
 use Rattle.inform.proofs.reply_by.Goals as goal
 
 pub returns-in-None : goal.returns-in-None

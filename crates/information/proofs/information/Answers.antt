@@ -1,6 +1,5 @@
 -- `information::information` meets its promise: four texts stored one behind the other, read back, are the data. Assumes
 -- nothing.
-use borrow.Author.Rules.{rules}
 use mathlib.Core.Path.{◌∙◌}
 use native.Mathlib.Omega.{arith}
 use lib.ListN.{replicate, length-take}

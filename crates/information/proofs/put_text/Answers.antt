@@ -1,5 +1,4 @@
 -- `information::put_text` meets its promise: the length is stored, and the text behind it. Assumes nothing.
-use borrow.Author.Rules.{rules}
 use Rattle.information.proofs.Parts.{text-put}
 use Rattle.information.proofs.put_text.Goals as goal
 

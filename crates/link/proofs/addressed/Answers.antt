@@ -2,7 +2,6 @@
 use Rattle.link.specs.Link.{addressed_by}
 use Rattle.octets.proofs.Rules.{tests}
 use mathlib.Core.Path.{sym, ◌∙◌}
-use borrow.Author.Rules.{rules}
 use Rattle.link.proofs.addressed.Goals as goal
 
 pub returns-then-address-eq-ALL_STATIONS : goal.returns-then-address-eq-ALL_STATIONS

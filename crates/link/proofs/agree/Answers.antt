@@ -2,7 +2,6 @@
 use Rattle.link.specs.Link.{agreed_by}
 use Rattle.octets.proofs.Rules.{tests}
 use mathlib.Core.Path.{sym}
-use borrow.Author.Rules.{rules}
 use Rattle.link.proofs.agree.Goals as goal
 
 pub returns-in-Malformed : goal.returns-in-Malformed

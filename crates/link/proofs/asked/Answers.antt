@@ -2,7 +2,6 @@
 use Rattle.control.specs.Control.{asked_by}
 use mathlib.Core.Path.{sym}
 use Rattle.octets.proofs.Rules.{tests}
-use borrow.Author.Rules.{rules}
 use Rattle.control.proofs.Named.{asks}
 use Rattle.link.proofs.asked.Goals as goal
 

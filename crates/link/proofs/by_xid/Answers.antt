@@ -2,7 +2,6 @@
 use Rattle.link.specs.Link.{xid_by}
 use Rattle.octets.proofs.Rules.{tests}
 use mathlib.Core.Path.{sym}
-use borrow.Author.Rules.{rules}
 use Rattle.link.proofs.by_xid.Goals as goal
 
 pub returns-in-Silence : goal.returns-in-Silence

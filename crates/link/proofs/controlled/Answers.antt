@@ -2,7 +2,6 @@
 use Rattle.link.specs.Link.{controlled_by}
 use Rattle.octets.proofs.Rules.{tests}
 use mathlib.Core.Path.{sym, ◌∙◌}
-use borrow.Author.Rules.{rules}
 use Rattle.link.proofs.controlled.Goals as goal
 
 pub returns-then-polls : goal.returns-then-polls

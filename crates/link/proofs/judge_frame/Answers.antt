@@ -2,7 +2,6 @@
 use mathlib.Core.Path.{◌∙◌}
 use native.Mathlib.Omega.{arith}
 use Rattle.link.proofs.Judged.{too_short, too_long, judged-by}
-use borrow.Author.Rules.{rules}
 use Rattle.link.proofs.judge_frame.Goals as goal
 
 pub returns-then-frame-lt2 : goal.returns-then-frame-lt2

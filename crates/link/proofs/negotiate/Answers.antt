@@ -2,7 +2,6 @@
 use Rattle.link.specs.Link.{negotiated_by}
 use Rattle.octets.proofs.Rules.{tests}
 use mathlib.Core.Path.{sym, ◌∙◌}
-use borrow.Author.Rules.{rules}
 use Rattle.link.proofs.negotiate.Goals as goal
 
 pub returns-then-has_address : goal.returns-then-has_address

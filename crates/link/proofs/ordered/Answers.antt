@@ -1,7 +1,6 @@
 -- `link::ordered` meets its promise: each way out, by the tests that lead to it. Assumes nothing.
 use Rattle.link.specs.Link.{ordered_by}
 use mathlib.Core.Path.{sym}
-use borrow.Author.Rules.{rules}
 use Rattle.link.proofs.ordered.Goals as goal
 
 pub returns-then-is_quiet : goal.returns-then-is_quiet

@@ -2,7 +2,6 @@
 use Rattle.link.specs.Link.{own_by}
 use Rattle.octets.proofs.Rules.{tests}
 use mathlib.Core.Path.{sym}
-use borrow.Author.Rules.{rules}
 use Rattle.link.proofs.own.Goals as goal
 
 pub returns-then-control-eq-XID : goal.returns-then-control-eq-XID

@@ -1,5 +1,4 @@
 -- `message::asked` meets its promise: the data's two octets, as a tilt. Assumes nothing.
-use borrow.Author.Rules.{rules}
 use mathlib.Core.Path.{◌∙◌}
 use Rattle.message.proofs.asked.Goals as goal
 

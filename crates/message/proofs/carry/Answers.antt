@@ -1,5 +1,4 @@
 -- `message::carry` meets its promise: its own checks decide, or the drive's and the table. Assumes nothing.
-use borrow.Author.Rules.{rules}
 use mathlib.Core.Path.{sym, ◌∙◌}
 use Rattle.message.proofs.Judged.{reply-is, carried_none, carried-passed, carried-failed}
 use Rattle.message.proofs.carry.Goals as goal

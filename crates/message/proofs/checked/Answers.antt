@@ -1,6 +1,5 @@
 -- `message::checked` meets its promise: what the code reads and finds decides the rows, one after the other. Assumes
 -- nothing.
-use borrow.Author.Rules.{rules}
 use mathlib.Core.Path.{sym, ◌∙◌}
 use Rattle.message.proofs.Tables.{own-misdeclared, own-barred, own-unknown, own-misfit, own-passed}
 use Rattle.message.proofs.checked.Goals as goal

@@ -1,5 +1,4 @@
 -- `message::get_tilt` meets its promise: each way out, by the tests that lead to it. Assumes nothing.
-use borrow.Author.Rules.{rules}
 use mathlib.Core.Path.{sym, ◌∙◌}
 use Rattle.refusal.specs.Answer.{answered}
 use Rattle.message.specs.Messages.{drive_checks}

@@ -1,5 +1,4 @@
 -- `message::is_unsupported` meets its promise: a code that the list holds has a place in it. Assumes nothing.
-use borrow.Author.Rules.{rules}
 use mathlib.Core.Path.{sym, ap, ◌∙◌}
 use Prim.Native.Nat.{ℕ}
 use lib.Dec.{ltb}

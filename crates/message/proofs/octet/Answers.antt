@@ -1,5 +1,4 @@
 -- `message::octet` meets its promise: past the end the octet read is 0. Assumes nothing.
-use borrow.Author.Rules.{rules}
 use mathlib.Core.Path.{sym}
 use lib.ListN.{get_or-eq_default}
 use Rattle.octets.proofs.Rules.{tests}

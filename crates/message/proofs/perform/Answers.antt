@@ -1,5 +1,4 @@
 -- `message::perform` meets its promise: each way out, by the code that leads to it. Assumes nothing.
-use borrow.Author.Rules.{rules}
 use borrow.Author.Tests.{ne_eqb}
 use Rattle.refusal.specs.Answer.{answered}
 use Rattle.message.specs.Messages.{drive_checks}

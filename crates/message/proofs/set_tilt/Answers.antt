@@ -1,5 +1,4 @@
 -- `message::set_tilt` meets its promise: what becomes of the aim is what comes of the message. Assumes nothing.
-use borrow.Author.Rules.{rules}
 use mathlib.Core.Path.{sym, ◌∙◌}
 use Rattle.antenna.proofs.Aims.{busy-told, outside_told, started-told}
 use Rattle.message.proofs.Judged.{reply-is, set-refused, set-started}

@@ -1,11 +1,10 @@
 -- `negotiation::bits_at` meets its promise: the octets passed, and what is left of them. Assumes nothing.
 use borrow.Author.Rules.{rules}
-use mathlib.Core.Path.{◌≡◌, ap}
-use Prim.Native.Nat.{ℕ, ◌*◌, ◌≤◌, ◌-◌, min}
+use mathlib.Core.Path.{ap}
+use Prim.Native.Nat.{ℕ, ◌*◌, min}
 use native.Mathlib.Omega.{arith}
-use lib.ListN.{length, take, drop}
 use Rattle.limits.specs.Limits.{limit_most, payload_most}
-use Rattle.negotiation.specs.Negotiation.{bits_from, bits_in}
+use Rattle.negotiation.specs.Negotiation.{bits_in}
 use Rattle.negotiation.proofs.Bits.{bits-more, bits-done, bits-past}
 use Rattle.negotiation.proofs.bits_at.Goals as goal
 

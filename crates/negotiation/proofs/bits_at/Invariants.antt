@@ -1,12 +1,8 @@
 -- `negotiation::bits_at` meets its promise: the octets passed, and what is left of them. Assumes nothing.
-use borrow.Author.Rules.{rules}
-use mathlib.Core.Path.{◌≡◌, ap}
-use Prim.Native.Nat.{ℕ, ◌*◌, ◌≤◌, ◌-◌, min}
-use native.Mathlib.Omega.{arith}
+use mathlib.Core.Path.{◌≡◌}
+use Prim.Native.Nat.{◌≤◌, ◌-◌}
 use lib.ListN.{length, take, drop}
-use Rattle.limits.specs.Limits.{limit_most, payload_most}
 use Rattle.negotiation.specs.Negotiation.{bits_from, bits_in}
-use Rattle.negotiation.proofs.Bits.{bits-more, bits-done, bits-past}
 use Rattle.negotiation.proofs.bits_at.Given as goal
 
 abbrev pub invariant-loop-i : goal.invariant-loop-i

@@ -1,6 +1,5 @@
 -- `negotiation::limit_asked` meets its promise: a case a variant, of each of the two lengths. Assumes nothing.
 use Rattle.negotiation.proofs.Found.{none-asked, received-asked, sent-asked, both-asked}
-use borrow.Author.Rules.{rules}
 use Rattle.negotiation.proofs.limit_asked.Goals as goal
 
 pub returns-in-Absent-received : goal.returns-in-Absent-received

@@ -1,5 +1,4 @@
 -- `payload::done` meets its promise: the data is the octet 0x00. Assumes nothing.
-use borrow.Author.Rules.{rules}
 use Rattle.payload.specs.Payloads.{success_of}
 use Rattle.payload.proofs.done.Goals as goal
 

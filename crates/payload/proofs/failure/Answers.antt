@@ -1,5 +1,4 @@
 -- `payload::failure` meets its promise: the data is 0x0B and the return code. Assumes nothing.
-use borrow.Author.Rules.{rules}
 use Rattle.payload.specs.Payloads.{failure_of, message_of}
 use Rattle.payload.proofs.failure.Goals as goal
 

@@ -1,5 +1,4 @@
 -- `payload::laid` meets its promise: code and length are stored in front of the data. Assumes nothing.
-use borrow.Author.Rules.{rules}
 use native.Mathlib.Omega.{arith}
 use lib.ListN.{length-take}
 use Rattle.payload.proofs.Places.{laid-is}

@@ -3,7 +3,6 @@ use Rattle.record.specs.Changes.{device_of}
 use Rattle.station.specs.Turns.{saying}
 use Rattle.octets.proofs.Rules.{tests}
 use mathlib.Core.Path.{sym}
-use borrow.Author.Rules.{rules}
 use Rattle.poll.proofs.indicate.Goals as goal
 
 pub returns : goal.returns

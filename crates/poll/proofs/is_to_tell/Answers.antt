@@ -2,7 +2,6 @@
 use Rattle.poll.specs.Poll.{to_tell}
 use mathlib.Core.Path.{sym}
 use Rattle.octets.proofs.Rules.{tests}
-use borrow.Author.Rules.{rules}
 use Rattle.poll.proofs.is_to_tell.Goals as goal
 
 pub returns-then-desk : goal.returns-then-desk

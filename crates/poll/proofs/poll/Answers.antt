@@ -3,7 +3,6 @@ use Rattle.station.specs.Turns.{saying}
 use Rattle.poll.specs.Poll.{poll_of}
 use Rattle.octets.proofs.Rules.{tests}
 use mathlib.Core.Path.{sym, ◌∙◌}
-use borrow.Author.Rules.{rules}
 use Rattle.poll.proofs.poll.Goals as goal
 
 pub returns-then-is_pending : goal.returns-then-is_pending

@@ -3,7 +3,6 @@ use Rattle.station.specs.Turns.{saying}
 use Rattle.poll.specs.Poll.{idle_poll}
 use Rattle.octets.proofs.Rules.{tests}
 use mathlib.Core.Path.{sym, ◌∙◌}
-use borrow.Author.Rules.{rules}
 use Rattle.poll.proofs.poll_idle.Goals as goal
 
 pub returns-then-is_to_tell : goal.returns-then-is_to_tell

@@ -5,7 +5,6 @@ use Rattle.record.specs.Changes.{device_of}
 use Rattle.poll.specs.Poll.{waiting_poll}
 use Rattle.octets.proofs.Rules.{tests}
 use mathlib.Core.Path.{sym}
-use borrow.Author.Rules.{rules}
 use Rattle.poll.proofs.poll_waiting.Goals as goal
 
 pub returns-in-Nothing : goal.returns-in-Nothing

@@ -1,5 +1,4 @@
 -- `poll::result` meets its promise: by whether the tilt was reached. Assumes nothing.
-use borrow.Author.Rules.{rules}
 use mathlib.Core.Path.{sym}
 use Rattle.octets.proofs.Rules.{tests}
 use Rattle.payload.specs.Payloads.{payload_of, result_of}

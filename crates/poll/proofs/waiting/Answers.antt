@@ -1,7 +1,6 @@
 -- `poll::waiting` meets its promise: each way out, by the tests that lead to it. Assumes nothing.
 use Rattle.antenna.specs.Motions.{waiting_of}
 use Rattle.octets.proofs.Rules.{tests}
-use borrow.Author.Rules.{rules}
 use Rattle.antenna.proofs.Awaits.{awaits}
 use Rattle.poll.proofs.waiting.Goals as goal
 

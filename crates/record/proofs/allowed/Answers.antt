@@ -2,7 +2,6 @@
 use Rattle.record.specs.Allowed.{allowed_device}
 use mathlib.Core.Path.{sym, ◌∙◌}
 use Rattle.octets.proofs.Rules.{tests}
-use borrow.Author.Rules.{rules}
 use Rattle.record.proofs.allowed.Goals as goal
 
 pub returns-then-station_allowed : goal.returns-then-station_allowed

@@ -4,7 +4,6 @@ use lib.ListN.{length-take}
 use Rattle.record.specs.Allowed.{identity_allowed}
 use mathlib.Core.Path.{sym}
 use Rattle.octets.proofs.Rules.{tests}
-use borrow.Author.Rules.{rules}
 use Rattle.record.proofs.identity_allowed.Goals as goal
 
 pub returns-then-len-gt-OCTETS : goal.returns-then-len-gt-OCTETS

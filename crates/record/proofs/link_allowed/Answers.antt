@@ -2,7 +2,6 @@
 use Rattle.record.specs.Allowed.{link_allowed}
 use mathlib.Core.Path.{sym, ◌∙◌}
 use Rattle.octets.proofs.Rules.{tests}
-use borrow.Author.Rules.{rules}
 use Rattle.record.proofs.link_allowed.Goals as goal
 
 pub returns-then-is_addressed : goal.returns-then-is_addressed

@@ -2,7 +2,6 @@
 use Rattle.record.specs.Allowed.{owed_allowed}
 use mathlib.Core.Path.{sym}
 use Rattle.octets.proofs.Rules.{tests}
-use borrow.Author.Rules.{rules}
 use Rattle.record.proofs.owed_allowed.Goals as goal
 
 pub returns-in-NoAddress : goal.returns-in-NoAddress

@@ -2,7 +2,6 @@
 use Rattle.record.specs.Allowed.{pending_fits}
 use mathlib.Core.Path.{sym}
 use Rattle.octets.proofs.Rules.{tests}
-use borrow.Author.Rules.{rules}
 use Rattle.record.proofs.pending_allowed.Goals as goal
 
 pub returns-in-Nothing : goal.returns-in-Nothing

@@ -2,7 +2,6 @@
 use Rattle.record.specs.Allowed.{plates_allowed}
 use mathlib.Core.Path.{sym, ◌∙◌}
 use Rattle.octets.proofs.Rules.{tests}
-use borrow.Author.Rules.{rules}
 use Rattle.record.proofs.plate_allowed.Goals as goal
 
 pub returns-then-product-gt-PRODUCT : goal.returns-then-product-gt-PRODUCT

@@ -2,7 +2,6 @@
 use Rattle.record.specs.Allowed.{session_allowed}
 use mathlib.Core.Path.{sym, ◌∙◌}
 use Rattle.octets.proofs.Rules.{tests}
-use borrow.Author.Rules.{rules}
 use Rattle.record.proofs.session_allowed.Goals as goal
 
 pub returns-then-numbers_allowed : goal.returns-then-numbers_allowed

@@ -2,7 +2,6 @@
 use Rattle.record.specs.Allowed.{station_allowed}
 use Rattle.octets.proofs.Rules.{tests}
 use mathlib.Core.Path.{sym, ◌∙◌}
-use borrow.Author.Rules.{rules}
 use Rattle.record.proofs.station_allowed.Goals as goal
 
 pub returns-then-is_limit : goal.returns-then-is_limit

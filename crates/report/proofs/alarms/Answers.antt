@@ -1,5 +1,4 @@
 -- `report::alarms` meets its promise: what was stored, read back, is the data. Assumes nothing.
-use borrow.Author.Rules.{rules}
 use mathlib.Core.Path.{◌∙◌}
 use native.Mathlib.Omega.{arith}
 use lib.ListN.{length-take}

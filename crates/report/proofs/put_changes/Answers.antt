@@ -1,11 +1,11 @@
 -- `report::put_changes` meets its promise: what is left of the flags is what is left to store. Assumes nothing.
 use borrow.Author.Rules.{rules}
-use mathlib.Core.Path.{◌≡◌, sym, ◌∙◌}
-use Prim.Native.Nat.{◌*◌, ◌-◌, ◌<◌, ◌≤◌}
+use mathlib.Core.Path.{sym, ◌∙◌}
+use Prim.Native.Nat.{◌<◌}
 use native.Mathlib.Omega.{arith}
-use lib.ListN.{length, drop}
-use Rattle.octets.proofs.Runs.{Run, run-all, run-two, run_is, run-done}
-use Rattle.antenna.specs.Alarms.{alarm_codes, changes_among, changes_of}
+use lib.ListN.{length}
+use Rattle.octets.proofs.Runs.{run-all, run-two, run_is, run-done}
+use Rattle.antenna.specs.Alarms.{alarm_codes}
 use Rattle.report.proofs.Flags.{changes-here, changes-none, changes-done}
 use Rattle.report.proofs.put_changes.Goals as goal
 

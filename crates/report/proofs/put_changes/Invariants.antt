@@ -1,12 +1,9 @@
 -- `report::put_changes` meets its promise: what is left of the flags is what is left to store. Assumes nothing.
-use borrow.Author.Rules.{rules}
-use mathlib.Core.Path.{◌≡◌, sym, ◌∙◌}
-use Prim.Native.Nat.{◌*◌, ◌-◌, ◌<◌, ◌≤◌}
-use native.Mathlib.Omega.{arith}
+use mathlib.Core.Path.{◌≡◌}
+use Prim.Native.Nat.{◌*◌, ◌-◌, ◌≤◌}
 use lib.ListN.{length, drop}
-use Rattle.octets.proofs.Runs.{Run, run-all, run-two, run_is, run-done}
+use Rattle.octets.proofs.Runs.{Run}
 use Rattle.antenna.specs.Alarms.{alarm_codes, changes_among, changes_of}
-use Rattle.report.proofs.Flags.{changes-here, changes-none, changes-done}
 use Rattle.report.proofs.put_changes.Given as goal
 
 abbrev pub invariant-loop-i : goal.invariant-loop-i

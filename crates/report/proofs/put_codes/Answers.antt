@@ -1,11 +1,10 @@
 -- `report::put_codes` meets its promise: what is left of the flags is what is left to store. Assumes nothing.
 use borrow.Author.Rules.{rules}
-use mathlib.Core.Path.{◌≡◌}
-use Prim.Native.Nat.{◌+◌, ◌-◌, ◌<◌, ◌≤◌}
+use Prim.Native.Nat.{◌<◌}
 use native.Mathlib.Omega.{arith}
-use lib.ListN.{length, drop}
-use Rattle.octets.proofs.Runs.{Run, run-all, run-one, run_is}
-use Rattle.antenna.specs.Alarms.{alarm_codes, codes_among, codes_of}
+use lib.ListN.{length}
+use Rattle.octets.proofs.Runs.{run-all, run-one, run_is}
+use Rattle.antenna.specs.Alarms.{alarm_codes}
 use Rattle.report.proofs.Flags.{codes-on, codes-off, codes-done}
 use Rattle.payload.proofs.Backs.{success-put}
 use Rattle.report.proofs.put_codes.Goals as goal

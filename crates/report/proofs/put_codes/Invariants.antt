@@ -1,13 +1,9 @@
 -- `report::put_codes` meets its promise: what is left of the flags is what is left to store. Assumes nothing.
-use borrow.Author.Rules.{rules}
 use mathlib.Core.Path.{◌≡◌}
-use Prim.Native.Nat.{◌+◌, ◌-◌, ◌<◌, ◌≤◌}
-use native.Mathlib.Omega.{arith}
+use Prim.Native.Nat.{◌+◌, ◌-◌, ◌≤◌}
 use lib.ListN.{length, drop}
-use Rattle.octets.proofs.Runs.{Run, run-all, run-one, run_is}
+use Rattle.octets.proofs.Runs.{Run}
 use Rattle.antenna.specs.Alarms.{alarm_codes, codes_among, codes_of}
-use Rattle.report.proofs.Flags.{codes-on, codes-off, codes-done}
-use Rattle.payload.proofs.Backs.{success-put}
 use Rattle.report.proofs.put_codes.Given as goal
 
 abbrev pub invariant-loop-i : goal.invariant-loop-i

@@ -1,5 +1,4 @@
 -- `behind` meets its promise: from the octet behind the space on, or from the end on. Assumes nothing.
-use borrow.Author.Rules.{rules}
 use native.Mathlib.Omega.{arith}
 use Rattle.script.proofs.WordLaws.{place-within, behind-right, behind-none}
 use Rattle.script.proofs.behind.Goals as goal

@@ -1,5 +1,4 @@
 -- `command_of` meets its promise: the first word among the names. Assumes nothing.
-use borrow.Author.Rules.{rules}
 use Rattle.script.specs.Script.{command_of}
 use Rattle.script.specs.Words.{spelled}
 use Rattle.script.proofs.command_of.Goals as goal

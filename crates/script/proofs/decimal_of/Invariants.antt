@@ -1,12 +1,10 @@
 -- `decimal_of` meets its promise: the number so far, with the digits left behind it, is the number of all, up to a million.
 -- Assumes nothing.
-use borrow.Author.Rules.{rules}
 use mathlib.Core.Path.{◌≡◌}
 use Prim.Native.Nat.{◌-◌, ◌≤◌}
-use native.Mathlib.Omega.{arith}
 use lib.ListN.{length, drop}
 use Rattle.script.specs.Values.{decimal_of}
-use Rattle.script.proofs.ValueLaws.{decimal_from, decimal-none, decimal-start, decimal-low, decimal-high, decimal-more, decimal-done}
+use Rattle.script.proofs.ValueLaws.{decimal_from}
 use Rattle.script.proofs.decimal_of.Given as goal
 
 abbrev pub invariant-loop-i : goal.invariant-loop-i

@@ -1,5 +1,4 @@
 -- `digits_of` meets its promise: what is behind the sign, or all. Assumes nothing.
-use borrow.Author.Rules.{rules}
 use Rattle.script.proofs.ValueLaws.{digits-none, digits-signed, digits-plain}
 use Rattle.script.proofs.digits_of.Goals as goal
 

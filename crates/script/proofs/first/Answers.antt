@@ -1,5 +1,4 @@
 -- `first` meets its promise: it ends before the first space. Assumes nothing.
-use borrow.Author.Rules.{rules}
 use native.Mathlib.Omega.{arith}
 use lib.ListN.{length-take}
 use Rattle.script.proofs.WordLaws.{place-within, first-right}

@@ -1,5 +1,4 @@
 -- `from_one` meets its promise: a case a variant. Assumes nothing.
-use borrow.Author.Rules.{rules}
 use Rattle.script.specs.Values.{from_one}
 use Rattle.octets.proofs.Rules.{tests}
 use Rattle.script.proofs.from_one.Goals as goal

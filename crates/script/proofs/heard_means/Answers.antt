@@ -1,5 +1,4 @@
 -- `heard_means` meets its promise: the word is one of two. Assumes nothing.
-use borrow.Author.Rules.{rules}
 use Rattle.script.specs.Words.{spelled, place_from}
 use Rattle.script.specs.Values.{heard_means}
 use Rattle.octets.proofs.Rules.{tests}

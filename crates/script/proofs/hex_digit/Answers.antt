@@ -1,5 +1,4 @@
 -- `hex_digit` meets its promise: one range after the other. Assumes nothing.
-use borrow.Author.Rules.{rules}
 use mathlib.Core.Path.{sym, ◌∙◌}
 use Rattle.script.proofs.ValueLaws.{digit-below, digit-between, digit-capital}
 use Rattle.script.specs.Values.{hex_digit}

@@ -1,5 +1,4 @@
 -- `is_negative` meets its promise: an empty word has no sign. Assumes nothing.
-use borrow.Author.Rules.{rules}
 use Rattle.script.proofs.ValueLaws.{negative-none}
 use Rattle.script.specs.Values.{is_negative}
 use Rattle.octets.proofs.Rules.{tests}

@@ -1,5 +1,4 @@
 -- `is_unanswered` meets its promise: by the length, then by the first octet. Assumes nothing.
-use borrow.Author.Rules.{rules}
 use Rattle.script.specs.Script.{is_unanswered}
 use Rattle.octets.proofs.Rules.{tests}
 use Rattle.script.proofs.is_unanswered.Goals as goal

@@ -1,5 +1,4 @@
 -- `number_by` meets its promise: no number, one below zero, or one above. Assumes nothing.
-use borrow.Author.Rules.{rules}
 use mathlib.Core.Path.{sym, ap, ◌∙◌}
 use native.Mathlib.Omega.{arith}
 use Rattle.script.specs.Values.{decimal_of}

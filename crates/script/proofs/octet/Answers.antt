@@ -1,5 +1,4 @@
 -- `octet` meets its promise: by its length. Assumes nothing.
-use borrow.Author.Rules.{rules}
 use Rattle.script.specs.Values.{octet_of}
 use Rattle.octets.proofs.Rules.{tests}
 use mathlib.Core.Path.{sym}

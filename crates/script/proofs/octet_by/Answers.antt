@@ -1,5 +1,4 @@
 -- `octet_by` meets its promise: one digit, then the other. Assumes nothing.
-use borrow.Author.Rules.{rules}
 use Rattle.script.specs.Values.{octet_by}
 use Rattle.octets.proofs.Rules.{tests}
 use mathlib.Core.Path.{sym}

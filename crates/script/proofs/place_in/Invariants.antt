@@ -1,11 +1,7 @@
 -- `place_in` meets its promise: the place among the names left is the place among all. Assumes nothing.
-use borrow.Author.Rules.{rules}
-use mathlib.Core.Path.{◌≡◌, sym, ap, ◌∙◌}
-use mathlib.Core.List.{List}
-use Prim.Native.Nat.{ℕ, ◌-◌, ◌≤◌}
-use Rattle.identity.specs.Identity.{same}
+use mathlib.Core.Path.{◌≡◌}
+use Prim.Native.Nat.{◌-◌, ◌≤◌}
 use Rattle.script.specs.Words.{place_from}
-use Rattle.script.proofs.WordLaws.{name-all, name-here, name-more, name_done}
 use Rattle.script.proofs.place_in.Given as goal
 
 abbrev pub invariant-loop-i : goal.invariant-loop-i

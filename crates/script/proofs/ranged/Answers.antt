@@ -1,5 +1,4 @@
 -- `ranged` meets its promise: the bound, then the sign. Assumes nothing.
-use borrow.Author.Rules.{rules}
 use Rattle.script.specs.Values.{pattern_of, ranged}
 use Rattle.octets.proofs.Rules.{tests}
 use Rattle.script.proofs.ranged.Goals as goal

@@ -1,5 +1,4 @@
 -- `read_line` meets its promise: one fault after the other. Assumes nothing.
-use borrow.Author.Rules.{rules}
 use mathlib.Core.Path.{sym, ◌∙◌}
 use Rattle.script.specs.Words.{spelled}
 use Rattle.script.specs.Script.{kinds_of, read_line}

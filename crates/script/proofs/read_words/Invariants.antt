@@ -1,10 +1,8 @@
 -- `read_words` meets its promise: the words left, behind what is read, are all words. Assumes nothing.
-use borrow.Author.Rules.{rules}
-use mathlib.Core.Path.{◌≡◌, refl, sym, ◌∙◌}
+use mathlib.Core.Path.{◌≡◌}
 use Prim.Native.Nat.{◌+◌, ◌-◌, ◌≤◌}
 use lib.ListN.{length, drop}
 use Rattle.script.specs.Script.{words_by}
-use Rattle.script.proofs.LineLaws.{words-fault, words_more, words-done}
 use Rattle.script.proofs.read_words.Given as goal
 
 abbrev pub invariant-loop-i : goal.invariant-loop-i

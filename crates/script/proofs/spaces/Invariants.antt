@@ -1,11 +1,8 @@
 -- `spaces` meets its promise: those passed and those in what is left are all. Assumes nothing.
-use borrow.Author.Rules.{rules}
 use mathlib.Core.Path.{◌≡◌}
 use Prim.Native.Nat.{◌+◌, ◌-◌, ◌≤◌}
-use native.Mathlib.Nat.{zero-add}
 use lib.ListN.{length, drop}
 use Rattle.script.specs.Words.{spaces_in}
-use Rattle.script.proofs.WordLaws.{spaces-here, spaces-more, spaces-done}
 use Rattle.script.proofs.spaces.Given as goal
 
 abbrev pub invariant-loop-i : goal.invariant-loop-i

@@ -1,5 +1,4 @@
 -- `value_of` meets its promise: one kind after the other. Assumes nothing.
-use borrow.Author.Rules.{rules}
 use Rattle.script.specs.Values.{value_of}
 use Rattle.octets.proofs.Rules.{tests}
 use mathlib.Core.Path.{sym}

@@ -1,5 +1,4 @@
 -- `with_hex` meets its promise: no octets, no word, or digits. Assumes nothing.
-use borrow.Author.Rules.{rules}
 use mathlib.Core.Path.{sym, ◌∙◌}
 use Rattle.script.specs.Values.{pairs_of}
 use Rattle.script.specs.Words.{spelled}

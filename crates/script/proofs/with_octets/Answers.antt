@@ -1,5 +1,4 @@
 -- `with_octets` meets its promise: the octets end at most at the row's. Assumes nothing.
-use borrow.Author.Rules.{rules}
 use Rattle.script.proofs.LineLaws.{octets-right}
 use Rattle.script.proofs.with_octets.Goals as goal
 

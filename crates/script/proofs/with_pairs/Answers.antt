@@ -1,11 +1,7 @@
 -- `with_pairs` meets its promise: the octets so far, with those of the digits left behind them, are all. Assumes
 -- nothing.
 use borrow.Author.Rules.{rules}
-use mathlib.Core.Path.{◌≡◌, refl, sym, ◌∙◌}
-use Prim.Native.Nat.{◌+◌, ◌*◌, ◌-◌, ◌≤◌}
-use lib.ListN.{length, drop}
-use Rattle.script.specs.Values.{pairs_of}
-use Rattle.script.specs.Script.{with_hex, stored}
+use mathlib.Core.Path.{refl, sym, ◌∙◌}
 use Rattle.script.proofs.ValueLaws.{octet-below}
 use Rattle.script.proofs.LineLaws.{stored-length, pairs-odd, pairs-bad, pairs-more, pairs-done}
 use Rattle.script.proofs.with_pairs.Goals as goal

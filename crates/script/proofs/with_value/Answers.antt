@@ -1,5 +1,4 @@
 -- `with_value` meets its promise: a case a variant. Assumes nothing.
-use borrow.Author.Rules.{rules}
 use Rattle.script.proofs.LineLaws.{value-right}
 use mathlib.Core.Path.{sym}
 use Rattle.script.specs.Script.{with_value}

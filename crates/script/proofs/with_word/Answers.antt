@@ -1,5 +1,4 @@
 -- `with_word` meets its promise: HEX, or another kind. Assumes nothing.
-use borrow.Author.Rules.{rules}
 use Rattle.script.specs.Script.{with_word}
 use Rattle.octets.proofs.Rules.{tests}
 use mathlib.Core.Path.{sym}

@@ -1,8 +1,6 @@
 -- `word` meets its promise: the word behind those left, of what is left of the line. The measure is how many are
 -- left. Assumes nothing.
-use borrow.Author.Rules.{rules}
-use mathlib.Core.Path.{◌≡◌, refl, ◌∙◌}
-use Rattle.script.specs.Words.{word_at}
+use mathlib.Core.Path.{refl, ◌∙◌}
 use Rattle.script.proofs.WordLaws.{word_more, word-done}
 use Rattle.script.proofs.word.Goals as goal
 

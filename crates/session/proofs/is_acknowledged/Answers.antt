@@ -2,7 +2,6 @@
 use Rattle.session.specs.Session.{acknowledges}
 use mathlib.Core.Path.{sym, ◌∙◌}
 use Rattle.octets.proofs.Rules.{tests}
-use borrow.Author.Rules.{rules}
 use Rattle.session.proofs.is_acknowledged.Goals as goal
 
 pub returns-then-is_pending : goal.returns-then-is_pending

@@ -1,7 +1,6 @@
 -- `speech::control_of` meets its promise: each way out, by the tests that lead to it. Assumes nothing.
 use Rattle.speech.specs.Speech.{control_by}
 use Rattle.octets.proofs.Rules.{tests}
-use borrow.Author.Rules.{rules}
 use Rattle.speech.proofs.control_of.Goals as goal
 
 pub returns-in-Silence : goal.returns-in-Silence

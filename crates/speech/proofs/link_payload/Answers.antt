@@ -2,7 +2,6 @@
 use Rattle.speech.specs.Speech.{link_octets}
 use Rattle.octets.proofs.Rules.{tests}
 use mathlib.Core.Path.{sym}
-use borrow.Author.Rules.{rules}
 use Rattle.speech.proofs.link_payload.Goals as goal
 
 pub returns-in-NoAddress : goal.returns-in-NoAddress

@@ -3,7 +3,6 @@ use Rattle.speech.proofs.Said.{scan-said, assignment-said, negotiation-said}
 use Rattle.speech.specs.Speech.{payload_by}
 use Rattle.octets.proofs.Rules.{tests}
 use mathlib.Core.Path.{sym}
-use borrow.Author.Rules.{rules}
 use Rattle.speech.proofs.payload_of.Goals as goal
 
 pub returns-in-Silence : goal.returns-in-Silence

@@ -3,7 +3,6 @@ use Rattle.speech.proofs.Said.{indication-said}
 use Rattle.speech.specs.Speech.{pending_octets}
 use Rattle.octets.proofs.Rules.{tests}
 use mathlib.Core.Path.{sym}
-use borrow.Author.Rules.{rules}
 use Rattle.speech.proofs.pending_payload.Goals as goal
 
 pub returns-in-Nothing : goal.returns-in-Nothing

@@ -1,7 +1,6 @@
 -- `speech::speak` meets its promise: each way out, by the tests that lead to it. Assumes nothing.
 use mathlib.Core.Path.{sym, ◌∙◌}
 use Rattle.speech.proofs.Said.{silent-spoken, laid-spoken}
-use borrow.Author.Rules.{rules}
 use Rattle.speech.proofs.speak.Goals as goal
 
 pub returns-then-is_silent : goal.returns-then-is_silent

@@ -3,7 +3,6 @@ use Rattle.station.specs.Turns.{saying}
 use Rattle.states.specs.States.{assigned_by}
 use Rattle.octets.proofs.Rules.{tests}
 use mathlib.Core.Path.{sym, ◌∙◌}
-use borrow.Author.Rules.{rules}
 use Rattle.states.proofs.assigned.Goals as goal
 
 pub returns-then-is_snrm : goal.returns-then-is_snrm

@@ -3,7 +3,6 @@ use Rattle.station.specs.Turns.{saying}
 use Rattle.states.specs.States.{connected_by, renewed}
 use Rattle.octets.proofs.Rules.{tests}
 use mathlib.Core.Path.{sym}
-use borrow.Author.Rules.{rules}
 use Rattle.states.proofs.connected.Goals as goal
 
 pub returns-in-Xid : goal.returns-in-Xid

@@ -4,7 +4,6 @@ use Rattle.control.proofs.Named.{next-below}
 use Rattle.session.specs.Session.{vs_of, counts_of}
 use mathlib.Core.Path.{sym, ◌∙◌}
 use Rattle.octets.proofs.Rules.{tests}
-use borrow.Author.Rules.{rules}
 use Rattle.states.proofs.counts.Goals as goal
 
 pub overflow_mul-result : goal.overflow_mul-result

@@ -2,7 +2,6 @@
 use Rattle.session.specs.Session.{good_number}
 use mathlib.Core.Path.{sym}
 use Rattle.octets.proofs.Rules.{tests}
-use borrow.Author.Rules.{rules}
 use Rattle.states.proofs.is_good.Goals as goal
 
 pub returns-then-nr-session : goal.returns-then-nr-session

@@ -3,7 +3,6 @@ use Rattle.station.specs.Turns.{saying}
 use Rattle.states.specs.States.{linked_by}
 use Rattle.octets.proofs.Rules.{tests}
 use mathlib.Core.Path.{sym}
-use borrow.Author.Rules.{rules}
 use Rattle.states.proofs.linked.Goals as goal
 
 pub returns-in-NoAddress : goal.returns-in-NoAddress

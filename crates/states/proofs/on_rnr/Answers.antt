@@ -3,7 +3,6 @@ use Rattle.station.specs.Turns.{saying}
 use Rattle.states.specs.States.{paused_by, rnr_by}
 use Rattle.octets.proofs.Rules.{tests}
 use mathlib.Core.Path.{sym, ◌∙◌}
-use borrow.Author.Rules.{rules}
 use Rattle.states.proofs.on_rnr.Goals as goal
 
 pub returns-then-is_good : goal.returns-then-is_good

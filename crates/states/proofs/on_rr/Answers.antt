@@ -2,7 +2,6 @@
 use Rattle.states.specs.States.{polled_by, rr_by}
 use Rattle.octets.proofs.Rules.{tests}
 use mathlib.Core.Path.{sym, ◌∙◌}
-use borrow.Author.Rules.{rules}
 use Rattle.states.proofs.on_rr.Goals as goal
 
 pub returns-then-is_good : goal.returns-then-is_good

@@ -3,7 +3,6 @@ use Rattle.station.specs.Turns.{saying}
 use Rattle.states.specs.States.{rejected}
 use Rattle.octets.proofs.Rules.{tests}
 use mathlib.Core.Path.{sym}
-use borrow.Author.Rules.{rules}
 use Rattle.states.proofs.reject.Goals as goal
 
 pub returns : goal.returns

@@ -2,7 +2,6 @@
 use Rattle.station.specs.Station.{resent}
 use mathlib.Core.Path.{sym, ◌∙◌}
 use Rattle.octets.proofs.Rules.{tests}
-use borrow.Author.Rules.{rules}
 use Rattle.station.proofs.resend.Goals as goal
 
 pub returns-then-is_pending : goal.returns-then-is_pending

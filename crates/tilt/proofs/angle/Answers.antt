@@ -1,5 +1,4 @@
 -- `tilt::angle` meets its promise: the number of the pair, in the upper half less 65536. Assumes nothing.
-use borrow.Author.Rules.{rules}
 use mathlib.Core.Path.{◌≡◌, sym}
 use Prim.Native.Nat.{◌-◌}
 use native.Mathlib.Omega.{arith}

@@ -1,5 +1,4 @@
 -- `tilt::tilt` meets its promise: the data is 0x00 and the two octets of the pattern. Assumes nothing.
-use borrow.Author.Rules.{rules}
 use mathlib.Core.Path.{◌∙◌}
 use Rattle.tilt.specs.Tilts.{tilt_octets}
 use Rattle.payload.specs.Payloads.{success_of}

@@ -1,7 +1,6 @@
 -- `xid::ends_with` meets its promise: the right-most octets are those from the start on. Assumes nothing.
 use Rattle.xid.proofs.Octetwise.{ends-longer, ends-right}
 use mathlib.Core.Path.{◌∙◌}
-use borrow.Author.Rules.{rules}
 use Rattle.xid.proofs.ends_with.Goals as goal
 
 pub returns-then-s-tail : goal.returns-then-s-tail

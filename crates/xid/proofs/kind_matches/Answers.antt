@@ -1,6 +1,5 @@
 -- `xid::kind_matches` meets its promise: a case a variant. Assumes nothing.
 use Rattle.xid.proofs.Judging.{kind-absent, kind-given}
-use borrow.Author.Rules.{rules}
 use Rattle.xid.proofs.kind_matches.Goals as goal
 
 pub returns-in-Absent : goal.returns-in-Absent

@@ -1,10 +1,6 @@
 -- `xid::padded` meets its promise: what is left to pad comes to the same as all. Assumes nothing.
 use borrow.Author.Rules.{rules}
-use mathlib.Core.Path.{◌≡◌, refl, ◌∙◌}
-use Prim.Native.Nat.{◌-◌}
-use lib.ListN.{replicate}
-use lib.Seq.{sets}
-use Rattle.identity.specs.Identity.{width, blank}
+use mathlib.Core.Path.{refl, ◌∙◌}
 use Rattle.xid.proofs.Octetwise.{pad-more, pad-done, padded-is}
 use Rattle.xid.proofs.padded.Goals as goal
 

@@ -1,11 +1,9 @@
 -- `xid::padded` meets its promise: what is left to pad comes to the same as all. Assumes nothing.
-use borrow.Author.Rules.{rules}
-use mathlib.Core.Path.{◌≡◌, refl, ◌∙◌}
+use mathlib.Core.Path.{◌≡◌}
 use Prim.Native.Nat.{◌-◌}
 use lib.ListN.{replicate}
 use lib.Seq.{sets}
 use Rattle.identity.specs.Identity.{width, blank}
-use Rattle.xid.proofs.Octetwise.{pad-more, pad-done, padded-is}
 use Rattle.xid.proofs.padded.Given as goal
 
 abbrev pub invariant-loop-i : goal.invariant-loop-i

@@ -1,6 +1,5 @@
 -- `xid::scan_matches` meets its promise: the padded identity, under the mask. Assumes nothing.
 use Rattle.xid.proofs.Judging.{scan-given}
-use borrow.Author.Rules.{rules}
 use Rattle.xid.proofs.scan_matches.Goals as goal
 
 pub returns : goal.returns

@@ -1,11 +1,7 @@
 -- `xid::under_mask` meets its promise: what is left, masked, is what is left of the value exactly if all is.
 -- Assumes nothing.
 use borrow.Author.Rules.{rules}
-use mathlib.Core.Path.{◌≡◌, refl, sym, ◌∙◌}
-use Prim.Native.Nat.{◌-◌, ◌≤◌}
-use lib.ListN.{drop}
-use Rattle.identity.specs.Bits.{masked}
-use Rattle.identity.specs.Identity.{same}
+use mathlib.Core.Path.{refl, sym, ◌∙◌}
 use Rattle.compare.proofs.Laws.{same-differ}
 use Rattle.xid.proofs.Octetwise.{length-masked, masked-not, masked-more, masked-done}
 use Rattle.xid.proofs.under_mask.Goals as goal

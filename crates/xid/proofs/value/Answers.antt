@@ -3,7 +3,6 @@ use Rattle.params.specs.Field.{octets_in}
 use Rattle.params.specs.Walk.{value_at}
 use mathlib.Core.Path.{sym}
 use Rattle.octets.proofs.Rules.{tests}
-use borrow.Author.Rules.{rules}
 use Rattle.xid.proofs.value.Goals as goal
 
 pub returns-in-Absent : goal.returns-in-Absent

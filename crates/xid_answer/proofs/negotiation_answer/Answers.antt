@@ -1,6 +1,5 @@
 -- `xid_answer::negotiation_answer` meets its promise: what was put stands at the start of zeros. Assumes nothing.
 use Rattle.xid_answer.proofs.Stored.{negotiation-held}
-use borrow.Author.Rules.{rules}
 use Rattle.xid_answer.proofs.negotiation_answer.Goals as goal
 
 pub returns : goal.returns

@@ -3,7 +3,6 @@
 use Rattle.xid.specs.Addressing.{identity_id}
 use Rattle.xid_answer.proofs.Stored.{length-triple, assignment-stored}
 use native.Mathlib.Omega.{arith}
-use borrow.Author.Rules.{rules}
 use Rattle.xid_answer.proofs.put_assignment_answer.Goals as goal
 
 pub put_param-requires : goal.put_param-requires

@@ -1,6 +1,5 @@
 -- `xid_answer::put_if` meets its promise: the triple, or nothing. Assumes nothing.
 use Rattle.xid_answer.proofs.Stored.{asked-stored, none-stored}
-use borrow.Author.Rules.{rules}
 use Rattle.xid_answer.proofs.put_if.Goals as goal
 
 pub returns-then-asked : goal.returns-then-asked

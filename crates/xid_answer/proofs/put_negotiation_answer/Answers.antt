@@ -1,7 +1,6 @@
 -- `xid_answer::put_negotiation_answer` meets its promise: the opening and up to four triples, one behind the other.
 -- Assumes nothing.
 use Rattle.xid_answer.proofs.Stored.{negotiation-stored}
-use borrow.Author.Rules.{rules}
 use Rattle.xid_answer.proofs.put_negotiation_answer.Goals as goal
 
 pub returns : goal.returns

@@ -1,7 +1,6 @@
 -- `xid_answer::put_opening` meets its promise: one octet behind the other.
 -- Assumes nothing.
 use Rattle.xid_answer.proofs.Stored.{opening-stored}
-use borrow.Author.Rules.{rules}
 use Rattle.xid_answer.proofs.put_opening.Goals as goal
 
 pub returns : goal.returns

@@ -1,7 +1,6 @@
 -- `xid_answer::put_param` meets its promise: identifier, length, value, one behind the other.
 -- Assumes nothing.
 use Rattle.xid_answer.proofs.Stored.{param-stored}
-use borrow.Author.Rules.{rules}
 use Rattle.xid_answer.proofs.put_param.Goals as goal
 
 pub returns : goal.returns

@@ -4,7 +4,6 @@ use Rattle.xid.specs.Addressing.{identity_id, address_id}
 use Rattle.xid_answer.proofs.Stored.{length-triple, scan-stored}
 use native.Mathlib.Omega.{arith}
 use mathlib.Core.List.{[], ◌∷◌}
-use borrow.Author.Rules.{rules}
 use Rattle.xid_answer.proofs.put_scan_answer.Goals as goal
 
 pub put_param-b-requires : goal.put_param-b-requires
