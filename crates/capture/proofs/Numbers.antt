@@ -1,17 +1,16 @@
 -- When the two calls of a salvage are refused, each number exactly then, and that there is no other one.
 -- Assumes nothing.
-use mathlib.Core.Path.{◌≡◌, refl, sym, ap, ◌∙◌}
-use mathlib.Core.Bool.{Bool, true, false, not}
+use mathlib.Core.Path.{◌≡◌, refl, ap}
+use mathlib.Core.Bool.{true, not}
 use mathlib.Core.List.{List, [], ◌∷◌}
 use mathlib.Core.Logic.{◌↔◌, ◌⊎◌, inl, inr, ⊎_elim, ⊎_map}
 use Prim.Native.Nat.{ℕ, ◌+◌, ◌<◌, ◌≤◌}
 use borrow.Author.Tests.{ltb-true, ltb-false, lt-ltb, le-ltb, not-false}
 use lib.ListN.{length}
 use Rattle.octets.specs.Octets.{holds}
-use Rattle.octets.proofs.Words.{true-not-false, holds-exactly}
-use Rattle.refusal.specs.Answer.{gives, refuses, TestRow, answered, Clear, numbers_of}
-use Rattle.refusal.proofs.Answers.{gives-not-refuses, refuses-same}
-use Rattle.refusal.proofs.Exactly.{TestsFor, exactly-tests, exactly-given, answered-all}
+use Rattle.octets.proofs.Words.{holds-exactly}
+use Rattle.refusal.specs.Answer.{gives, refuses, Clear, numbers_of}
+use Rattle.refusal.proofs.Exactly.{TestsFor, exactly-tests, exactly-given}
 use Rattle.limits.specs.Limits.{is_limit}
 use Rattle.salvage.specs.Holding.{Holding, raw_most, Workable}
 use Rattle.salvage.specs.Work.{Progress, AtEnd, works, spare_most, salvage_rows, salvaged, at_end, finish_rows, finished}

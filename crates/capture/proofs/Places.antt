@@ -272,13 +272,13 @@ module _ (N : ℕ) (s : List ℕ) (i : ℕ) where
   every-place h =
       record {
         one = ⊎_elim (λ e. inr (inl e)) (λ w. let (a, m, c) = w in by_kind a m c (is_kept a) refl) (found_in h);
-        notAB = λ k e. flag-nowhere N s k.0 i ((among-kept (pieces_in N s) k.0).0 k.1).0 k.2 e;
-        notAC = λ k d.
+        not_ab = λ k e. flag-nowhere N s k.0 i ((among-kept (pieces_in N s) k.0).0 k.1).0 k.2 e;
+        not_ac = λ k d.
             let (a, kept) = (among-kept (pieces_in N s) k.0).0 k.1 in
             let (b, left) = (among-left (pieces_in N s) d.0).0 d.1 in
             let same = one_piece N s i k.0 d.0 a b k.2 d.2 in
             true-not-false (sym (rw same at kept) ∙ not-true _ left);
-        notBC = λ e d. flag-nowhere N s d.0 i ((among-left (pieces_in N s) d.0).0 d.1).0 d.2 e;
+        not_bc = λ e d. flag-nowhere N s d.0 i ((among-left (pieces_in N s) d.0).0 d.1).0 d.2 e;
       }
     where
       by_kind : (a : Piece) → Among a (pieces_in N s) → Covers a i → (t : Bool) → is_kept a ≡ t

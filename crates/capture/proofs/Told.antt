@@ -1,23 +1,22 @@
 -- What one call tells a caller, for any record, any number for the frame limit and any run. Assumes nothing.
 use mathlib.Core.Path.{◌≡◌, refl, sym, ap, ◌∙◌}
-use mathlib.Core.Bool.{Bool, true, false, cond}
-use mathlib.Core.List.{List, [], ◌∷◌, ◌++◌}
-use Prim.Native.Nat.{ℕ, suc, ◌+◌, ◌-◌, ◌<◌, ◌≤◌}
+use mathlib.Core.Bool.{false}
+use mathlib.Core.List.{List, [], ◌∷◌}
+use Prim.Native.Nat.{ℕ, suc, ◌+◌, ◌-◌, ◌≤◌}
 use native.Mathlib.Omega.{arith}
 use lib.Dec.{eqb}
 use borrow.Author.Tests.{eqb-true, ne_eqb}
-use lib.ListN.{length, take, get_or}
+use lib.ListN.{length, get_or}
 use Rattle.octets.specs.Octets.{holds, ◌at_start_of◌}
 use Rattle.octets.proofs.Words.{holds-head, holds-tail}
 use Rattle.octets.proofs.Stores.{take-start}
-use Rattle.refusal.specs.Numbers.{number_of}
 use Rattle.refusal.specs.Answer.{Answer, gives, refuses}
 use Rattle.refusal.proofs.Answers.{gives_same, gives-not-refuses, refuses-same}
 use Rattle.frame.specs.Line.{flag}
 use Rattle.receiver.proofs.After.{by-test}
 use Rattle.salvage.specs.Holding.{Holding, holding_of, raw_most, add64, with_octet, verdict_of, closed_by, behind_flag, behind_flag_in}
 use Rattle.salvage.specs.Holding.{stretch_over, onward_from, past_flag, tallied}
-use Rattle.salvage.specs.Work.{Dropping, no_stretch, a_stretch, Progress, in_front, at_flag, works, salvaged, listing_of, left_by}
+use Rattle.salvage.specs.Work.{no_stretch, a_stretch, Progress, in_front, at_flag, works, salvaged, listing_of, left_by}
 use Rattle.salvage.specs.Work.{taken_by, wrote_by, holding_by, Salvages, Finishes, AtEnd, end_listing, end_salvage}
 use Rattle.salvage.specs.Work.{stretch_of, finished, at_end, end_verdict, end_left, emptied}
 use Rattle.salvage.proofs.Only.{none-not-one}

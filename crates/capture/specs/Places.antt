@@ -30,9 +30,9 @@ FlagAt s i = get_or s i 0 ≡ flag
 
 pub record OneOfThree (A B C : Type 0) : Type 0 where
   pub one : A ⊎ (B ⊎ C)
-  pub notAB : A → B → ⊥
-  pub notAC : A → C → ⊥
-  pub notBC : B → C → ⊥
+  pub not_ab : A → B → ⊥
+  pub not_ac : A → C → ⊥
+  pub not_bc : B → C → ⊥
 
 abbrev pub Edge : List ℕ → Piece → Type 0
 Edge s a = (holds flag (take a.offset s) ≡ false) ⊎ (holds flag (drop a.offset s) ≡ false)

@@ -1,11 +1,10 @@
 -- The octets up to the next flag, at once and one by one: what is carried behind them, and what becomes of the open stretch.
 --   AllIs c p d == d is c with the octets p more, but for the receiver's record
 -- Assumes nothing.
-use Rattle.std.proofs.Common.{◌≡◌, ℕ, suc, ◌+◌, ◌%◌, ◌^◌, ◌<◌, ◌≤◌, min, Bool, true, false, cond, eqb, ltb, List, [], ◌∷◌, ◌++◌, length, take, drop, set, sym, refl, ap, ◌∙◌, ap₂, append-nil, suc-add, zero-add, arith, length-set, length-take, take_all, ltb-false, ltb-true, le-ltb, lt-ltb, eq-eqb, ne_eqb, eqb-true}
-use lib.Seq.{sets, length-sets, set_out}
+use Rattle.std.proofs.Common.{◌≡◌, ℕ, suc, ◌+◌, ◌%◌, ◌^◌, ◌<◌, ◌≤◌, min, Bool, true, false, cond, eqb, ltb, List, [], ◌∷◌, ◌++◌, length, take, set, sym, refl, ap, ◌∙◌, ap₂, append-nil, suc-add, zero-add, arith, length-set, length-take, take_all, ltb-false, ltb-true, ne_eqb, eqb-true}
+use lib.Seq.{sets, length-sets}
 use Rattle.octets.specs.Octets.{holds, place_of, part_of}
 use Rattle.octets.proofs.Stores.{sets-past}
-use Rattle.octets.proofs.Takes.{take_within}
 use Rattle.octets.proofs.Words.{true-not-false, holds-head, holds-tail, place-held}
 use Rattle.refusal.specs.Answer.{Answer, gives, refuses, answer_of, counted}
 use Rattle.refusal.proofs.Answers.{gives_same, gives-not-refuses, refuses-same}
@@ -14,11 +13,11 @@ use Rattle.refusal.specs.declared.Handed.TheVariants.{Octets}
 use Rattle.limits.specs.Limits.{is_limit, limit_most, frame_most}
 use Rattle.limits.proofs.Exactly.{is-limit-exactly}
 use Rattle.frame.specs.Line.{flag}
-use Rattle.receiver.specs.Held.{Held, held_of, Usable, open_marks, after_flag, after_octet, stretched, closes, stretch_says}
-use Rattle.receiver.specs.Call.{Told, nothing, handed, Took, further, takes, received, heard_of, told_counted, told_by, took_by, held_by}
+use Rattle.receiver.specs.Held.{Held, held_of, after_flag, after_octet, stretched, closes, stretch_says}
+use Rattle.receiver.specs.Call.{nothing, handed, Took, further, takes, received, heard_of, told_counted, told_by, took_by, held_by}
 use Rattle.receiver.specs.Call.{Receives}
 use Rattle.receiver.specs.Pieces.{further_by}
-use Rattle.receiver.proofs.After.{after-flag, after-other, closes-other}
+use Rattle.receiver.proofs.After.{after-flag, closes-other}
 use Rattle.receiver.proofs.Only.{nothing-not-handed}
 use Rattle.receiver.proofs.Refusals.{in_order}
 use Rattle.receiver.specs.declared.Receiver.{Receiver}
@@ -30,7 +29,6 @@ use Rattle.salvage.specs.Holding.{said_verdict, verdict_of, past_flag}
 use Rattle.salvage.specs.Pieces.{with_all, up_to, gathered_in, verdict_in, Gathers, handed_verdict, passed_verdict, heard_verdict}
 use Rattle.salvage.specs.declared.OpenStretch.{OpenStretch}
 use Rattle.salvage.specs.declared.Totals.{Totals}
-use Rattle.salvage.specs.declared.Salvage.{Salvage}
 use Rattle.salvage.specs.declared.Gathered.{Gathered}
 use Rattle.salvage.specs.declared.Verdict.{Verdict}
 use Rattle.salvage.specs.declared.Verdict.TheVariants.{Still, Dropped}

@@ -2,23 +2,23 @@
 --   Gone N c₀ s o₀ at put c o == up to the place at of s a call that began with c₀ and the output o₀ has put octets into o up
 --                 to the place put, carries c, and has left out nothing
 -- Assumes nothing.
-use Rattle.std.proofs.Common.{◌≡◌, ℕ, suc, ◌+◌, ◌-◌, ◌<◌, ◌≤◌, min, Bool, true, false, cond, eqb, ltb, ◌⊎◌, List, [], ◌∷◌, ◌++◌, length, take, drop, sym, refl, ap, ◌∙◌, ap₂, inl, inr, ⊎_elim, append_assoc, append-nil, add-zero, add_assoc, suc-add, zero-add, arith, length-append, length-drop, take-append-drop, drop_of_length-le, length-take, drop-drop, ltb-true, ne_eqb}
+use Rattle.std.proofs.Common.{◌≡◌, ℕ, suc, ◌+◌, ◌-◌, ◌<◌, ◌≤◌, Bool, true, false, cond, eqb, ◌⊎◌, List, [], ◌∷◌, ◌++◌, length, take, drop, sym, refl, ap, ◌∙◌, ap₂, inl, inr, ⊎_elim, append_assoc, append-nil, add-zero, add_assoc, zero-add, arith, length-append, length-drop, take-append-drop, drop_of_length-le, length-take, drop-drop, ltb-true, ne_eqb}
 use denote.Enum.Declared.{tag_of}
 use types.Run.{OneOf}
 use lib.Seq.{sets, length-sets}
-use Rattle.octets.specs.Octets.{holds, place_of, ◌at_start_of◌}
+use Rattle.octets.specs.Octets.{holds, place_of}
 use Rattle.octets.specs.Puts.{Puts}
 use Rattle.octets.proofs.Stores.{sets-append, sets-start}
 use Rattle.octets.proofs.Takes.{take_rest}
-use Rattle.octets.proofs.Words.{true-not-false, holds-head, holds-tail, place-held}
+use Rattle.octets.proofs.Words.{holds-head, holds-tail, place-held}
 use Rattle.refusal.specs.Answer.{Answer, gives, refuses}
 use Rattle.frame.specs.Line.{flag}
 use Rattle.limits.specs.Limits.{is_limit, limit_most, frame_most}
-use Rattle.receiver.specs.Held.{Held, Usable, open_marks, after_octet, stretched, stretch_says}
+use Rattle.receiver.specs.Held.{stretched, stretch_says}
 use Rattle.receiver.proofs.After.{after-usable}
-use Rattle.salvage.specs.Holding.{Holding, holding_of, receiver_in, Workable, raw_most, grown_by, with_octet, said_verdict, verdict_of}
+use Rattle.salvage.specs.Holding.{Holding, holding_of, receiver_in, Workable, grown_by, with_octet, said_verdict, verdict_of}
 use Rattle.salvage.specs.Holding.{onward_from, flag_counted, stretch_over, behind_flag, past_flag, behind_flag_in, closed_by, first_flag, kept_octets}
-use Rattle.salvage.specs.Work.{Dropping, no_stretch, a_stretch, Progress, in_front, at_flag, works, spare_most, stretch_of}
+use Rattle.salvage.specs.Work.{a_stretch, Progress, in_front, at_flag, works, spare_most, stretch_of}
 use Rattle.salvage.specs.Work.{listing_of, left_by, taken_by, wrote_by, holding_by, Salvages}
 use Rattle.salvage.specs.Pieces.{with_all, up_to, gathered_in, verdict_in, written_by, joined, Gathers, GathersAny}
 use Rattle.salvage.specs.Pieces.{followed, begun_by, flags_added, counted_by, settled_by, listed_by, goes_until}

@@ -5,7 +5,7 @@ use Rattle.refusal.specs.Answer.{Answer}
 use Rattle.refusal.proofs.Answers.{gives_same, gives-not-refuses, refuses-same}
 use Rattle.refusal.proofs.Only.{number-apart}
 use Rattle.salvage.specs.Holding.{Holding}
-use Rattle.salvage.specs.Work.{Dropping, no_stretch, a_stretch, Progress, AtEnd, listing_of, Salvages, Finishes}
+use Rattle.salvage.specs.Work.{no_stretch, a_stretch, Progress, AtEnd, listing_of, Salvages, Finishes}
 use Rattle.salvage.specs.declared.Salvage.{Salvage}
 use Rattle.salvage.specs.declared.Stretch.{Stretch}
 use Rattle.salvage.specs.declared.Salvaged.{Salvaged}

@@ -1,16 +1,16 @@
 -- How many octets the receiver is lent: it takes those up to and with the next flag, or all. Assumes nothing.
-use Rattle.std.proofs.Common.{◌≡◌, ℕ, suc, ◌+◌, ◌-◌, ◌^◌, ◌<◌, ◌≤◌, min, Bool, true, false, cond, not, ◌&&◌, ◌||◌, eqb, ltb, List, [], ◌∷◌, ◌++◌, length, get_or, take, drop, sym, refl, ap, ◌∙◌, ap₂, ⊎_elim, append_assoc, arith, take-append-drop, length-take, take_all, ltb-true, le-ltb, lt-ltb, eq-eqb, ne_eqb, eqb-true}
+use Rattle.std.proofs.Common.{◌≡◌, ℕ, suc, ◌+◌, ◌-◌, ◌^◌, ◌<◌, ◌≤◌, min, Bool, true, false, cond, not, ◌&&◌, eqb, ltb, List, [], ◌∷◌, ◌++◌, length, get_or, take, drop, sym, refl, ap, ◌∙◌, ap₂, ⊎_elim, append_assoc, arith, take-append-drop, length-take, take_all, ltb-true, le-ltb, lt-ltb, eq-eqb, ne_eqb, eqb-true}
 use borrow.Author.Tests.{not-true}
 use lib.Seq.{sets}
 use Rattle.octets.specs.Octets.{holds, place_of, part_of}
 use Rattle.octets.proofs.Takes.{take_within}
 use Rattle.octets.proofs.Words.{true-not-false, and_parts, or_parts, holds-head, holds-tail, holds-nowhere, place-held}
 use Rattle.frame.specs.Line.{flag}
-use Rattle.receiver.specs.Held.{Held, open_marks, taken_in, raw, after_flag, after_octet, stretched, closes, stretch_says}
-use Rattle.receiver.specs.Call.{Took, handed, takes, received, Receives}
+use Rattle.receiver.specs.Held.{Held, taken_in, raw, stretched, closes}
+use Rattle.receiver.specs.Call.{Took, takes, received, Receives}
 use Rattle.limits.specs.Limits.{is_limit, limit_most, frame_most}
 use Rattle.receiver.specs.Pieces.{further_by}
-use Rattle.receiver.proofs.After.{after-flag, after-other, by-test}
+use Rattle.receiver.proofs.After.{after-other}
 use Rattle.receiver.specs.declared.Receiver.{Receiver}
 use Rattle.receiver.specs.declared.Received.{Received}
 use Rattle.salvage.specs.Holding.{Holding, receiver_in, Workable, grown_by, with_octet}

@@ -1,8 +1,6 @@
 -- The returns of the functions without a loop, by the tests of the code. Assumes nothing.
-use Rattle.std.proofs.Common.{◌≡◌, ℕ, ◌+◌, ◌-◌, ◌%◌, ◌^◌, ◌<◌, ◌≤◌, Bool, true, false, cond, not, ◌&&◌, eqb, ltb, leb, List, [], ◌∷◌, ◌++◌, length, sym, refl, ap, ◌∙◌, ap₂, ⊎_elim, arith, ltb-false, le-ltb, lt-ltb, leb-false, leb-true}
+use Rattle.std.proofs.Common.{◌≡◌, ◌≢◌, ℕ, ◌+◌, ◌-◌, ◌%◌, ◌^◌, ◌<◌, ◌≤◌, Bool, true, false, cond, not, ◌&&◌, eqb, ltb, leb, List, [], ◌∷◌, length, sym, refl, ap, ◌∙◌, ap₂, arith, ltb-false, le-ltb, lt-ltb, leb-false, leb-true}
 use borrow.Author.Tests.{not-true, not-false}
-use denote.Enum.Declared.{tag_of}
-use types.Run.{OneOf}
 use Rattle.octets.specs.Octets.{◌at_start_of◌}
 use Rattle.octets.proofs.Words.{and_parts}
 use Rattle.refusal.specs.Numbers.{number_of}
@@ -26,8 +24,7 @@ use Rattle.salvage.specs.declared.Salvaged.{Salvaged}
 use Rattle.salvage.specs.declared.Verdict.{Verdict}
 use Rattle.salvage.specs.declared.Verdict.TheVariants.{Still, Empty, Kept, Dropped}
 use Rattle.salvage.specs.declared.Listing.{Listing}
-use Rattle.salvage.specs.declared.Listing.TheVariants.{Nothing, LeftOut, Refused}
-use Rattle.salvage.specs.contracts.Verdict.{the_type}
+use Rattle.salvage.specs.declared.Listing.TheVariants.{Nothing, Refused}
 
 -- an output that is shorter than what may be written beside the run, and one that is not
 pub no_room : (out run : ℕ) → out < spare_most → false ≡ not (ltb out (spare_most + run))
@@ -40,41 +37,39 @@ room-left out run h = go (leb run (out - spare_most)) refl
     go true e = sym (ap not (le-ltb out (spare_most + run) (omega (arith, leb-true run (out - spare_most) e))))
     go false e = sym (ap not (lt-ltb out (spare_most + run) (omega (arith, leb-false run (out - spare_most) e))))
 
--- a verdict with one of three tags; what the functions give of it
-abbrev pub Tagged : ℕ → ℕ → ℕ → Verdict → Type 0
-Tagged i j k f = OneOf (i ∷ j ∷ k ∷ []) (tag_of the_type f)
+-- what the functions give of a verdict that is not the one they ask for
 
-pub begun-other : (f : Verdict) (b : Bool) → Tagged 0 1 3 f → b ≡ begun_by f b
+pub begun-other : (f : Verdict) (b : Bool) → f ≢ Kept → b ≡ begun_by f b
 unfolding begun_by
 begun-other Still b g = refl
 begun-other Empty b g = refl
-begun-other Kept b g = absurd (⊎_elim (λ e. omega arith) (⊎_elim (λ e. omega arith) (λ e. omega arith)) g)
+begun-other Kept b g = absurd (g refl)
 begun-other (Dropped k) b g = refl
 
-pub written-other : (f : Verdict) (b : Bool) (n : ℕ) (w : List ℕ) → Tagged 0 1 3 f → written_by f b n w ≡ []
+pub written-other : (f : Verdict) (b : Bool) (n : ℕ) (w : List ℕ) → f ≢ Kept → written_by f b n w ≡ []
 written-other Still b n w g = refl
 written-other Empty b n w g = refl
-written-other Kept b n w g = absurd (⊎_elim (λ e. omega arith) (⊎_elim (λ e. omega arith) (λ e. omega arith)) g)
+written-other Kept b n w g = absurd (g refl)
 written-other (Dropped k) b n w g = refl
 
-pub listed-other : (f : Verdict) (o : OpenStretch) → Tagged 0 1 2 f → Nothing ≡ listed_by o f
+pub listed-other : (f : Verdict) (o : OpenStretch) → ((k : ℕ) → f ≢ Dropped k) → Nothing ≡ listed_by o f
 unfolding listed_by
 listed-other Still o g = refl
 listed-other Empty o g = refl
 listed-other Kept o g = refl
-listed-other (Dropped k) o g = absurd (⊎_elim (λ e. omega arith) (⊎_elim (λ e. omega arith) (λ e. omega arith)) g)
+listed-other (Dropped k) o g = absurd (g k refl)
 
-pub until-other : (f : Verdict) (at end : ℕ) → Tagged 0 1 2 f → end ≡ goes_until f at end
+pub until-other : (f : Verdict) (at end : ℕ) → ((k : ℕ) → f ≢ Dropped k) → end ≡ goes_until f at end
 unfolding goes_until
 until-other Still at end g = refl
 until-other Empty at end g = refl
 until-other Kept at end g = refl
-until-other (Dropped k) at end g = absurd (⊎_elim (λ e. omega arith) (⊎_elim (λ e. omega arith) (λ e. omega arith)) g)
+until-other (Dropped k) at end g = absurd (g k refl)
 
-pub follow-other : (n : ℕ) (f : Verdict) (o : OpenStretch) → Tagged 1 2 3 f → {x y : ℕ} → y ≡ add64 o.offset o.length
+pub follow-other : (n : ℕ) (f : Verdict) (o : OpenStretch) → f ≢ Still → {x y : ℕ} → y ≡ add64 o.offset o.length
     → x ≡ add64 y n → record { offset = x; length = 0; held = 0 } ≡ followed n f o
 unfolding followed onward_from
-follow-other n Still o g e h = absurd (⊎_elim (λ e. omega arith) (⊎_elim (λ e. omega arith) (λ e. omega arith)) g)
+follow-other n Still o g e h = absurd (g refl)
 follow-other n Empty o g e h = rw (h, e)
 follow-other n Kept o g e h = rw (h, e)
 follow-other n (Dropped k) o g e h = rw (h, e)

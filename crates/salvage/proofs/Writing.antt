@@ -1,5 +1,5 @@
 -- What is stored into the output for a stretch that is kept, step by step; and a stretch that grows. Assumes nothing.
-use Rattle.std.proofs.Common.{◌≡◌, ℕ, ◌+◌, ◌-◌, ◌<◌, ◌≤◌, min, Bool, true, false, cond, List, [], ◌∷◌, ◌++◌, length, take, drop, set, sym, refl, ap, ◌∙◌, append-nil, add-zero, arith, length-append, length-take}
+use Rattle.std.proofs.Common.{◌≡◌, ℕ, ◌+◌, ◌-◌, ◌<◌, ◌≤◌, min, Bool, true, false, List, [], ◌∷◌, ◌++◌, length, take, set, sym, refl, ap, ◌∙◌, add-zero, arith, length-append, length-take}
 use lib.Seq.{sets}
 use Rattle.octets.specs.Octets.{part_of}
 use Rattle.octets.specs.Puts.{Puts}

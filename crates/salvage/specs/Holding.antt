@@ -14,7 +14,7 @@
 --   past_flag c      == the receiver has taken a flag; closed_by f c == all of the record has
 --   kept_octets b k w == what is written of a kept stretch: the first flag, unless b, its first k octets in w, and a flag
 -- Assumes nothing.
-use Rattle.std.specs.Prelude.{◌≡◌, ℕ, ◌+◌, ◌*◌, ◌%◌, ◌^◌, ◌≤◌, min, Bool, true, false, cond, List, [], ◌∷◌, ◌++◌, length, take, ◌==◌}
+use Rattle.std.specs.Prelude.{◌≡◌, ℕ, ◌+◌, ◌%◌, ◌^◌, ◌≤◌, min, Bool, true, false, cond, List, [], ◌∷◌, ◌++◌, length, take, ◌==◌}
 use Rattle.std.proofs.lemmas.List.Edits.{sets}
 use Rattle.refusal.specs.Answer.{Answer, gives, refuses}
 use Rattle.limits.specs.Limits.{limit_most, frame_most}

@@ -5,6 +5,7 @@
 // Headline: over a capture of any length, however it is cut, what comes out is what 02 says (crate capture).
 // Assumes nothing of its caller: any record of the type may be handed in.
 #![tactic(auto)]
+
 ghost use Rattle.std.specs.Prelude.{◌≡◌, ◌+◌, ◌<◌, ◌≤◌, min, true, not, ◌&&◌, length, nat_lt};
 ghost use Rattle.std.proofs.lemmas.List.Edits.{sets};
 ghost use Rattle.octets.specs.Puts.{Puts};
