@@ -35,16 +35,14 @@ fn crossing(answer: Handed) -> usize
 }
 
 // The check of the octets of `s`.
-#[unsafe(no_mangle)]
-pub extern "C" fn gorittaem_check(s: &[u8]) -> u16
+pub fn gorittaem_check(s: &[u8]) -> u16
     ensures { result ≡ check_of s.now }
 {
     fcs::check(s)
 }
 
 // Decodes what lies between two flags: address, control and payload to the start of `out`.
-#[unsafe(no_mangle)]
-pub extern "C" fn gorittaem_decode(src: &[u8], out: &mut [u8]) -> usize
+pub fn gorittaem_decode(src: &[u8], out: &mut [u8]) -> usize
     ensures { Crosses (decoded limit_least src.now (length out.old))
         out.old result out.new }
 {
@@ -53,8 +51,7 @@ pub extern "C" fn gorittaem_decode(src: &[u8], out: &mut [u8]) -> usize
 }
 
 // The same, with the frame limit `limit`.
-#[unsafe(no_mangle)]
-pub extern "C" fn gorittaem_decode_n(limit: usize, src: &[u8], out: &mut [u8]) -> usize
+pub fn gorittaem_decode_n(limit: usize, src: &[u8], out: &mut [u8]) -> usize
     ensures { Crosses (decoded limit src.now (length out.old))
         out.old result out.new }
 {
@@ -63,8 +60,7 @@ pub extern "C" fn gorittaem_decode_n(limit: usize, src: &[u8], out: &mut [u8]) -
 }
 
 // Writes flag, frame, flag to the start of `out`.
-#[unsafe(no_mangle)]
-pub extern "C" fn gorittaem_write(address: u8, control: u8, payload: &[u8], out: &mut [u8]) -> usize
+pub fn gorittaem_write(address: u8, control: u8, payload: &[u8], out: &mut [u8]) -> usize
     ensures { Crosses (written limit_least address control payload.now (length out.old))
         out.old result out.new }
 {
@@ -73,8 +69,7 @@ pub extern "C" fn gorittaem_write(address: u8, control: u8, payload: &[u8], out:
 }
 
 // The same, with the frame limit `limit`.
-#[unsafe(no_mangle)]
-pub extern "C" fn gorittaem_write_n(
+pub fn gorittaem_write_n(
     limit: usize,
     address: u8,
     control: u8,
@@ -90,8 +85,7 @@ pub extern "C" fn gorittaem_write_n(
 
 // Takes octets of `run` into the receiver whose record `block` holds, up to and with the first flag that hands something out,
 // to the start of `out`. The answer is 0 where nothing was handed out; `taken` gets how many, where the call is not refused.
-#[unsafe(no_mangle)]
-pub extern "C" fn gorittaem_receive(
+pub fn gorittaem_receive(
     block: &mut [u8; BLOCK],
     limit: usize,
     run: &[u8],
