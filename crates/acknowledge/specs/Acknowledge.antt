@@ -1,6 +1,6 @@
 -- What an acknowledgement does to a session and its station. 01, "The link".
 --   emptied s       == the session s once its pending answer is acknowledged: S moves on
---   told_after k p   == what is told once p, pending at the desk k, is acknowledged
+--   told_after k p  == what is told once p, pending at the desk k, is acknowledged
 --   relieved t s    == the station t once the pending answer of its session s is acknowledged
 --   session_after s n, station_after t s n == after a good N(R) = n
 --   acknowledged d s n == the device d, in its session s, after a good N(R) = n

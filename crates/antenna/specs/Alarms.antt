@@ -1,12 +1,12 @@
 -- Alarms: "only alarms named below", and they are these six.
---   alarm_codes      == the codes, ascending
---   codes_of f       == the codes whose flags are set in f, ascending
---   any_differ f g   == the flags f and g differ somewhere
+--   alarm_codes     == the codes, ascending
+--   codes_of f      == the codes whose flags are set in f, ascending
+--   any_differ f g  == the flags f and g differ somewhere
 --   changes_of now was == pairs of a code and 1 (raised) or 0, ascending, where the flags now and the flags then differ
---   no_alarms        == no flag is set
---   flag_of k f      == the flag of the alarm k in f
+--   no_alarms       == no flag is set
+--   flag_of k f     == the flag of the alarm k in f
 --   Ascending ks    == each number is below all that follow it
---   codes_in pairs   == the codes of the pairs; applied pairs f == f with the flag of each pair's code set to its state
+--   codes_in pairs  == the codes of the pairs; applied pairs f == f with the flag of each pair's code set to its state
 -- Assumes nothing.
 use Rattle.std.specs.Prelude.{Bool, true, false, cond, not, List, [], ◌∷◌, ℕ, ◌<◌, eqb, get_or, set}
 use Rattle.octets.specs.Octets.{place_of}

@@ -2,7 +2,7 @@
 --   rested_of m t     == the motion after a stop at t
 --   tilted v t, marked v a == the drive v at the tilt t; with the alarms a raised
 --   can_stop n t      == the motor can stop at t; rested_at n t == the antenna then
---   Runs m           == a movement runs, owed or not
+--   Runs m            == a movement runs, owed or not
 --   is_alarm k        == k is the code of an alarm; with_alarm n k on == the antenna with that alarm raised or cleared
 --   stopped_at n t    == the event "stopped at t"
 --   alarmed_of n k on == the event "alarm k raised" (on) or "cleared"

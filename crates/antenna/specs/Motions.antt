@@ -1,17 +1,17 @@
 -- A drive's movement.
---   in_range n t    == "lowest ≤ t ≤ highest"
---   busy_of m       == "busy while moving or while a result waits"
+--   in_range n t   == "lowest ≤ t ≤ highest"
+--   busy_of m      == "busy while moving or while a result waits"
 --   runs m         == a movement is running
---   owes_of m       == a tilt result is owed: a running movement's, or one that waits
---   waiting_of m    == the result that waits, if one does
---   unowed_of m     == m with what is owed dropped
+--   owes_of m      == a tilt result is owed: a running movement's, or one that waits
+--   waiting_of m   == the result that waits, if one does
+--   unowed_of m    == m with what is owed dropped
 --   moves n m      == the antenna n with the motion m
 --   drive_rows busy outside == the drive's checks of a message, in their order, by what the two tests say
---   aimed_at n t    == the answer to the tilt t that is asked: the antenna with a movement that owes a result
---   aim_number a    == the paper's return code, or none, for each case of the code's answer
+--   aimed_at n t   == the answer to the tilt t that is asked: the antenna with a movement that owes a result
+--   aim_number a   == the paper's return code, or none, for each case of the code's answer
 --   Aims x n r     == the code's answer r for the antenna n, its case and its antenna, is the answer x
 --   started n t a  == the antenna after the case a of the answer
---   code_waiting m  == the return code of the result that waits; Awaits m r == the code's answer r is that result
+--   code_waiting m == the return code of the result that waits; Awaits m r == the code's answer r is that result
 --   result_code reached == the return code of a result; return_code w == of what waits, for each case, or none
 -- Assumes nothing.
 use Rattle.std.specs.Prelude.{◌≡◌, Bool, true, false, cond, not, ◌&&◌, List, [], ◌∷◌, ℕ}

@@ -6,13 +6,13 @@
 --   hex_in a           == the octets of the HEX words of a; value_in a n == what its word n stands for
 --   lent_of room       == a lent output of so many octets
 --   is_driven c        == the command c is to the row or to one of its devices
---   row_driven c row a    == the row after such a command; row_after c row a == after any
+--   row_driven c row a == the row after such a command; row_after c row a == after any
 --   scan_after c s v   == the scan by hand after any command with the value v
 --   ear_of e           == the receiver's record and store in e; fresh_ear == before any octet
 --   ear_call h a       == the answer to one call; ear_after c h a == the receiver after any command
 --   is_decode c        == the command c decodes; is_limited c == its words have a frame limit in front
 --   limit_in c a       == its frame limit; octet_in c a n == the octet of the word n, not counting that limit
---   coded c a room    == what the codec hands out; hands_out c s a room == what it and `probe` do
+--   coded c a room     == what the codec hands out; hands_out c s a room == what it and `probe` do
 --   room_at c          == the place of ROOM among the words of a command that hands out octets; 0 for any other
 -- Assumes nothing.
 use Rattle.std.specs.Prelude.{Bool, cond, ◌||◌, List, ℕ, ◌+◌, ◌%◌, eqb, length, get_or, take, replicate}

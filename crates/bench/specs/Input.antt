@@ -1,11 +1,11 @@
 -- Standard input, cut into lines, in the code's own words; what is read is whatever the system gives.
 --   unread               == nothing has been read
---   rest_of i             == the octets of the run that are still to be read
---   line_taken i              == what the run has of a line has gone behind what has come
+--   rest_of i            == the octets of the run that are still to be read
+--   line_taken i         == what the run has of a line has gone behind what has come
 --   refilled i run end   == another run, of which so many octets are there
 --   anew i               == nothing of the next line has come
---   after_runs i runs     == i after the runs, the last of them first: each was read once the one before it was taken
---   Arrives i r            == r has the next line of i, out of the runs that were read for it; or they ended
+--   after_runs i runs    == i after the runs, the last of them first: each was read once the one before it was taken
+--   Arrives i r          == r has the next line of i, out of the runs that were read for it; or they ended
 --   without_return whole s == the line s without the 0x0D before its end, of a line that had a 0x0A
 -- Assumes nothing.
 use Rattle.std.specs.Prelude.{◌≡◌, Bool, true, false, cond, ◌&&◌, List, [], ◌∷◌, ◌⊎◌, ℕ, ◌+◌, ◌-◌, min, ltb, eqb, length, take, drop, replicate}

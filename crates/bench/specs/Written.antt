@@ -1,7 +1,7 @@
 -- Octets in HEX, as they are written. docs/BENCH.md: "octets in pairs of hex digits; upper case is read, lower case is
 -- written. `-` is no octets."
 --   digit_of d     == the digit of the value d, of its last 16
---   hexed s       == two digits for each octet of s
+--   hexed s        == two digits for each octet of s
 --   hex_row mark s == the row that is written from: a mark and the digits, a `-` where there are none
 -- Assumes nothing.
 use Rattle.std.specs.Prelude.{cond, List, [], ◌∷◌, ℕ, ◌+◌, ◌/◌, ◌%◌, ltb, take, set, replicate}

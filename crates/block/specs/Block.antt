@@ -1,12 +1,12 @@
 -- A receiver's record as a block of octets that a caller lends: the store, how many octets it holds, low octet first, and five
 -- octets that each stand for a yes or a no.
---   marks_size        == 7: the octets behind the store; block_size == 267: those of a block
+--   marks_size       == 7: the octets behind the store; block_size == 267: those of a block
 --   yes x            == such an octet is no exactly if 0; yes_octet b == the octet that is written
---   marks_in t        == the record that the seven octets t behind the store stand for
---   marks_octets r    == the seven octets that the record r is written as
---   refused_call a    == the answer a is a refusal
---   held_in b         == the record with its store that the block b holds
---   block_after x b   == the block after a call with the answer x that had the block b
+--   marks_in t       == the record that the seven octets t behind the store stand for
+--   marks_octets r   == the seven octets that the record r is written as
+--   refused_call a   == the answer a is a refusal
+--   held_in b        == the record with its store that the block b holds
+--   block_after x b  == the block after a call with the answer x that had the block b
 --   Blocks x b o r b' o' == the code's answer r, the block b' and the output o', of a call with the block b and the output o,
 --                       are the answer x
 -- Assumes nothing.

@@ -3,12 +3,12 @@
 -- `written` of the writer, `heard` of a device, `probe_of` of the scanner.
 --   row_most         == the most devices of a row in memory
 --   identity_in d    == the identity of the device d, unpadded; padded_in d == padded with 0x20 to 19
---   Cabled ds       == the records ds may hang on one cable: allowed, with different padded identities
+--   Cabled ds        == the records ds may hang on one cable: allowed, with different padded identities
 --   line_with N f    == the line that the master writes for the frame f of address, control and payload, with the frame
---                      limit N; line_for f == with 78, which every link has room for
+--                       limit N; line_for f == with 78, which every link has room for
 --   octets_given x   == the octets of an answer of the writer; none for a number
---   hears d l       == what comes of the line l at the device d; with_frame x == an answer with a frame comes of it
---   replies_to d l     == d answers the line l with a frame; after_line d l == d afterwards
+--   hears d l        == what comes of the line l at the device d; with_frame x == an answer with a frame comes of it
+--   replies_to d l   == d answers the line l with a frame; after_line d l == d afterwards
 --   any_replies ds l == at least one of ds answers the line l; all_after ds l == ds afterwards
 --   after_lines ls d == d after the lines ls, one after the other; all_after_lines ls ds == the row after them
 --   heard_on ds p    == the probe of the beginning p, written as a line, is heard

@@ -1,11 +1,11 @@
 -- The installer's job after a scan: "assigning to each listed identity in turn its own address 1, 2, 3, .. by an
 -- assignment frame with the whole unpadded identity, written and heard by every device".
---   assignment_for i a   == the assignment of the address a to the identity i: address, control and payload
+--   assignment_for i a  == the assignment of the address a to the identity i: address, control and payload
 --   assigning a x       == its line, for the listed identity x, which is padded
 --   assignments a xs    == the lines for all of xs, the addresses counted from a on
---   assigned_all xs ds   == the row ds after the lines for all of xs, the addresses counted from 1 on
+--   assigned_all xs ds  == the row ds after the lines for all of xs, the addresses counted from 1 on
 --   NoRightEnd xs       == "no listed identity is the right end of one listed before it"
---   snrm_for d           == SNRM to the address of the device d, as a line
+--   snrm_for d          == SNRM to the address of the device d, as a line
 --   Installed xs ds es  == ds has become es: each device holds the address of its place in the list xs, all addresses
 --                          differ, and each answers SNRM
 --   NoLaterEnd ds       == the same condition, of the row: no identity of it is the right end of a lower one

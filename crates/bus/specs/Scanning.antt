@@ -1,10 +1,10 @@
 -- A scan of a row of devices, each probe a written line: "a scan of that row, run to its end through real written
 -- lines".
 --   Bus              == the master's scan, and the devices on its cable
---   one_probe b       == one probe: the scanner gives it, the master writes it, all devices hear it, and whether one
+--   one_probe b      == one probe: the scanner gives it, the master writes it, all devices hear it, and whether one
 --                       answered is reported to the scan; a scan that gives no probe asks none
---   probes_asked n b  == n probes, one after the other
---   lines_sent n b    == the lines that go out in these n turns; lines_by x == the line of the probe that x gives
+--   probes_asked n b == n probes, one after the other
+--   lines_sent n b   == the lines that go out in these n turns; lines_by x == the line of the probe that x gives
 --   scan_begun limit ds == a new scan with the limit, on the cable of ds; scanned limit ds == the same, run to its end
 -- Assumes nothing.
 use Rattle.std.specs.Prelude.{List, [], ◌∷◌, ◌++◌, ℕ, zero, suc}

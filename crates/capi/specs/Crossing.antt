@@ -2,8 +2,8 @@
 --   refusals         == what a refusal's number is added to: 0x10000, above every length of a frame or a line
 --   crossed a        == the number that the answer a crosses as
 --   Crosses x o r o' == the number r that crosses, and the output o' that was o, are the answer x
---   heard_crossed a   == the number that a receiver's answer crosses as: 0 where nothing was handed out
---   taken_after x t   == the number of octets taken, as a caller reads it after a call with the answer x, where it was t
+--   heard_crossed a  == the number that a receiver's answer crosses as: 0 where nothing was handed out
+--   taken_after x t  == the number of octets taken, as a caller reads it after a call with the answer x, where it was t
 --   Hears x b o t r b' o' t' == the number r that crosses, the block b', the output o' and the count t', which were b, o and t,
 --                       are the answer x
 -- Assumes nothing.

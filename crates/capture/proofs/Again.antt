@@ -1,6 +1,6 @@
 -- A salvage of what a salvage wrote: with a limit that is no smaller the same frames come out again, nothing is left out,
 -- and the same octets are written.
---   goods_in ps  == the pieces ps that are kept, as stretches with one flag behind each
+--   goods_in ps == the pieces ps that are kept, as stretches with one flag behind each
 --   Read M a    == where the piece a is kept, it has octets, no flag among them, and is read with the limit M as its frame
 --   opened t    == t with a flag before it, where it has octets
 -- Assumes nothing.

@@ -1,7 +1,7 @@
 -- The counts of a salvage: no sum of them wraps over a capture of less than 2 ^ 64 octets, and they add up to those of the
 -- definition.
 --   Within t at      == no count of t is larger than the place at
---   piece_of at p a   == the octets p at the place at, of which a is said
+--   piece_of at p a  == the octets p at the place at, of which a is said
 --   summed t qs k    == the counts t, and those of the pieces qs with k flags
 -- Assumes nothing.
 use mathlib.Core.Path.{◌≡◌, refl, ap, ap₂, ◌∙◌}

@@ -4,7 +4,7 @@
 --   kept_by f c, entries_by f c == what is written and listed of the open stretch of c, where it has the verdict f
 --   before ws es d  == the same, with ws written and es listed in front
 --   drained N c s   == what is made of all the octets s
---   left_list d      == what one call lists
+--   left_list d     == what one call lists
 -- Assumes nothing.
 use mathlib.Core.Path.{◌≡◌, refl, sym, ap, ◌∙◌}
 use mathlib.Core.Bool.{Bool, true, false, cond}

@@ -1,5 +1,5 @@
 -- Those of some pieces that pass a test: which they are, how many octets they have, and what is listed of them.
---   is_given w      == the answer w is a frame
+--   is_given w     == the answer w is a frame
 --   has_octets a, is_kept a, is_left a == the piece a has octets, is kept, is left out
 --   picked t ps    == those of the pieces ps that pass the test t
 -- Assumes nothing.

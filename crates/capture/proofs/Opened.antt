@@ -1,7 +1,7 @@
 -- The open stretch of a salvage's record: its octets as they came, and what becomes of them at the flag behind it.
 --   Opens p at c     == the open stretch of c has the octets p, and begins at the place at
---   verdict_for p a   == what becomes of the octets p of which a is said
---   begun_after f b   == the first flag is written, after the verdict f, where b said so before
+--   verdict_for p a  == what becomes of the octets p of which a is said
+--   begun_after f b  == the first flag is written, after the verdict f, where b said so before
 --   next f c         == the record behind a flag that gave the open stretch of c the verdict f
 -- Assumes nothing.
 use mathlib.Core.Path.{◌≡◌, refl, sym, ap, ap₂, ◌∙◌}

@@ -1,9 +1,9 @@
 -- A capture and its parts: what stands between its flags, in order, and the pieces that are made of them.
 --   behind ps      == the parts ps with a flag before each
 --   Parted s       == the parts of the capture s: the first one, and the others
---   said_of N p ps  == what is said of a part p behind a flag, where the parts ps stand behind it
---   pieces_behind N at s == the pieces of the octets s that have octets, where a flag stands before s, and s begins at the
---                     place at of the capture
+--   said_of N p ps == what is said of a part p behind a flag, where the parts ps stand behind it
+--   pieces_behind N at s == the pieces of the octets s that have octets, where a flag stands before s, and s begins at
+--                     the place at of the capture
 -- Assumes nothing.
 use mathlib.Core.Path.{◌≡◌, refl, sym, ap, ap₂, ◌∙◌}
 use mathlib.Core.Bool.{Bool, true, false}

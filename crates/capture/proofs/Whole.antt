@@ -2,7 +2,7 @@
 -- octets and without flags; and the live receiver over the same capture hands out the same frames and the same numbers.
 --   good_pieces at gs == the pieces that the stretches gs are, where the first begins at the place at
 --   closed_of ps      == those of the parts ps that have a flag behind them: all but the last
---   Heard ps rest    == the pieces ps have the frames that were handed out, rest, and its numbers, beside 0
+--   Heard ps rest     == the pieces ps have the frames that were handed out, rest, and its numbers, beside 0
 -- Assumes nothing.
 use mathlib.Core.Path.{◌≡◌, refl, ap, ap₂, ◌∙◌}
 use mathlib.Core.Bool.{true, false}

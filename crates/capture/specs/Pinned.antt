@@ -2,8 +2,8 @@
 -- definitions that they pin.
 --   ApartEntries es == each entry of the list es ends before the next one begins, with a place between them
 --   covered ps i    == one of the pieces ps has an octet at the place i
---   count_below f n  == at how many of the places below n the test f holds
---   octets_each ps   == the octets of each of the pieces ps
+--   count_below f n == at how many of the places below n the test f holds
+--   octets_each ps  == the octets of each of the pieces ps
 -- Assumes nothing.
 use Rattle.std.specs.Prelude.{Bool, false, cond, ◌&&◌, ◌||◌, List, [], ◌∷◌, ℕ, zero, suc, ◌+◌, ◌<◌, leb, ltb, length}
 use Rattle.salvage.specs.Capture.{Piece}

@@ -1,19 +1,19 @@
 -- The public calls, made again and again, each time with the record that the call before left, and the last call behind them.
 --   fresh_holding m w == the record before any octet, with the two stores m and w
---   Turn             == one call and what came of it: how many of the octets that are left are lent, the output, the code's
---                       answer, and the stores and the output after it
+--   Turn              == one call and what came of it: how many of the octets that are left are lent, the output, the
+--                        code's answer, and the stores and the output after it
 --   read_listing q    == what a caller reads of a listing
---   Sifted           == how far a caller has come: the record, the octets that are not taken yet, all that was written and
---                       all that was listed
---   sifted c s ts    == how far the calls ts over the octets s take a caller: it reads what it gets back, and goes on with
---                       the record and the stores that it got back and with the octets that were not taken
+--   Sifted            == how far a caller has come: the record, the octets that are not taken yet, all that was written
+--                        and all that was listed
+--   sifted c s ts     == how far the calls ts over the octets s take a caller: it reads what it gets back, and goes on
+--                        with the record and the stores that it got back and with the octets that were not taken
 --   Wrote t r m w o o' == the code's answer r, the stores m and w and the output o' that was o, are what t says was written and
---                       is carried
+--                        is carried
 --   Stops s e k v     == a call that left out the stretch e took k octets of the run s, and left the record v
 --   ReadTells x c s o r m w o' == what an answer r tells of the answer x to a call with the record c, the run s and the output
---                       o, by the cases of its listing (ListingTells)
+--                        o, by the cases of its listing (ListingTells)
 --   FinishTells x v r == what an answer r tells of the answer x to the last call with the record v (EndTells)
---   Allowed N c s ts == each answer of such calls is one that the promise of `read` allows
+--   Allowed N c s ts  == each answer of such calls is one that the promise of `read` allows
 -- Assumes nothing.
 use Rattle.std.specs.Prelude.{◌≡◌, List, [], ◌∷◌, ◌++◌, ℕ, ◌-◌, ◌<◌, length, take, drop, get_or}
 use Rattle.octets.specs.Octets.{◌at_start_of◌}

@@ -1,11 +1,11 @@
 -- A capture without damage. 02 (vii): "A capture without damage comes out with the same frames in the same order".
 --   Good           == a stretch and the flags behind it, one and more: its octets, its frame, how many flags beyond one
 --   ReadsEach N gs == each of gs has octets, no flag among them, and the decoder with the limit N reads its frame
---   goods_of gs     == the stretches gs, with their flags
+--   goods_of gs    == the stretches gs, with their flags
 --   whole_capture k gs == k flags beyond one, and the stretches gs behind them
---   good_frames gs  == their frames
---   numbers_in es   == the numbers of the list es that are not 0
---   given_in as     == the frames among what was handed out; refused_in as == the numbers among it
+--   good_frames gs == their frames
+--   numbers_in es  == the numbers of the list es that are not 0
+--   given_in as    == the frames among what was handed out; refused_in as == the numbers among it
 -- Assumes nothing.
 use Rattle.std.specs.Prelude.{◌≡◌, false, cond, List, [], ◌∷◌, ◌++◌, ℕ, suc, ◌<◌, eqb, length, replicate}
 use Rattle.octets.specs.Octets.{holds}

@@ -1,8 +1,9 @@
 -- What comes of a frame, whole: 01, "The link", and 02 (iv), case by case. Every frame is one of these to a device, whatever the
 -- record (proofs/Comes.antt), and each says which device the frame leaves, and what is said.
 --   Comes d f    == what the frame f is to the device d
---   unanswered_as d s r n told sub, answered_as d s r n told sub b == d after a message that was accepted in its session s with
---                   N(R) = r: the antenna, what was told and the subscription as the message leaves them, and the answer b
+--   unanswered_as d s r n told sub, answered_as d s r n told sub b == d after a message that was accepted in its
+--                   session s with N(R) = r: the antenna, what was told and the subscription as the message leaves
+--                   them, and the answer b
 --   left d f c   == the device after it; says d f c == what it says
 -- Assumes nothing.
 use Rattle.std.specs.Prelude.{◌≡◌, Bool, true, false, List, [], ◌∷◌, ℕ, ◌<◌, length, drop}

@@ -1,6 +1,6 @@
 -- What ends a session, and what a waiting result waits for. 01, "The link": "Ending a session drops the pending answer
 -- and any tilt result owed; alarms, subscription and a running movement stay."
---   pending_in l   == what is pending in the link state l
+--   pending_in l  == what is pending in the link state l
 --   Assigns d f a == f is an assignment of the address a that d takes
 --   Begins d f    == f is a first SNRM: no session ends by it
 --   Ends d f      == f ends the session of d: it is SNRM, DISC, a frame with a bad N(R) or an unknown control, which

@@ -5,17 +5,17 @@
 --   rr a r              == RR from the address a, with N(R) = r
 --   info a s r m        == the I-frame from a with N(S) = s, N(R) = r and the payload m
 --   kept s r            == what is pending in the session s after a good N(R) = r
---   pending_said k p     == the payload of what is pending at the desk k, p
+--   pending_said k p    == the payload of what is pending at the desk k, p
 --   indication pairs    == the payload of an indication with these pairs
 --   again k s r p       == the pending answer p again, else RR
---   sent_number s p      == V(S), where S is s and p is pending
+--   sent_number s p     == V(S), where S is s and p is pending
 --   frmr a c s why      == FRMR from the address a for the control c, in the session s
 --   result_said reached, scan_said a i, assignment_said a i == a tilt's result; the answers to a scan and an assignment
---   if_given n ps t      == the triple t, if ps give the identifier n
+--   if_given n ps t     == the triple t, if ps give the identifier n
 --   length_said N n, window_said n == the triple of the identifier n: of a length, for the frame limit N; of a window
---   agreed_said ps N, negotiation_said a ps N == the triples of the answer to a negotiation with ps that comes to the frame
---                          limit N; that answer
---   octets_said d f c    == address, control and payload that d says of the frame f, whose case is c; none for silence
+--   agreed_said ps N, negotiation_said a ps N == the triples of the answer to a negotiation with ps that comes to the
+--                          frame limit N; that answer
+--   octets_said d f c   == address, control and payload that d says of the frame f, whose case is c; none for silence
 -- Numbers are taken round, "0 to 7", so that every record has its row. After a good N(R), S is that N(R) (`good-s` of
 -- proofs/Says). Assumes nothing.
 use Rattle.std.specs.Prelude.{Bool, true, false, cond, List, [], ◌∷◌, ◌++◌, ℕ, ◌+◌, ◌-◌, ◌*◌, ◌/◌, ◌%◌, eqb, length, take}

@@ -1,7 +1,7 @@
 -- Control octets. 01, "The link".
 --   polled c   == "Control octets below have the poll bit set"
---   asked_by c  == what the control octet c, its poll bit set, asks; of one whose poll bit is clear it means nothing
---   next_of n   == the number after n: "Numbers run 0 to 7 and round"
+--   asked_by c == what the control octet c, its poll bit set, asks; of one whose poll bit is clear it means nothing
+--   next_of n  == the number after n: "Numbers run 0 to 7 and round"
 --   info_of s r, rr_of r, rnr_of r == the controls of an I-frame, of RR and of RNR, by their numbers N(S) and N(R)
 --   xid_control, snrm_control, disc_control == the controls without a number
 --   control_for o == the paper's control octet of the order o, for each case; UpTo7 o == the numbers of o are 0 to 7

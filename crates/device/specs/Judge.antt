@@ -4,7 +4,7 @@
 --   judged d f room   == the decoded frame f, judged by the device d, with an answer buffer of so many octets
 --   decoded_here d line == the octets between two flags, decoded by the device d
 --   heard d line room == the octets between two flags, decoded and then judged
---   said_of x          == the number, silence, or how many octets, for each case of the code's answer
+--   said_of x         == the number, silence, or how many octets, for each case of the code's answer
 --   Judges x d o r o' == the code's result r, and the buffer o' that was o, are the answer x of the device d
 -- Assumes nothing.
 use Rattle.std.specs.Prelude.{◌≡◌, not, List, [], ◌∷◌, ℕ, ltb, length}

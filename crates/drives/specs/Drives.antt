@@ -1,19 +1,20 @@
 -- The bench's row of drives. docs/BENCH.md: its tables, the commands for one device, and `device`.
---   ScriptAnswer             == an answer, in the script's words
---   After             == the row after a command, and the answer to it; Came == that, and the lent output, BUFFER
---   value v n         == what the word n stands for
---   is_tilt v          == the number v is a tilt's pattern; tilt_of v == that tilt; are_tilts v == the three of `device` are
---   fresh_with v os    == the fresh device of the words; fresh_by v os == that, or 6 for a number that is no tilt
---   adds row v os     == `device`: one more, if there is room and its data is allowed
---   is_device n k      == K is a device of a row with n of them; device_at row place == the one at a place
---   is_value c v       == the number v is a value of the event c; event_of c v == that event
---   happens d c v     == the event c of the value v, of the device d
+--   ScriptAnswer        == an answer, in the script's words
+--   After               == the row after a command, and the answer to it; Came == that, and the lent output, BUFFER
+--   value v n           == what the word n stands for
+--   is_tilt v           == the number v is a tilt's pattern; tilt_of v == that tilt;
+--                          are_tilts v == the three of `device` are
+--   fresh_with v os     == the fresh device of the words; fresh_by v os == that, or 6 for a number that is no tilt
+--   adds row v os       == `device`: one more, if there is room and its data is allowed
+--   is_device n k       == K is a device of a row with n of them; device_at row place == the one at a place
+--   is_value c v        == the number v is a value of the event c; event_of c v == that event
+--   happens d c v       == the event c of the value v, of the device d
 --   tells_limit row place == `limit`: the frame limit of the device at a place
 --   to_device c row k v os o == the command c to the device K, with the value v of an event, or with octets
---   for_device c       == the command c is for one device
---   obeyed c row v os o     == the command c with the values v and the octets os, and the lent output o
---   reply_of x         == the answer that the code's answer x is
---   Obeys right r o'  == the code's result r, and the lent output o' after it, are what is right
+--   for_device c        == the command c is for one device
+--   obeyed c row v os o == the command c with the values v and the octets os, and the lent output o
+--   reply_of x          == the answer that the code's answer x is
+--   Obeys right r o'    == the code's result r, and the lent output o' after it, are what is right
 -- Assumes nothing.
 use Rattle.std.specs.Prelude.{◌≡◌, Bool, cond, not, ◌&&◌, ◌||◌, List, [], ◌∷◌, ℕ, ◌+◌, ◌-◌, ltb, leb, eqb, length, get_or, set}
 use Rattle.std.proofs.Math.Option.{Option}

@@ -1,12 +1,12 @@
 -- The frame check: "the 16-bit one of ISO/IEC 13239 (also RFC 1662): x^16 + x^12 + x^5 + 1, least significant bit
 -- first, start 0xFFFF, complemented", by bitwise polynomial division.
---   reflected n es    == the polynomial with the exponents es, all below n, as n bits, the lowest exponent on top
+--   reflected n es     == the polynomial with the exponents es, all below n, as n bits, the lowest exponent on top
 --   bit_step r         == the register one bit on; bit_steps k r == k bits on; octet_step r o == one octet on
 --   register_after r s == the register after the octets s, from r on
 --   check_of s         == the check of the octets s
 --   with_check s       == s and its two check octets, low one first
---   residue           == the register after any frame with its check
---   Remainders k t    == t is the table that works k bits at once
+--   residue            == the register after any frame with its check
+--   Remainders k t     == t is the table that works k bits at once
 -- Assumes nothing.
 use Rattle.std.specs.Prelude.{◌≡◌, List, [], ◌∷◌, ◌++◌, ℕ, zero, suc, ◌+◌, ◌-◌, ◌*◌, ◌/◌, ◌%◌, ◌^◌, ◌<◌, length, get_or}
 use Rattle.std.specs.Int.Bits.{bit_xor}

@@ -1,6 +1,6 @@
 -- What the decoder answers to what lies between two flags. N is the frame limit.
 --   body d             == the decoded octets d without their two check octets: address, control and payload
---   right_check d       == the last two of d are the check of those before them
+--   right_check d      == the last two of d are the check of those before them
 --   decode_rows N is_broken d room == the rows of the table of numbers, for a line that is broken or not and has the
 --                         decoded octets d, and a lent output of so many octets
 --   decoded N s room   == the answer to the octets s between two flags: 6 where N is no frame limit, then those rows

@@ -2,7 +2,7 @@
 --   flag, escape, toggle == 0x7E, 0x7D, and the 0x20 that an escaped octet is changed by
 --   broken s     == refusal 4 looks before anything is decoded: 0x7E inside, or 0x7D as the last octet
 --   plain s      == the decoded octets: escapes taken out
---   on_line d     == the octets d with their escapes
+--   on_line d    == the octets d with their escapes
 --   between d    == flag, d on the line, flag
 --   inside l     == what lies between the two flags of a line
 --   Needed s     == no needless escape: every 0x7D is followed by 5D or 5E

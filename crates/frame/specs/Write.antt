@@ -2,7 +2,8 @@
 --   frame_of a c p        == address a, control c and payload p with their check
 --   line_of b             == the line of address, control and payload b: their check behind them, between flags
 --   write_rows N p l room == the rows of the table of numbers, for the payload p, the line l and a lent output
---   written N a c p room == the answer to address a, control c and payload p: 6 where N is no frame limit, then those rows
+--   written N a c p room  == the answer to address a, control c and payload p: 6 where N is no frame limit, then those
+--                            rows
 -- Assumes nothing.
 use Rattle.std.specs.Prelude.{not, List, [], ◌∷◌, ℕ, ltb, length}
 use Rattle.refusal.specs.Answer.{Answer, TestRow, ◌when◌, answered, shorter}

@@ -1,11 +1,11 @@
 -- Bits, and the octets that they make, the most significant bit of each octet first.
 --   Bits               == a list of bits: a beginning, or a whole identity
---   BeginningOf p l         == the bits l begin with p
+--   BeginningOf p l    == the bits l begin with p
 --   digit b            == a bit as a number
 --   word p n           == the number whose n binary digits are the first n bits of p, zeros where p has ended
 --   packed n p         == n octets: the first 8n bits of p, zeros where p has ended
 --   unpacked n x       == the n binary digits of the number x, as bits
---   bits_of s           == the bits of the octets s
+--   bits_of s          == the bits of the octets s
 --   ones n             == n ones
 --   masked s m         == the octets s under the mask octets m, as many as there are of the shorter
 -- Assumes nothing.

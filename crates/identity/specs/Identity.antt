@@ -1,11 +1,11 @@
 -- Who the device is, and what a scan compares with it.
 --   vendor, least_serial, most_serial == how many octets the vendor and the serial number have
 --   width, depth       == the octets of a padded identity (19), and its bits (152)
---   allowed_identity i  == the octets i are an identity; AnIdentity i == the same, in the words of 01
+--   allowed_identity i == the octets i are an identity; AnIdentity i == the same, in the words of 01
 --   blank, last_printable == 0x20 and 0x7E, the lowest and the highest that an octet of an identity may be
 --   padded i           == i with 0x20 behind it to 19 octets; unpadded x == x without the blanks at its end
---   octets_of p         == the beginning p as 19 octets, zeros behind it; mask_of p == ones over it, zeros behind
---   answers_scan i m v  == the identity i answers a scan whose mask is m and whose value is v
+--   octets_of p        == the beginning p as 19 octets, zeros behind it; mask_of p == ones over it, zeros behind
+--   answers_scan i m v == the identity i answers a scan whose mask is m and whose value is v
 -- A beginning p is 19 octets and a number of bits: `octets_of p` and `length p`. Assumes nothing.
 use Rattle.std.specs.Prelude.{Bool, true, false, cond, not, ◌&&◌, List, [], ◌∷◌, ◌++◌, ◌≡◌, ℕ, ◌+◌, ◌*◌, ◌-◌, ◌<◌, ◌≤◌, leb, eqb, length, get_or, replicate}
 use Rattle.octets.specs.Octets.{last_of}

@@ -1,7 +1,7 @@
 -- An I-frame in a session. 01, "The link": "After a good N(R): ..".
 --   heeded t s told sub == the station t in its session s, after a message; heed_of d s c == the device d
---   carried_here d m   == what comes of the message m; carried_by d s c == what is said of it
---   inform_of d s n m  == an I-frame with N(S) = n and the message m, the acknowledged answer being removed
+--   carried_here d m  == what comes of the message m; carried_by d s c == what is said of it
+--   inform_of d s n m == an I-frame with N(S) = n and the message m, the acknowledged answer being removed
 -- Assumes nothing.
 use Rattle.std.specs.Prelude.{Bool, cond, List, ℕ}
 use Rattle.antenna.specs.declared.Alarms.{Alarms}

@@ -1,8 +1,8 @@
 -- What a device tells of itself.
---   text_of t         == a text after its length
---   without_vendor i  == of the identity i, all but the two vendor octets
---   serial_of p       == the serial number
---   information_of p  == data out of information: the four texts
+--   text_of t        == a text after its length
+--   without_vendor i == of the identity i, all but the two vendor octets
+--   serial_of p      == the serial number
+--   information_of p == data out of information: the four texts
 -- A text is the first octets of its array, as many as its length says, and the whole array where its length says more;
 -- so any plate has an answer of at most 73 octets. Assumes nothing.
 use Rattle.std.specs.Prelude.{List, ◌∷◌, ◌++◌, ℕ, length, drop}

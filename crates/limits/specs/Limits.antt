@@ -1,9 +1,10 @@
 -- The frame limit N: the most octets of address, control, payload and check. 02 (iv): "a number of the link, 78 to 260".
---   limit_least   == 78: 01's limit, the least, and that of a link on which nothing was negotiated; limit_most == 260: the largest
---   is_limit N    == N is a frame limit; Limited N == the same, in words
+--   limit_least  == 78: 01's limit, the least, and that of a link on which nothing was negotiated;
+--                   limit_most == 260: the largest
+--   is_limit N   == N is a frame limit; Limited N == the same, in words
 --   around       == 4: the octets around a payload
---   frame_most N, payload_most N, line_most N == what follows from it: the most octets without the check (76 at 78), of a
---                   payload to be written (74), and of a line with its flags (158)
+--   frame_most N, payload_most N, line_most N == what follows from it: the most octets without the check (76 at 78), of
+--                   a payload to be written (74), and of a line with its flags (158)
 -- Assumes nothing.
 use Rattle.std.specs.Prelude.{Bool, ◌&&◌, ℕ, ◌+◌, ◌-◌, ◌*◌, ◌≤◌, leb}
 

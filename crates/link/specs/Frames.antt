@@ -1,10 +1,10 @@
 -- Which frames are read, and how: the words of the theorems about frames.
---   control_of f        == the control octet of the frame f
+--   control_of f       == the control octet of the frame f
 --   Own d f o          == f is read at the own address of the device d, and its control asks o
 --   Numbered d f o r s == the same in the session s, and the N(R) = r of the order o is good
 --   Everyone d f       == f is an XID frame to all stations, of a right size for the device d
 --   OwnXid d f         == f is an XID frame to the own address of d, of a right size, where an address is assigned
---   number_in o         == the N(R) of the order o, if it has one
+--   number_in o        == the N(R) of the order o, if it has one
 --   Supervised o       == o is "SNRM, DISC, RR or RNR", which have no payload
 --   Unread d f         == d is silent to f, and why
 -- Assumes nothing.

@@ -1,13 +1,13 @@
 -- A decoded frame judged. 01, "The link", and 02 (iv).
---   all_stations      == 0xFF, the address of a frame to every device
+--   all_stations     == 0xFF, the address of a frame to every device
 --   quiet o bare     == the states do not read the order o, with payload or bare
 --   ordered_by d o c p == at the own address, an order that is no XID
---   has_address l     == an address is assigned in the link state l
+--   has_address l    == an address is assigned in the link state l
 --   agreed_by d x, negotiated_by d p == at the own address, an XID that comes to the offer x; that has the payload p
---   own_by d c p      == at the own address
---   xid_by d x        == to all stations, an XID that means x
---   wrong_size N f    == f has "fewer than 2 or more than 76 octets", and N - 2 for 76
---   judged_frame d f  == the frame f, of address, control and payload
+--   own_by d c p     == at the own address
+--   xid_by d x       == to all stations, an XID that means x
+--   wrong_size N f   == f has "fewer than 2 or more than 76 octets", and N - 2 for 76
+--   judged_frame d f == the frame f, of address, control and payload
 -- Assumes nothing.
 use Rattle.std.specs.Prelude.{Bool, true, false, cond, not, ◌&&◌, ◌||◌, List, ℕ, ltb, eqb, length, get_or, drop}
 use Rattle.limits.specs.Limits.{frame_most}

@@ -5,10 +5,12 @@
 --   to_own d f        == it is the own one of the device d, where a negotiation is answered
 --   wrong_address d f == 2: it is neither
 --   wrong_control f   == 3: the control of f is not that of an XID
---   malformed_at f    == 4: the payload is not well formed, of the group 0xF0 to all stations, of 0x80 at the own address
---   value_rows_at d f  == the rows of what is given, 5 to 10: to all stations alone
+--   malformed_at f    == 4: the payload is not well formed, of the group 0xF0 to all stations, of 0x80 at the own
+--                        address
+--   value_rows_at d f == the rows of what is given, 5 to 10: to all stations alone
 --   xid_rows d f      == the ten rows of f, for the device d
---   xid_turn d f      == what comes of f where no row holds: a scan or an assignment to all stations, else a negotiation
+--   xid_turn d f      == what comes of f where no row holds: a scan or an assignment to all stations, else a
+--                        negotiation
 --   xid_answer d f    == that, or the number of the first row that holds
 --   or_mute d x       == a number is silence
 -- 1, `wrong_size`, stands in specs/Link; 4 to 10, to all stations, in xid/specs/Match. Assumes nothing.

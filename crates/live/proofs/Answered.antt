@@ -1,6 +1,6 @@
 -- One call of the receiver, for any record: when it is refused, what is handed out and where, and how far it goes.
---   held_octets h      == the decoded octets that a record holds
---   fitting_rows N h   == the rows of what is handed out, but for that of 5
+--   held_octets h     == the decoded octets that a record holds
+--   fitting_rows N h  == the rows of what is handed out, but for that of 5
 --   TookAll, TookUpTo == a call goes over all octets, or up to the flag at the place k; HowFar == one of the two
 -- Assumes nothing.
 use mathlib.Core.Path.{◌≡◌, refl, sym, ap, ◌∙◌, subst}

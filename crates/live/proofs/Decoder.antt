@@ -1,9 +1,9 @@
 -- It is the decoder: what a receiver hands out over octets is what the decoder says of each stretch between two flags.
 --   removed_after r p == the Bool of `plain_after` after the octets p
---   some p           == p has octets
---   Holds p h        == the record h holds the octets p of a stretch, none of which is a flag
---   flagged ps rest  == the parts ps, a flag behind each, and the rest
---   Flagless ps      == none of the parts ps holds a flag
+--   some p            == p has octets
+--   Holds p h         == the record h holds the octets p of a stretch, none of which is a flag
+--   flagged ps rest   == the parts ps, a flag behind each, and the rest
+--   Flagless ps       == none of the parts ps holds a flag
 -- Assumes nothing.
 use mathlib.Core.Path.{◌≡◌, refl, sym, ap, ap₂, ◌∙◌}
 use mathlib.Core.Bool.{Bool, true, false, cond, not, ◌&&◌, ◌||◌}

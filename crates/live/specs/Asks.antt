@@ -1,10 +1,10 @@
 -- Calls with any limits, any outputs and any record, one after the other over the same octets: what is handed out goes by
 -- the limit of the call that takes the flag.
 --   Ask               == one call: its frame limit, how many of the octets that are left are lent, an output of how many
---   ask_all h s cs     == how far the calls cs over the octets s take a caller that begins with the record h
---   limits_out h s cs  == the limits of those of the calls that hand something out, in order
+--   ask_all h s cs    == how far the calls cs over the octets s take a caller that begins with the record h
+--   limits_out h s cs == the limits of those of the calls that hand something out, in order
 --   nonempty ps       == those of the stretches ps that have octets
---   answers_by Ns ps   == what the decoder says of each of ps, each with the limit at its place in Ns
+--   answers_by Ns ps  == what the decoder says of each of ps, each with the limit at its place in Ns
 -- Assumes nothing.
 use mathlib.Core.List.{List, [], ◌∷◌, ◌++◌, zip_with}
 use Rattle.std.specs.Prelude.{ℕ, length, take, drop, replicate}

@@ -1,5 +1,5 @@
 -- The public call, made again and again, each time with the record that the call before left.
---   after_all h s     == the record h after the octets s, one by one; hand_outs N h s == what is handed out over them
+--   after_all h s    == the record h after the octets s, one by one; hand_outs N h s == what is handed out over them
 --   Offer            == one call: how many of the octets that are left are lent, and an output of how many octets
 --   Worked           == how far a caller has come: the record, the octets that are not taken yet, what was handed out
 --   offers N h s cs  == one call for each of cs over the octets s
@@ -8,13 +8,13 @@
 --   Alike h g        == two records are equal but for places of the store past the count
 --   CallTells x h s o r m o' == what the code's answer r, the store m and the output o' tell of the answer x to a call with
 --                       the record h, the run s and the output o, by the cases of what was heard (HeardTells)
---   read_out q o      == what a caller reads: of what it heard, q, and the output o that it got back
+--   read_out q o     == what a caller reads: of what it heard, q, and the output o that it got back
 --   Round            == one call and what came of it: how many of the octets that are left are lent, the output, the code's
 --                       answer, and the store and the output after it
 --   played h s cs    == how far the calls cs over the octets s take a caller: it reads what it gets back, and goes on with
 --                       the record and the store that it got back and with the octets that were not taken
 --   Kept N h s cs    == each answer of such calls is one that the promise of `receive` allows
---   round_offers cs   == how the calls cs offer the octets
+--   round_offers cs  == how the calls cs offer the octets
 --   Likewise t u     == two calls go equally far, with the same record behind them, and both hand something out or neither
 -- Assumes nothing.
 use Rattle.std.specs.Prelude.{◌≡◌, cond, List, [], ◌∷◌, ◌++◌, ◌⊎◌, ℕ, zero, suc, ◌≤◌, length, take, drop}

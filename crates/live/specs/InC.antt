@@ -7,7 +7,7 @@
 --   Number k x o b' o' t == it handed out the refusal k of a stretch
 --   Declined k x b o c b' o' t == it was refused itself, with k: nothing is taken, and nothing is changed
 --   ReceiveTells x b s o c r b' o' t == what the number r tells of it
---   read_c r o        == what a caller reads of the number r that crosses and the output o that it got back
+--   read_c r o       == what a caller reads of the number r that crosses and the output o that it got back
 --   Lent             == how far such a caller has come: the block, the octets that are not taken yet, what was handed out;
 --                       held_lent w == the same, with the record that the block holds
 --   offers_c N b s cs, fed_c N room b rs == as `offers` and `fed` of Calls, with the block for the record

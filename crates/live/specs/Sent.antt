@@ -5,8 +5,8 @@
 --   bodies fs      == address, control and payload of each
 --   Fits N b       == address, control and payload of a frame within the limit N
 --   FitEach N bs   == each of bs is
---   lines_of bs     == the line of each of bs, each with its own two flags
---   all_given bs    == each of bs is handed out
+--   lines_of bs    == the line of each of bs, each with its own two flags
+--   all_given bs   == each of bs is handed out
 --   Written        == what was handed to the writer, with the room that it was lent, and the line that it gave
 --   AllWritten N ws == each line of ws is what the writer with the limit N gave; written_lines ws == the lines, and
 --                     written_bodies ws == address, control and payload of each

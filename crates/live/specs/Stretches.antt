@@ -1,7 +1,7 @@
 -- The sentence: octets on the line are parted by flags, and what the decoder says of each stretch between two flags is handed
 -- out, in order. 02 (i): "hands out each frame or its refusal number when the closing flag comes".
 --   stretches_after p s == behind a flag and the octets p: what each flag of s closes
---   stretches s        == what lies between each flag of s and the next one
+--   stretches s         == what lies between each flag of s and the next one
 --   answers_to N ps     == what the decoder with the frame limit N says of each of the stretches ps that has octets
 --   heard_line N s      == what is handed out over the octets s
 -- Assumes nothing.

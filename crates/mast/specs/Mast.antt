@@ -1,8 +1,8 @@
 -- A row of devices in memory, and a scan of it. The statements are the bus's: `scanned`, a scan run to its end through
 -- written lines, of the devices on the cable.
---   on_cable row       == the devices that hang on the cable; off_cable row == the places behind them
+--   on_cable row      == the devices that hang on the cable; off_cable row == the places behind them
 --   with_devices row ds == the row with the devices ds on its cable
---   swept_by row b     == the scan of the bus b, and the row with its devices
+--   swept_by row b    == the scan of the bus b, and the row with its devices
 --   swept row limit   == a scan of the row with the limit, run to its end
 -- Assumes nothing.
 use Rattle.std.specs.Prelude.{List, ◌++◌, ℕ, take, drop}

@@ -1,8 +1,8 @@
 -- What the code's private functions do, one probe of a sweep: the code's own words, over those of the bus.
---   line_in w         == the line that the written octets w are
---   size_in x         == how many octets the answer x of the code hands out; given_in x == whether it hands any out
---   frame_in x        == what is said, x, is a frame
---   Probing x r         == r is the line of the probe that x gives, or says that x gives none
+--   line_in w        == the line that the written octets w are
+--   size_in x        == how many octets the answer x of the code hands out; given_in x == whether it hands any out
+--   frame_in x       == what is said, x, is a frame
+--   Probing x r      == r is the line of the probe that x gives, or says that x gives none
 --   Listens d l b r  == r is the device d after the line l, and whether it answered, or one before did: b
 --   Sends ds n l r   == r is the devices ds after the first n of them heard the line l, and whether one answered
 -- Assumes nothing.

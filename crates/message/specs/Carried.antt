@@ -1,10 +1,10 @@
 -- A message carried out: the answer to it, if there is one now, and what it changes.
 --   replied_of q n told sub == the payload q is the answer; the antenna n, what was told, and the subscription after it
---   replies b n told sub  == the octets b are the answer
---   unanswered n told sub == no answer now
---   quieted n             == the antenna n with no alarm raised
+--   replies b n told sub   == the octets b are the answer
+--   unanswered n told sub  == no answer now
+--   quieted n              == the antenna n with no alarm raised
 --   done_by p n told sub c t == what the table says of the code c, whose data asks the tilt t, where no check fails
---   outcome n told sub c x  == what comes of the checks' answer x
+--   outcome n told sub c x == what comes of the checks' answer x
 --   performed_by p n told sub c t == what comes of a code c that has passed the message's own checks
 --   carried_of p n told sub m == the message m, carried out by a device with the plate p
 -- Assumes nothing.

@@ -1,16 +1,16 @@
 -- Messages of layer 7: what is read in one, the two lists of codes, the table, the order of the checks.
 --   code_of m, declared_of m, data_of m == the code, the length field and the data of the message m
---   asked_of m        == the tilt that the data of m asks
+--   asked_of m       == the tilt that the data of m asks
 --   unsupported      == the codes of the standard that get 0x25
 --   table            == the messages that there are: k takes n, the code k with n octets of data in
---   in_table t c      == the table t has the code c; taken_by t c == the data length that it defines for c
+--   in_table t c     == the table t has the code c; taken_by t c == the data length that it defines for c
 --   misdeclared m    == "length field wrong"; barred m == "code one of .."; unknown m == "code not in the table"
 --   misfit m         == "data length not the defined one"
---   asks_drive c      == set tilt or get tilt
+--   asks_drive c     == set tilt or get tilt
 --   busied n c       == "busy"; outside n c t == "out of range"
---   own_checks m      == the checks that the message m alone decides; drive_checks n c t == those of the drive
+--   own_checks m     == the checks that the message m alone decides; drive_checks n c t == those of the drive
 --   checks n m       == the checks of m, in their order, for the antenna n
---   check_number r    == the paper's return code, or none, for each case of the code's answer
+--   check_number r   == the paper's return code, or none, for each case of the code's answer
 --   Due n m          == m is a set tilt that the antenna n carries out
 -- Assumes nothing.
 use Rattle.std.specs.Prelude.{◌≡◌, Bool, true, false, cond, not, ◌&&◌, ◌||◌, List, [], ◌∷◌, ◌++◌, ℕ, eqb, length, get_or, drop}

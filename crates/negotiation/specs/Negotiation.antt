@@ -1,13 +1,13 @@
 -- Longer frames by negotiation: the payload of an XID frame to the own address. 02 (iv), annex B of source 003.
---   sent_id, received_id, sending_id, receiving_id == the identifiers 5 and 6, the I-field length in bits, sent and received,
---                      and 7 and 8, the windows
+--   sent_id, received_id, sending_id, receiving_id == the identifiers 5 and 6, the I-field length in bits, sent and
+--                      received, and 7 and 8, the windows
 --   negotiating     == the group: 0x80, and the table of its identifiers with their lengths
---   bits_in v        == the number that the octets v stand for, highest first; bits_from n v == of v behind the number n
---   smaller_of v w   == the smaller of two I-field lengths, in bits; the one that is given; none where none is
---   limit_for b      == the frame limit that a length of b bits asks for
---   limit_asked N b  == the frame limit after N where the length b is asked, or none
+--   bits_in v       == the number that the octets v stand for, highest first; bits_from n v == of v behind the number n
+--   smaller_of v w  == the smaller of two I-field lengths, in bits; the one that is given; none where none is
+--   limit_for b     == the frame limit that a length of b bits asks for
+--   limit_asked N b == the frame limit after N where the length b is asked, or none
 --   agreed_limit N ps == the frame limit after N by the parameters ps
---   asked_in ps      == which identifiers ps have
+--   asked_in ps     == which identifiers ps have
 --   offered N x     == what comes of the parameters x, where there are such; offer_of N m == of the payload m
 -- Assumes nothing.
 use Rattle.std.specs.Prelude.{List, [], ◌∷◌, ℕ, ◌+◌, ◌*◌, ◌/◌, min, max}

@@ -1,11 +1,11 @@
 -- Lists of octets: the words that every layer above uses of them.
 --   Octets s         == each number of s is an octet
 --   holds x s        == x stands somewhere in s; OneOf x s == the same, in the words of the laws on such tests
---   place_of x s      == the place of the first x in s, counted from 0; the length of s where there is none
---   part_of n m s     == the octets of s from the place n up to the place m, as far as there are any
---   last_of d s       == the last of s, or d where s is empty
+--   place_of x s     == the place of the first x in s, counted from 0; the length of s where there is none
+--   part_of n m s    == the octets of s from the place n up to the place m, as far as there are any
+--   last_of d s      == the last of s, or d where s is empty
 --   low_of n, high_of n == the two octets of a number of 16 bits; pair_of l h == the number they stand for
---   b at_start_of o    == the octets b stand at the start of the lent output o, the rest unchanged
+--   b at_start_of o  == the octets b stand at the start of the lent output o, the rest unchanged
 -- Stored from an index on, as far as the list goes: `set` and `sets` of the library. Assumes nothing.
 use Rattle.std.specs.Prelude.{◌≡◌, Bool, true, false, cond, List, [], ◌∷◌, ◌++◌, ◌⊎◌, ℕ, suc, ◌+◌, ◌*◌, ◌/◌, ◌%◌, ◌<◌, eqb, length, take, drop}
 

@@ -1,20 +1,21 @@
 -- The payload of an XID frame, over its group: the group's octet, and the table of its identifiers with their lengths.
 -- 01, "XID: scan and assignment".
---   n is v            == a parameter: its identifier n, and the octets v of its value
+--   n is v             == a parameter: its identifier n, and the octets v of its value
 --   triple_of p        == identifier, length, value; field_of ps == the triples of ps, one behind the other
---   format            == 0x81, the first octet of every payload; table_rows == 5, the most identifiers that a group has
+--   format             == 0x81, the first octet of every payload;
+--                         table_rows == 5, the most identifiers that a group has
 --   xid_payload g ps   == 0x81, the octet of g, a length equal to all that follows, then the triples of ps
---   n has a to b      == a row of a table: the identifier n, and a to b octets for its value
+--   n has a to b       == a row of a table: the identifier n, and a to b octets for its value
 --   right_length t n k == the table t has the identifier n, and its value may have k octets
---   identifiers ps    == the identifiers of ps, in their order
---   WellFormed g m ps == the octets m are the payload of the parameters ps of the group g, and these are as 01 says
+--   identifiers ps     == the identifiers of ps, in their order
+--   WellFormed g m ps  == the octets m are the payload of the parameters ps of the group g, and these are as 01 says
 --   triples_of s       == the parameters whose triples fill s exactly, where there are such; triples_after k s == those
---                        of s without its first k octets
---   opened o m        == m begins 0x81, the octet o, the length of all that follows
+--                         of s without its first k octets
+--   opened o m         == m begins 0x81, the octet o, the length of all that follows
 --   all_right, none_twice, checked == the tests for right lengths and repeats
 --   params_of g m      == the parameters of the payload m, where it is well formed
 --   value_for n ps     == the value of the parameter n, where it is given
---   given x           == a value is given; octets_in x == its octets, none where it is not given
+--   given x            == a value is given; octets_in x == its octets, none where it is not given
 -- `params_of` computes what `WellFormed` says, for every group: proofs/Exact.antt. Assumes nothing.
 use Rattle.std.specs.Prelude.{◌≡◌, Bool, true, false, cond, not, ◌&&◌, List, [], ◌∷◌, ◌++◌, ℕ, zero, suc, ◌-◌, leb, eqb, length, get_or, take, drop}
 use Rattle.std.proofs.Math.Option.{Option, none, some}

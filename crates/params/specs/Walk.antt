@@ -1,10 +1,10 @@
 -- The walk through a payload: where the values of its parameters stand.
 --   place_in n t      == the place of the identifier n in the table t, counted from 0; its length where there is none
---   slot p           == the part p as an element of an array; no_parts k == k parts, all absent
+--   slot p            == the part p as an element of an array; no_parts k == k parts, all absent
 --   parts_at t at ps  == where the values of ps stand, whose triples begin at the place `at`: each at the place of its
---                       identifier in the table t
+--                        identifier in the table t
 --   part_in f i       == the part at the place i of f; past its end it is absent; is_absent p == p is absent
---   unformed         == what is found of a payload that is not well formed: no part
+--   unformed          == what is found of a payload that is not well formed: no part
 --   found_from at t x == what is found of the parameters x, whose triples begin at the place `at`, where there are such
 --   found_in g m      == where the values of the parameters of m stand, where m is well formed
 --   value_at m p      == the octets of the part p

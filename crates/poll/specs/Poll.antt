@@ -2,8 +2,8 @@
 -- there is something to tell, an alarm indication; else RR."
 --   indicates t s a == the station t with an indication of the alarms a pending in its session s
 --   indicating d s  == the device d, with an indication of its alarms pending, which it says
---   to_tell k v      == there is something to tell, and it is subscribed
---   poll_of d s      == what RR gets, the answer that it acknowledges being removed
+--   to_tell k v     == there is something to tell, and it is subscribed
+--   poll_of d s     == what RR gets, the answer that it acknowledges being removed
 -- Assumes nothing.
 use Rattle.std.specs.Prelude.{Bool, cond, ◌&&◌}
 use Rattle.antenna.specs.declared.Alarms.{Alarms}

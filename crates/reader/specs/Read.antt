@@ -1,7 +1,7 @@
 -- The parameter reader: the frame's slice and the cursor, a place in it.
 --   stands_in at s == what stands at the place `at`, where the octets from there on are s
 --   stands_at s at == what stands at the place `at` of s
---   behind at x   == the place behind what stands at `at`: behind a triple; the end, and less than a triple, stay
+--   behind at x    == the place behind what stands at `at`: behind a triple; the end, and less than a triple, stay
 --   step_at s at   == what stands at the place `at` of s, and the place behind it
 --   reader_of s at == the reader of the slice s, its cursor at the place `at`
 --   next_in d      == what the reader d finds next; reader_after d == the reader d after that

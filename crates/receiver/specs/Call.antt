@@ -6,8 +6,9 @@
 --   takes N room h s == what is taken of the octets s: up to and with the first flag that hands something out, or all
 --   receive_rows N h room == the rows of the numbers for a call that takes nothing
 --   received N h s room == the answer to the call
---   heard_of r        == what the code tells, in the paper's numbers; told_counted, told_by == what it should tell
---   took_by x, held_by x h, out_told, out_by x o == how many octets are taken, the record and the output after the answer x
+--   heard_of r       == what the code tells, in the paper's numbers; told_counted, told_by == what it should tell
+--   took_by x, held_by x h, out_told, out_by x o == how many octets are taken, the record and the output after the
+--                                                   answer x
 --   Receives x h o r m o' == the code's answer r, the store m and the output o', of a call with the record h and the output
 --                       o, are the answer x
 -- Assumes nothing.

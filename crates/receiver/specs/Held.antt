@@ -1,15 +1,17 @@
 -- The receiver's record, octet by octet: what it holds of the stretch since the last flag. 02 (i): "takes octets in runs of
 -- any length .. and hands out each frame or its refusal number when the closing flag comes".
---   places         == 260: those of the store, one for each octet of the longest frame
---   Held           == a record with its store; held_of r m == the one of r and m
---   Usable h       == a record that is not refused: its store has 260 places, and holds no more octets than those
+--   places          == 260: those of the store, one for each octet of the longest frame
+--   Held            == a record with its store; held_of r m == the one of r and m
+--   Usable h        == a record that is not refused: its store has 260 places, and holds no more octets than those
 --   fresh_marks     == the record before any octet; open_marks == right behind a flag
 --   added_by h x    == the decoded octets that the raw octet x adds to the stretch: one, or none where it is an escape
 --   taken_in h x    == the record after a raw octet x of the stretch
---   raw h x        == the record after an octet x that is no flag; after_flag h == the one after a flag
+--   raw h x         == the record after an octet x that is no flag; after_flag h == the one after a flag
 --   after_octet h x == the record after any octet
---   stretched r    == a stretch is open that has at least one raw octet; closes h x == x is a flag that closes such a one
---   stretch_says N room h == what is handed out where a flag closes the stretch, with the frame limit N and a lent output
+--   stretched r     == a stretch is open that has at least one raw octet;
+--                      closes h x == x is a flag that closes such a one
+--   stretch_says N room h == what is handed out where a flag closes the stretch, with the frame limit N and a lent
+--                            output
 -- Assumes nothing.
 use Rattle.std.specs.Prelude.{◌≡◌, Bool, true, false, cond, not, ◌&&◌, ◌||◌, List, [], ◌∷◌, ℕ, ◌+◌, ◌≤◌, min, eqb, ltb, length, take}
 use Rattle.std.proofs.lemmas.List.Edits.{sets}

@@ -1,7 +1,7 @@
 -- What the receiver's functions promise each other: many octets at once come to the same as one by one.
 --   Plain s           == no octet of s is a flag or an escape
 --   Copies s o at n o' == the first n octets of s, one at least, are such ones, and stand in o' from the place at on
---   further_by k t     == k octets more were taken in front
+--   further_by k t    == k octets more were taken in front
 --   Passes h s k g    == the first k octets of s take the record h to g, and hand out nothing
 -- Assumes nothing.
 use Rattle.std.specs.Prelude.{◌≡◌, false, List, [], ◌∷◌, ℕ, ◌+◌, ◌<◌, ◌≤◌, length, take, drop}

@@ -9,8 +9,8 @@
 --   station_allowed t   == so, and the frame limit is one
 --   owed_allowed l m    == "a tilt result owed only in Connected"
 --   allowed_device d    == d may be handed in; anything else is refusal 6
---   Owes m             == a tilt result is owed, in words
---   AllowedRecord d    == d may be handed in, phrase by phrase of 01, and 02 (iv) for the frame limit
+--   Owes m              == a tilt result is owed, in words
+--   AllowedRecord d     == d may be handed in, phrase by phrase of 01, and 02 (iv) for the frame limit
 -- "only alarms named below" holds by type. Assumes nothing.
 use Rattle.std.specs.Prelude.{Bool, true, not, ◌&&◌, List, ◌↔◌, ◌⊎◌, ◌≡◌, ℕ, ◌≤◌, ltb, leb, eqb, take, ◌≤ℤ◌}
 use Rattle.limits.specs.Limits.{is_limit}

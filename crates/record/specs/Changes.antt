@@ -1,10 +1,11 @@
 -- What a session's end leaves of a record, and what happens to it.
---   unsaid_at t a n l == the station t at the address a, with the frame limit n, in the link state l, with nothing pending
---   device_of d t n  == the device d with the station t and the antenna n
+--   unsaid_at t a n l == the station t at the address a, with the frame limit n, in the link state l, with nothing
+--                        pending
+--   device_of d t n == the device d with the station t and the antenna n
 --   emptied_as d a n l == the device d so, with nothing pending and nothing owed
---   ended_as d a l   == the device d after its session's end, at the address a in the link state l
---   limited_to d n   == the device d with the frame limit n
---   can_be n e       == the event e can happen to the antenna n; after_event n e == the antenna then
+--   ended_as d a l  == the device d after its session's end, at the address a in the link state l
+--   limited_to d n  == the device d with the frame limit n
+--   can_be n e      == the event e can happen to the antenna n; after_event n e == the antenna then
 --   CanHappen n e   == the same as can_be, in the words of refusal 8
 --   antenna_happened n e == the event e, of an antenna; happened d e == of a device
 -- Assumes nothing.

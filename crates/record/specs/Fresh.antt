@@ -1,10 +1,10 @@
 -- A fresh device. 01: "A fresh device has address 0 and no alarms, subscription or movement."
---   data_allowed ..     == the device data is as "Who the device is" says; AllowedData .. == the same, phrase by phrase
+--   data_allowed ..    == the device data is as "Who the device is" says; AllowedData .. == the same, phrase by phrase
 --   identity_from s, product_from s, version_from s == a text with zeros behind it
---   plate_from i p h s  == the plate with these texts, zeros behind each
---   fresh_station       == address 0, the frame limit 78, no session, nothing told, nothing subscribed
---   fresh_from ..       == the fresh device; fresh_of .. == what is answered
---   blank_device        == the record beside a refusal
+--   plate_from i p h s == the plate with these texts, zeros behind each
+--   fresh_station      == address 0, the frame limit 78, no session, nothing told, nothing subscribed
+--   fresh_from ..      == the fresh device; fresh_of .. == what is answered
+--   blank_device       == the record beside a refusal
 -- Assumes nothing.
 use Rattle.std.specs.Prelude.{Bool, false, not, ◌&&◌, List, [], ◌∷◌, ℕ, ◌≤◌, leb, pos, length, replicate, ◌≤ℤ◌}
 use Rattle.octets.specs.Octets.{◌at_start_of◌}

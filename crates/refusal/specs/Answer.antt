@@ -5,9 +5,9 @@
 --   answered rows a   == the number of the first row that holds, in the order of the rows; where none does, a
 --   Given k rows      == a row of the number k holds, and none before it
 --   Clear rows        == no row holds
---   numbers_of rows    == the numbers that the rows have
+--   numbers_of rows   == the numbers that the rows have
 --   shorter room b    == a lent output of so many octets is shorter than the octets b
---   handed_out b room  == the octets b, into a lent output of so many octets
+--   handed_out b room == the octets b, into a lent output of so many octets
 --   Hands x o r o'    == the code's answer r, and the output o' that was o, are the answer x
 --   Changes x s r s'  == the code's outcome r, and the state s' that was s, are the answer x
 -- Assumes nothing.

@@ -3,13 +3,14 @@
 -- dropped stretch began, how long it was, and its refusal number, or 0 for octets before the first flag or after the last".
 --   parted_after p s == s parted by its flags, where the octets p stand before it; parted s == s alone
 --   Piece            == octets between flags: their place in the capture, counted from 0, the octets, and what is said of
---                      them: their frame, or a number
+--                       them: their frame, or a number
 --   pieces_from N at ps == the parts ps from the place at on, a flag behind each but the last, of which 0 is said
---   pieces_in N s       == those of the capture s that have octets, in order; of what lies before the first flag 0 is said
+--   pieces_in N s    == those of the capture s that have octets, in order; of what lies before the first flag 0 is said
 --   kept_pieces, left_pieces == those with a frame, and those with a number
---   listed ps       == of each stretch left out where it began, how long it was, and its number; frames_of ps == the frames
+--   listed ps        == of each stretch left out where it began, how long it was, and its number;
+--                       frames_of ps == the frames
 --   good_of ps       == a capture of the stretches ps: a flag, and each with a flag behind it; of none, no octets
---   octet_count ps     == how many octets they have; flags_in s == how many flags s has
+--   octet_count ps   == how many octets they have; flags_in s == how many flags s has
 --   totals_of N s    == what is counted of the capture s
 -- Assumes nothing.
 use Rattle.std.specs.Prelude.{ℕ, suc, ◌+◌, cond, List, [], ◌∷◌, ◌++◌, length, ◌==◌}

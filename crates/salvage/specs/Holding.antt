@@ -1,18 +1,20 @@
 -- The record of a salvage, octet by octet: what is carried from one octet of the capture to the next. A call may be handed any
 -- record, so it is said of any.
---   raw_most         == 520: the most raw octets of a frame, each of 260 escaped
---   Holding         == a record with the receiver's store and the raw octets of the open stretch; holding_of v m w == the one
---                      of v, m and w; receiver_in c == the receiver's record in it
---   Workable c         == a record that is not refused
+--   raw_most        == 520: the most raw octets of a frame, each of 260 escaped
+--   Holding         == a record with the receiver's store and the raw octets of the open stretch; holding_of v m w ==
+--                      the one of v, m and w; receiver_in c == the receiver's record in it
+--   Workable c      == a record that is not refused
 --   add64 a b       == a sum of 64 bits: counts wrap
---   fresh_salvage    == the record before any octet
---   grown_by n o     == the open stretch o with n octets more; onward_from n o == the one that opens behind it and n octets
---   with_octet c x   == after an octet x that is no flag
---   said_verdict a      == what becomes of a stretch of which the receiver says a; verdict_of N c == of the open one, at a flag
+--   fresh_salvage   == the record before any octet
+--   grown_by n o    == the open stretch o with n octets more;
+--                      onward_from n o == the one that opens behind it and n octets
+--   with_octet c x  == after an octet x that is no flag
+--   said_verdict a  == what becomes of a stretch of which the receiver says a; verdict_of N c == of the open one, at a flag
 --   tallied t n f   == the counts t with a stretch of n octets that had the verdict f
---   behind_flag f v     == the record v behind a flag that gave the open stretch the verdict f
---   past_flag c      == the receiver has taken a flag; closed_by f c == all of the record has
---   kept_octets b k w == what is written of a kept stretch: the first flag, unless b, its first k octets in w, and a flag
+--   behind_flag f v == the record v behind a flag that gave the open stretch the verdict f
+--   past_flag c     == the receiver has taken a flag; closed_by f c == all of the record has
+--   kept_octets b k w == what is written of a kept stretch: the first flag, unless b, its first k octets in w, and a
+--                        flag
 -- Assumes nothing.
 use Rattle.std.specs.Prelude.{◌≡◌, ℕ, ◌+◌, ◌%◌, ◌^◌, ◌≤◌, min, Bool, true, false, cond, List, [], ◌∷◌, ◌++◌, length, take, ◌==◌}
 use Rattle.std.proofs.lemmas.List.Edits.{sets}

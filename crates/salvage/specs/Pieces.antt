@@ -1,20 +1,22 @@
 -- What the salvage's functions promise each other: the octets up to the next flag at once come to the same as one by one.
---   with_all c s      == after the octets s, none of which is a flag
---   up_to s           == the octets before the first flag of s
---   gathered_in c s, verdict_in N c s == what is carried after them and the receiver behind the flag; what becomes of the open
---                       stretch: it stays open where s has no flag
---   joined v r       == v with what the octets touched; holding_with, parts_of == a record of which only that is of interest
+--   with_all c s     == after the octets s, none of which is a flag
+--   up_to s          == the octets before the first flag of s
+--   gathered_in c s, verdict_in N c s == what is carried after them and the receiver behind the flag; what becomes of
+--                       the open stretch: it stays open where s has no flag
+--   joined v r       == v with what the octets touched;
+--                       holding_with, parts_of == a record of which only that is of interest
 --   Gathers N c s r m w == the code's answer r, and the stores m and w, are that, over the octets s up to and with a flag;
 --                       GathersAny == whatever else the record holds
 --   written_by f b k w == what is written of a stretch with the verdict f, of which k raw octets are held in w
 --   goes_until f at end == how far a call goes that is at the place at: to end, or no further
---   handed_verdict q, passed_verdict n, heard_verdict q closed n == what becomes of a stretch of n octets, by what was handed
---                       out, where nothing was, and by what was heard
---   stops_at r s, reach_of r s == whether the receiver r itself stops behind the next flag of s; how many octets it is lent
---   before_flag s k   == of the first k octets of s those before a flag that is the last of them
---   followed, begun_by, flags_added, counted_by, settled_by n f == the parts of a record, and the record, behind a stretch with the
---                       verdict f and n flags: one at a flag, none at the end
---   listed_by o f     == what is told of it; sound_by count held == a record that is not refused
+--   handed_verdict q, passed_verdict n, heard_verdict q closed n == what becomes of a stretch of n octets, by what was
+--                       handed out, where nothing was, and by what was heard
+--   stops_at r s, reach_of r s == whether the receiver r itself stops behind the next flag of s;
+--                                 how many octets it is lent
+--   before_flag s k  == of the first k octets of s those before a flag that is the last of them
+--   followed, begun_by, flags_added, counted_by, settled_by n f == the parts of a record, and the record, behind a
+--                       stretch with the verdict f and n flags: one at a flag, none at the end
+--   listed_by o f    == what is told of it; sound_by count held == a record that is not refused
 -- Assumes nothing.
 use Rattle.std.specs.Prelude.{◌≡◌, ℕ, ◌+◌, ◌-◌, min, Bool, true, false, cond, not, ◌&&◌, ◌||◌, List, [], ◌∷◌, length, take, ◌==◌, nat_lt, slice_index}
 use Rattle.octets.specs.Octets.{holds, place_of}

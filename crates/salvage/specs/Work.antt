@@ -1,13 +1,13 @@
 -- One call of the salvage: a record, the frame limit N, a run of octets, a lent output; and the last call, without octets.
---   Dropping          == nothing was left out, or a stretch; stretch_of v k == the open one of v, with the number k
---   Progress           == a call that is not refused: what is carried after it, how many octets it took, what it wrote and
+--   Dropping         == nothing was left out, or a stretch; stretch_of v k == the open one of v, with the number k
+--   Progress         == a call that is not refused: what is carried after it, how many octets it took, what it wrote and
 --                       what it left out
---   in_front k ws t     == the same, with k octets more taken and ws more written in front
+--   in_front k ws t  == the same, with k octets more taken and ws more written in front
 --   works N c s      == what is made of the octets s: up to and with the first flag that closes a stretch left out, or all
 --   salvage_rows, salvaged N c s room == the rows of the numbers, and the answer to the call
 --   AtEnd            == the last call: the record after it, and what it left out
 --   finish_rows, finished v == the rows of its numbers, and the answer to it
---   listing_of r         == what the code tells, in the paper's numbers; left_by x == what it should tell
+--   listing_of r     == what the code tells, in the paper's numbers; left_by x == what it should tell
 --   taken_by, wrote_by, holding_by == what is taken and written, and what is carried after an answer
 --   Salvages x c o r m w o' == the code's answer r, the stores m and w and the output o', of a call with the record c and
 --                       the output o, are the answer x

@@ -1,10 +1,10 @@
 -- The scan's record as a walk, and back.
---   list_most         == how many identities the list holds
---   beginning_of s    == the beginning of the record s: the first `bits` of its row
---   rows_of n l       == the first n identities of a list, 19 octets each; list_of s == those of the record s
---   walk_of s         == the record s as a walk
+--   list_most        == how many identities the list holds
+--   beginning_of s   == the beginning of the record s: the first `bits` of its row
+--   rows_of n l      == the first n identities of a list, 19 octets each; list_of s == those of the record s
+--   walk_of s        == the record s as a walk
 --   front onto l     == front at the start of l, the rest of l as it was
---   record_of s v     == the walk v as a record, with what lies past the list and past the beginning as it was in s
+--   record_of s v    == the walk v as a record, with what lies past the list and past the beginning as it was in s
 -- Assumes nothing.
 use Rattle.std.specs.Prelude.{List, [], ◌∷◌, ◌++◌, ℕ, zero, suc, length, take, drop}
 use Rattle.identity.specs.Bits.{Bits}

@@ -1,6 +1,6 @@
 -- The scanner's three calls: a new scan, the probe that is next, an answer reported.
 --   fresh limit      == a scan that has asked nothing
---   probe_of p        == the probe of the beginning p: address, control and payload; probe_length == their number, 47
+--   probe_of p       == the probe of the beginning p: address, control and payload; probe_length == their number, 47
 --   over s           == the row of the number 7: the record s takes no probe and no answer
 --   probed s lent    == what a probe asked of s gives, into a lent output of so many octets
 --   reported s heard == what an answer reported to s gives: the scan one step on

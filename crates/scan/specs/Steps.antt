@@ -1,11 +1,11 @@
 -- The parts of a step on the record, as the code takes them.
---   next_at row n     == the first n bits of a row with the last made a one; none where n is 0
+--   next_at row n      == the first n bits of a row with the last made a one; none where n is 0
 --   state_at c l q w == asking where probes are left, at the limit where not
---   finished_by w     == the end where no probe remains
---   in_state s t      == s in the state t; at s n row == s at the first n bits of a row
---   going s q w      == s goes on where it stands
---   scan_moved s n q w  == s goes on at the first n bits, the last made a one; it is done where n is 0
---   noted_in s q w a  == s, which asks with the flags q and w, after the answer a
+--   finished_by w      == the end where no probe remains
+--   in_state s t       == s in the state t; at s n row == s at the first n bits of a row
+--   going s q w        == s goes on where it stands
+--   scan_moved s n q w == s goes on at the first n bits, the last made a one; it is done where n is 0
+--   noted_in s q w a   == s, which asks with the flags q and w, after the answer a
 -- Assumes nothing.
 use Rattle.std.specs.Prelude.{Bool, true, cond, ℕ, zero, suc, ltb, take, set}
 use Rattle.std.proofs.Math.Option.{Option, none, some}

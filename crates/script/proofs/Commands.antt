@@ -1,6 +1,6 @@
 -- The fault `command`, both ways: a line has it exactly if its first word is none of the names. Assumes nothing.
 --   command_names == the names, as the bench script's table has them
---   NoCommand s  == the line s is not empty, no comment, not long, and its first word is none of the names
+--   NoCommand s   == the line s is not empty, no comment, not long, and its first word is none of the names
 use mathlib.Core.Path.{◌≡◌, refl, sym, ap, ◌∙◌}
 use mathlib.Core.Bool.{Bool, true, false, cond, not, ◌&&◌}
 use mathlib.Core.Logic.{◌↔◌, ⊎_elim}

@@ -1,5 +1,5 @@
 -- The row that a line's octets go into: the words of the theorem that it is long enough.
---   count_of p         == how many octets a HEX word stands for; 0 where it is none
+--   count_of p        == how many octets a HEX word stands for; 0 where it is none
 --   AllFit d ks n s a == at each word of the line s from the place n on, of the kinds ks, the row has room for its octets
 -- Assumes nothing.
 use Rattle.std.specs.Prelude.{List, [], ◌∷◌, ℕ, suc, ◌+◌, ◌≤◌, length}

@@ -1,11 +1,11 @@
 -- A line of the bench script, read.
---   command_of s      == the command of the line s by its place among the names; their number where it is none of them
---   kinds_of s        == the kinds of the words behind it, one letter each
---   wordless l          == the line means l, and no word is read
+--   command_of s     == the command of the line s by its place among the names; their number where it is none of them
+--   kinds_of s       == the kinds of the words behind it, one letter each
+--   wordless l       == the line means l, and no word is read
 --   stored a os n    == the code's: a with the octets os up to n
 --   with_word k d a n w == a, and the word w of the kind k at the place n
 --   words_by d ks n s a == a, and the words of the line s from the place n on, of the kinds ks, up to the first fault
---   read_line s d     == what the line s asks of a bench with d devices
+--   read_line s d    == what the line s asks of a bench with d devices
 -- The octets of all HEX words lie one behind the other, and the value of HEX is where its octets end. Assumes nothing.
 use Rattle.std.specs.Prelude.{Bool, true, false, cond, ◌||◌, List, [], ◌∷◌, ℕ, suc, ◌+◌, min, ltb, eqb, length, get_or, set, replicate}
 use Rattle.std.proofs.Math.Option.{Option, none, some}

@@ -2,8 +2,8 @@
 --   hex_digit c       == the value of the digit c; 16 where it is none
 --   octet_by h l      == the octet of two digits; octet_of w == of a word of exactly two
 --   hex_of w          == the octets of a word HEX, where it is one
---   numeral s        == s is one or more decimal digits; decimal n s == the number n with the digits s behind it
---   decimal_of s         == the code's: that number, a million for each above it; one more where s is none
+--   numeral s         == s is one or more decimal digits; decimal n s == the number n with the digits s behind it
+--   decimal_of s      == the code's: that number, a million for each above it; one more where s is none
 --   number_by b a f w == the number w of -b to a, as its 16 bits; the fault f where it is outside
 --   value_of k d w    == what the word w of the kind k stands for, on a bench with d devices
 -- The kinds by their letters: o an octet, r ROOM, d a device K, t a tilt, a an alarm, l a limit, h heard or silent; HEX

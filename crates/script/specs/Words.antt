@@ -1,8 +1,8 @@
 -- The words of a line. The bench script: "Words are parted by one space each."
 --   spelled t        == the octets of the text t
---   first_of s        == the octets of s before its first space; behind_first s == those behind it
---   word_at n s       == the word of s behind n others; empty where there is none
---   spaces_in s       == how many spaces s has: one less than its words
+--   first_of s       == the octets of s before its first space; behind_first s == those behind it
+--   word_at n s      == the word of s behind n others; empty where there is none
+--   spaces_in s      == how many spaces s has: one less than its words
 --   place_from i n t w == the first of the n places from i on at which the text t has the word w; i + n where none has
 -- Assumes nothing.
 use Rattle.std.specs.Prelude.{cond, List, [], ◌∷◌, ℕ, zero, suc, eqb, take, drop}

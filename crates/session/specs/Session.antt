@@ -2,10 +2,10 @@
 -- answer) and at most one pending answer."
 --   pends p          == something is pending
 --   acknowledges s n == n is S+1 and an answer is pending: it "removes it and moves S on"
---   good_number s n   == "N(R) must be S, or S+1 where an answer is pending"
+--   good_number s n  == "N(R) must be S, or S+1 where an answer is pending"
 --   accepts s n      == an I-frame with N(S) = n is accepted, after a good N(R)
 --   taken s          == s with R moved on
---   counts_of s       == 2·V(S) + 32·R
+--   counts_of s      == 2·V(S) + 32·R
 -- Assumes nothing.
 use Rattle.std.specs.Prelude.{Bool, true, false, cond, not, ◌&&◌, ◌||◌, ℕ, ◌+◌, ◌*◌, ◌%◌, eqb}
 use Rattle.control.specs.Control.{next_of}

@@ -1,7 +1,7 @@
 -- The three link states. 01, "The link".
 --   begun d          == a first session: "All start at 0 and none", the frame limit stays; released d == the session's end
 --   renewed d        == a new session after one that ends by it
---   on_snrm d l       == the device d after SNRM in the link state l
+--   on_snrm d l      == the device d after SNRM in the link state l
 --   ua, dm           == what is said of SNRM, and of DISC in a session; what else is said in AddressAssigned
 --   rejected d s c w == FRMR for the control c and the reason w: "The link falls to AddressAssigned"
 --   informed_by d s n r p, polled_by d s r, paused_by d s r == an I-frame, RR, RNR with the good N(R) = r

@@ -1,6 +1,6 @@
 -- What is said of a frame that is not carried out, and an answer that becomes pending. 01, "The link".
---   resent s          == the pending answer again, else RR
---   awaiting s p      == the session s with p pending
+--   resent s           == the pending answer again, else RR
+--   awaiting s p       == the session s with p pending
 --   answers_with t s p == the station t with the payload p as the pending answer of its session s
 -- Assumes nothing.
 use Rattle.std.specs.Prelude.{cond}

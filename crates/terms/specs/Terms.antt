@@ -1,13 +1,13 @@
 -- The words of the bench's answers, a case for each. docs/BENCH.md: its table, and "`show`".
---   name_of w         == the word w with full stops behind it; letters_of x == what the name x has before its first
---   fault_word f      == a line with the fault f
---   reply_word x      == the answer x of the row of devices; outcome_word x, said_word x == its parts
---   handed_word c x   == the command c, of `probe`, `decode`, `write`, `decode-n` and `write-n`, that was to hand out octets
+--   name_of w        == the word w with full stops behind it; letters_of x == what the name x has before its first
+--   fault_word f     == a line with the fault f
+--   reply_word x     == the answer x of the row of devices; outcome_word x, said_word x == its parts
+--   handed_word c x  == the command c, of `probe`, `decode`, `write`, `decode-n` and `write-n`, that was to hand out octets
 --                       and answers x; given_word c == where it did
---   heard_word x      == what a call of the receiver told, x
---   end_word s        == a scan that stands at s; behind_of s == how many words stand behind its count
+--   heard_word x     == what a call of the receiver told, x
+--   end_word s       == a scan that stands at s; behind_of s == how many words stand behind its count
 --   link_word, pending_word, drive_word == LINK, PENDING and DRIVE of `show`, up to a number or octets
---   word_of t         == the word for t
+--   word_of t        == the word for t
 -- Assumes nothing.
 use Rattle.std.specs.Prelude.{cond, List, ℕ, eqb, replicate, take}
 use Prim.Native.Char.{code}

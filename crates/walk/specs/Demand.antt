@@ -1,11 +1,11 @@
 -- Demand 3, over the depth d of the identities, the length cap of the list, the limit and the beginning `base` that a
 -- scan starts from. Here they are 152, 32, any, and none.
---   BitBus            == demand 3's premises: the identities present, no two alike, and a probe is heard exactly when
---                     one of them begins with what it asks
+--   BitBus                 == demand 3's premises: the identities present, no two alike, and a probe is heard exactly
+--                             when one of them begins with what it asks
 --   Ordered ids all        == all has the identities, each once, ascending
 --   Shorter d ids shorter  == shorter has each beginning of 0 to d - 1 bits that an identity has, once
---   AsksNext p s       == the walk s asks p
---   AnyEnd         == what a walk comes to by any answers at all; BusEnd == what it comes to on a bus
+--   AsksNext p s           == the walk s asks p
+--   AnyEnd                 == what a walk comes to by any answers at all; BusEnd == what it comes to on a bus
 -- Assumes nothing.
 use Rattle.std.specs.Prelude.{◌≡◌, Bool, true, ◌↔◌, ◌⊎◌, ℕ, ◌+◌, ◌*◌, ◌≤◌, ◌<◌, min, length, take, get_or}
 use mathlib.Core.List.{List, [], ◌++◌, map, Memᴰ}

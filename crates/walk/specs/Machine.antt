@@ -1,7 +1,7 @@
 -- The walk as a machine that takes one answer at a time. Beginnings are counted from where the walk starts; `name p`
 -- is what its list holds for the identity p, `depth` the bits of an identity, `cap` the length of the list.
 --   next p         == the beginning that is asked once all below p is done
---   zero_half p     == p is the 0 half of something
+--   zero_half p    == p is the 0 half of something
 --   Phase          == where a walk stands: `asking p quiet doubt`, or one of the four ends
 --                     p is the next beginning to ask; quiet: p is a 1 half whose 0 half was silent;
 --                     doubt: some heard beginning had both halves silent

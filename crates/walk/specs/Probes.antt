@@ -2,7 +2,7 @@
 --   hit p         == the probe of p, which has all the bits and is heard: an identity
 --   pass p        == the probe of p, any other
 --   order d p     == the probes from the beginning p on, in their order, d bits deep
---   beginnings_of  == the beginnings that are asked; hits == the identities that are heard
+--   beginnings_of == the beginnings that are asked; hits == the identities that are heard
 --   place n ms    == the place, counted from 1, of the heard identity that has n before it; all of ms if there is none
 --   Doubt d p     == a heard beginning had both halves silent
 -- Assumes nothing.

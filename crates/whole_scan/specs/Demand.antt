@@ -1,5 +1,5 @@
 -- Demand 3, in octets and of the record that the code makes, from `fresh limit` on.
---   probes_each            == the most probes that an identity takes, besides the first: two for each of its 152 bits
+--   probes_each           == the most probes that an identity takes, besides the first: two for each of its 152 bits
 --   OctetBus ids heard    == demand 3's premises: padded identities, no two alike, and a probe is heard exactly when
 --                            one of them, masked as a scan masks it, equals what the probe asks for
 --   IdentityBus ids heard == the same of allowed identities, not padded

@@ -1,9 +1,10 @@
 -- The group of scans and assignments: its octet and its five identifiers, and what is given of them, by name. 01, "XID:
 -- scan and assignment".
 --   group_octet   == 0xF0; identity_id, address_id, mask_id, kind_id, vendor_id == the identifiers 1, 2, 3, 4, 6
---   addressing   == the group: 0xF0, and the table of its identifiers with their lengths
+--   addressing    == the group: 0xF0, and the table of its identifiers with their lengths
 --   values_of ps  == what the parameters ps give, by name: the five `Values`
---   part_for n s  == the part of the identifier n among the parts s that a walk found; parts_by s == of all five, by name
+--   part_for n s  == the part of the identifier n among the parts s that a walk found;
+--                    parts_by s == of all five, by name
 --   values_at m f == the octets of the parts f, by name
 -- Assumes nothing.
 use Rattle.std.specs.Prelude.{List, [], ◌∷◌, ℕ}

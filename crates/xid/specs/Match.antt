@@ -5,18 +5,18 @@
 --   is_assignment w      == w is an assignment: "2 present, 3 absent"; assignment_shape == the same of what is given
 --   scan_matches i w     == the scan w is answered by the identity i
 --   address_of w         == the address value; `addressed` says whether it is 1 to 254
---   rightmost k s       == the k right-most octets of s
+--   rightmost k s        == the k right-most octets of s
 --   ends_with s t        == t isn't longer than s and equals its right-most octets
 --   identity_matches i x == "If 1 is given": its value x is the end of the identity i
---   any_type, any_vendor  == the wild cards of an assignment, 0xFF and 0xFF 0xFF
+--   any_type, any_vendor == the wild cards of an assignment, 0xFF and 0xFF 0xFF
 --   any_or any own v     == the value v is the wild card, or the device's own
 --   kind_matches x       == "If 4 .. is given": its value x matches the device's type
 --   vendor_matches i x   == "If .. 6 is given": its value x matches the vendor of the identity i
 -- Why a device does not answer is the first that holds of ten conditions, in this order; the number of a row is its
 -- place. The first three, of the frame, stand in link/specs/Xids: 1 its size, 2 its address octet, 3 its control.
---   malformed m         == 4: the payload m is not well formed: no_params of what is read in it
+--   malformed m          == 4: the payload m is not well formed: no_params of what is read in it
 --   values_in m          == the values in the payload m, none given where it is malformed
---   neither w           == 5: w is no scan and no assignment
+--   neither w            == 5: w is no scan and no assignment
 --   bad_address w        == 6: an assignment, and its address value is not 1 to 254
 --   other_identity i w   == 7: an assignment, and the identity in it is not the end of i
 --   other_type w         == 8: an assignment, of another type

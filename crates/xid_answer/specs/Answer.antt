@@ -2,10 +2,11 @@
 --   scan_params i a     == the parameters of the answer to a scan, from the address a; scan_answer i a == its payload
 --   assignment_params i == those of the answer to an assignment; assignment_answer i == its payload
 --   if_asked b p ps     == the parameter p, where it was asked, in front of ps
---   length_value N      == the I-field length of the frame limit N, in bits, as two octets; window_value == a window of 1
+--   length_value N      == the I-field length of the frame limit N, in bits, as two octets;
+--                          window_value == a window of 1
 --   negotiation_params a N == the parameters of the answer to a negotiation that asked a, with the frame limit N;
---                         negotiation_answer a N == its payload
---   opening o k        == the three octets before the triples, of the group's octet o, with the length k
+--                          negotiation_answer a N == its payload
+--   opening o k         == the three octets before the triples, of the group's octet o, with the length k
 -- Assumes nothing.
 use Rattle.std.specs.Prelude.{Bool, cond, List, [], ◌∷◌, ℕ, ◌*◌}
 use Rattle.octets.specs.Octets.{low_of, high_of}
