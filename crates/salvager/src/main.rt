@@ -249,7 +249,7 @@ fn salvage_file(
 fn main(rt: HostRuntime) -> io::Result<()> {
     let words: Vec<String> = match env::args(&rt) {
         Ok(args) => args.collect(rt.alloc())?,
-        Err(e) => return fail(&rt, "a word", "cannot be read", &e, "refused"),
+        Err(_) => return refuse(&rt, "the words are text in UTF-8"),
     };
     let count = words.len();
     if count < 3 {
