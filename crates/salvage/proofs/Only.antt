@@ -61,9 +61,9 @@ all_three e f g = rw (e, f, g)
 pub new-only : Settles new-reads.Learnt
 new-only κs a r q s t = only
 
-pub read_only : SettlesAll {O = List ℕ × List ℕ × List ℕ} read-reads.Learnt
+pub read-only : SettlesAll {O = List ℕ × List ℕ × List ℕ} read-reads.Learnt
     (λ κs s. (s.1.1.1.0.now, s.1.1.1.1.0.now, s.1.1.1.1.1.0.now))
-read_only κs a r q s t x y =
+read-only κs a r q s t x y =
     let z = salvages-only x y in
     (z.0, all_three z.1 z.2 z.3)
 
