@@ -1,6 +1,7 @@
 # For ./bench and ./salvage, which read it: proves the program that they run where it is missing or older than its sources, and
 # runs it. They set: root, the project's folder; tool, their own name; crate, the program's crate.
 program=$root/target/bin/$crate
+made=$root/crates/$crate/out/$crate
 log=$root/target/proving.txt
 begun=$root/target/proving.begun
 
@@ -10,7 +11,7 @@ fail() { # STATUS SENTENCE
 }
 
 stale() {
-    [ ! -x "$program" ] || [ -n "$(find "$root/crates.txt" "$root/crates" -newer "$program" \
+    [ ! -x "$program" ] || [ -n "$(find "$root/crates.txt" "$root/crates" -path '*/out' -prune -o -newer "$program" \
         \( -name '*.rt' -o -name '*.antt' -o -name crates.txt \) -print -quit)" ]
 }
 
@@ -49,17 +50,22 @@ prove() {
     done < "$root/figures.d/gate.txt"
     mkdir -p "$root/target"
     touch "$begun"
-    (cd "$root" && rt check "$crate") 2>&1 < /dev/null | tee "$log" | while tell; read -r line; do
-        [[ ! $line =~ ^rt:\ ([a-z_]+)\ proved ]] || proved[${BASH_REMATCH[1]}]=1
+    # `rt` proves and builds what the crate stands on and the crate, and runs the program on nothing.
+    (cd "$root/crates/$crate" && rt run) 2>&1 < /dev/null | tee "$log" | while tell; read -r line; do
+        [[ ! $line =~ ^crate\ ([a-z0-9_]+):\  ]] || proved[${BASH_REMATCH[1]}]=1
     done
     status=${PIPESTATUS[0]}
     [ ! -t 2 ] || printf '\r\033[K' >&2
     if [ "$status" -ne 0 ]; then
         tail -n 12 "$log" >&2
-        fail 1 "'rt check $crate' failed; all that it said: $log"
+        fail 1 "'rt run' in crates/$crate failed; all that it said: $log"
     fi
-    # As old as the proof's beginning: a source that changed while it ran is newer. `rt` leaves a program alone that is
-    # the same again, and writes another one at the end.
+    # Under its name at once, since another run may be at the one that is there.
+    if [ -x "$made" ]; then
+        mkdir -p "${program%/*}"
+        cp "$made" "$program.new" && mv -f "$program.new" "$program" || fail 1 "$program could not be written"
+    fi
+    # As old as the proof's beginning: a source that changed while it ran is newer.
     touch -c -r "$begun" "$program"
 }
 

@@ -1,6 +1,6 @@
 /*
- * gorittaem.h: the proved frame codec and the receiver of a live line, for programs in C99. Link libcapi.a (`rt staticlib
- * capi`), for x86-64 Linux.
+ * gorittaem.h: the proved frame codec and the receiver of a live line, for programs in C99. Link libcapi.a (./archive
+ * makes it), for x86-64 Linux.
  *
  * Octets are lent: a pointer and how many of them. What it points to must be readable (an output: writable) for the whole
  * number, and no octet of an output may also be one of an input. Where the number is 0, nothing is read or written, and the

@@ -1,5 +1,5 @@
 -- A number among the words, digit by digit. Assumes nothing.
-use Rattle.std.proofs.Common.{◌≡◌, ℕ, ◌+◌, ◌-◌, ◌*◌, ◌<◌, ◌≤◌, min, List, [], ◌∷◌, length, get_or, drop, sym, refl, ap, ◌∙◌, arith, drop_of_length-le, le-ltb, lt-ltb}
+use Rattle.std.proofs.Common.{◌≡◌, ℕ, ◌+◌, ◌-◌, ◌*◌, ◌<◌, ◌≤◌, min, List, ◌∷◌, length, get_or, drop, sym, ap, ◌∙◌, drop_of_length-le, le-ltb, lt-ltb}
 use Rattle.octets.proofs.Rest.{rest}
 use Rattle.salvager.specs.Words.{number_after, number_in}
 

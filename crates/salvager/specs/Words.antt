@@ -3,7 +3,7 @@
 --                      0 where s has anything else
 --   number_in s      == that of s alone
 -- Assumes nothing.
-use Rattle.std.specs.Prelude.{ℕ, ◌+◌, ◌-◌, ◌*◌, min, cond, ◌||◌, List, [], ◌∷◌, nat_lt}
+use Rattle.std.specs.Prelude.{ℕ, ◌+◌, ◌-◌, ◌*◌, min, cond, List, [], ◌∷◌, nat_lt}
 
 unfoldable pub number_after : ℕ → List ℕ → ℕ
 number_after n [] = n

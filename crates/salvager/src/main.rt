@@ -4,12 +4,15 @@
 // Of what is read and written no promise can speak: but for the number among its words (specs/), all here is proved safe and
 // ending, and .ci/captures holds what it does to the second program.
 #![tactic(auto)]
+
 mod words;
 
-use libc::{STDERR_FILENO, STDOUT_FILENO};
 use limits::LIMIT_MOST;
 use receiver::PLACES;
 use salvage::{Listing, OpenStretch, RAW, SPARE, Salvage, Stretch, Totals};
+use std::fs::File;
+use std::io::{IsTerminal, Read, Write};
+use std::{env, fs, io};
 
 // Octets read at a time, and the output that the library asks for such a run.
 const RUN: usize = 65536;
@@ -19,100 +22,79 @@ const ROOM: usize = RUN + SPARE;
 // Runs from one progress line to the next: 268 MB.
 const SOON: u64 = 4096;
 
-// How it stands: well; well, and at the end of CAPTURE; or CAPTURE, GOOD or the list has failed.
-#[derive(Clone, Copy)]
-enum State {
-    Well,
-    Over,
-    Unread,
-    Unwritten,
-    Unlisted,
-}
-
-// The record, and how it stands.
-#[derive(Clone, Copy)]
-struct Step {
-    salvage: Salvage,
-    state: State,
-}
-
-fn stands(salvage: Salvage, state: State) -> Step {
-    Step { salvage, state }
+// What has failed, CAPTURE, GOOD or the list, and why.
+#[derive(Drop)]
+enum Failure {
+    Unread(io::Error),
+    Unwritten(io::Error),
+    Unlisted(io::Error),
 }
 
 // ---- what is said
 
 // A stretch that was left out, as a line of the list.
-fn list(stretch: Stretch) -> bool {
-    let mut line = [0u8; words::LINE];
-    let mut at = words::put_number(&mut line, 0, stretch.offset, b' ');
-    at = words::put_number(&mut line, at, stretch.length, b' ');
-    at = words::put_number(&mut line, at, stretch.number as u64, b'\n');
-    io::write_all(STDOUT_FILENO, words::line(&line, at))
-}
-
-fn say(text: &[u8], number: u64) {
-    io::write_all(STDOUT_FILENO, text);
-    io::print_decimal(STDOUT_FILENO, number);
+fn list(rt: &impl Print, stretch: Stretch) -> io::Result<()> {
+    let offset = stretch.offset;
+    let length = stretch.length;
+    let number = stretch.number;
+    println!(rt; "{offset} {length} {number}")
 }
 
 // The last line, where all went well.
-fn say_totals(totals: Totals, octets: u64) {
-    say(b"kept ", totals.frames);
-    say(b" frames ", totals.kept);
-    say(b" octets, ", totals.flags);
-    say(b" flags, dropped ", totals.stretches);
-    say(b" stretches ", totals.dropped);
-    say(b" octets, of ", octets);
-    io::write_all(STDOUT_FILENO, b"\n");
+fn say_totals(rt: &impl Print, totals: Totals, octets: u64) -> io::Result<()> {
+    let frames = totals.frames;
+    let kept = totals.kept;
+    let flags = totals.flags;
+    let stretches = totals.stretches;
+    let dropped = totals.dropped;
+    println!(rt;
+        "kept {frames} frames {kept} octets, {flags} flags, dropped {stretches} stretches {dropped} octets, of {octets}"
+    )
 }
 
-fn complain(text: &[u8]) {
-    io::write_all(STDERR_FILENO, text);
-}
-
-// A sentence about a file, with the system's reason, and how it ended.
-fn fail(name: &[u8], what: &[u8], end: &[u8]) {
-    complain(b"salvage: ");
-    complain(name);
-    os::fail(what);
-    io::write_all(STDOUT_FILENO, end);
+// A sentence about a file, with the system's reason, and how it ended. Whether anyone reads the sentence changes nothing.
+fn fail(
+    rt: &(impl Print + Eprint),
+    name: &str,
+    what: &str,
+    reason: &io::Error,
+    end: &str,
+) -> io::Result<()> {
+    let _ = eprintln!(rt; "salvage: {name} {what}: {reason}");
+    rt.println(end)
 }
 
 // A sentence about the words, and how it ended.
-fn refuse(sentence: &[u8]) {
-    complain(b"salvage: ");
-    complain(sentence);
-    complain(b"\n");
-    io::write_all(STDOUT_FILENO, b"refused\n");
+fn refuse(rt: &(impl Print + Eprint), sentence: &str) -> io::Result<()> {
+    let _ = eprintln!(rt; "salvage: {sentence}");
+    rt.println("refused")
 }
 
 // How far it is, at a terminal.
-fn tell(turns: u64, stretch: OpenStretch) {
-    if turns % SOON != 0 {
+fn tell(rt: &HostRuntime, turn: u64, stretch: OpenStretch) {
+    if turn % SOON != SOON - 1 {
         return;
     }
-    if libc::isatty(STDERR_FILENO) == 0 {
+    if !rt.stderr().is_terminal() {
         return;
     }
-    let octets = std::num::wrapping_add_u64(stretch.offset, stretch.length);
-    complain(b"salvage: ");
-    io::print_decimal(STDERR_FILENO, octets / 1000000);
-    complain(b" MB read\n");
+    let read = std::num::wrapping_add_u64(stretch.offset, stretch.length) / 1000000;
+    let _ = eprintln!(rt; "salvage: {read} MB read");
 }
 
 // ---- the work
 
 // Works through a run: what a call writes goes to GOOD, and what it leaves out is listed.
 fn sift(
+    rt: &impl Print,
     salvage: Salvage,
     limit: usize,
     run: &[u8],
     store: &mut [u8; PLACES],
     raw: &mut [u8; RAW],
     out: &mut [u8; ROOM],
-    good: i32,
-) -> Step {
+    good: &mut File,
+) -> Result<Salvage, Failure> {
     let mut s = salvage;
     let mut at = 0;
     while at < run.len() {
@@ -121,193 +103,169 @@ fn sift(
         let n = octets::fewer(told.taken, run.len() - at);
         if n == 0 {
             // no such call is refused (crate capture)
-            return stands(s, State::Unwritten);
+            return Err(Failure::Unwritten(io::Error::other("a run is refused")));
         }
         at += n;
-        if !io::write_all(good, octets::part(out, 0, told.written)) {
-            return stands(s, State::Unwritten);
-        }
-        let listing = told.listing;
-        if !listed(listing) {
-            return stands(s, State::Unlisted);
-        }
+        put(good, octets::part(out, 0, told.written))?;
+        listed(rt, told.listing)?;
     }
-    stands(s, State::Well)
+    Ok(s)
 }
 
-// Whether all that is to be listed was.
-fn listed(listing: Listing) -> bool {
+fn put(good: &mut File, octets: &[u8]) -> Result<(), Failure> {
+    match good.write_all(octets) {
+        Ok(()) => Ok(()),
+        Err(e) => Err(Failure::Unwritten(e)),
+    }
+}
+
+// Lists what is to be listed.
+fn listed(rt: &impl Print, listing: Listing) -> Result<(), Failure> {
     match listing {
-        Listing::Nothing => true,
-        Listing::LeftOut(stretch) => list(stretch),
-        Listing::Refused(_) => false,
+        Listing::Nothing => Ok(()),
+        Listing::LeftOut(stretch) => match list(rt, stretch) {
+            Ok(()) => Ok(()),
+            Err(e) => Err(Failure::Unlisted(e)),
+        },
+        Listing::Refused(_) => Err(Failure::Unlisted(io::Error::other("a call is refused"))),
     }
 }
 
-fn is_well(state: State) -> bool {
-    match state {
-        State::Well => true,
-        State::Over => false,
-        State::Unread => false,
-        State::Unwritten => false,
-        State::Unlisted => false,
-    }
-}
-
-fn is_over(state: State) -> bool {
-    match state {
-        State::Well => false,
-        State::Over => true,
-        State::Unread => false,
-        State::Unwritten => false,
-        State::Unlisted => false,
-    }
-}
-
-// The next run.
+// The next run; none at the end of CAPTURE.
 fn read_some(
+    rt: &impl Print,
     salvage: Salvage,
     limit: usize,
-    from: i32,
+    from: &mut File,
     run: &mut [u8; RUN],
     store: &mut [u8; PLACES],
     raw: &mut [u8; RAW],
     out: &mut [u8; ROOM],
-    good: i32,
-) -> Step {
-    let got = libc::read(from, run);
-    if got < 0 {
-        return stands(salvage, State::Unread);
-    }
-    let n = io::count(got, run);
+    good: &mut File,
+) -> Result<Option<Salvage>, Failure> {
+    let n = match from.read(run) {
+        Ok(n) => n,
+        Err(e) => return Err(Failure::Unread(e)),
+    };
     if n == 0 {
-        return stands(salvage, State::Over);
+        return Ok(None);
     }
-    sift(
-        salvage,
-        limit,
-        octets::part(run, 0, n),
-        store,
-        raw,
-        out,
-        good,
-    )
+    let run = octets::part(run, 0, n);
+    Ok(Some(sift(rt, salvage, limit, run, store, raw, out, good)?))
 }
 
 // Reads the capture to its end. A proved loop has to end, and nothing says that a file does.
-fn read_all(from: i32, good: i32, limit: usize) -> Step {
+fn read_all(
+    rt: &HostRuntime,
+    from: &mut File,
+    good: &mut File,
+    limit: usize,
+) -> Result<Salvage, Failure> {
     let mut s = salvage::new();
     let mut store = [0u8; PLACES];
     let mut raw = [0u8; RAW];
     let mut run = [0u8; RUN];
     let mut out = [0u8; ROOM];
-    let mut turns = u64::MAX;
-    while 0 < turns {
-        turns -= 1;
-        let step = read_some(
-            s, limit, from, &mut run, &mut store, &mut raw, &mut out, good,
-        );
-        let state = step.state;
-        if !is_well(state) {
-            return step;
+    for turn in 0..u64::MAX {
+        match read_some(
+            rt, s, limit, from, &mut run, &mut store, &mut raw, &mut out, good,
+        )? {
+            None => return Ok(s),
+            Some(next) => s = next,
         }
-        s = step.salvage;
-        let stretch = s.stretch;
-        tell(turns, stretch);
+        tell(rt, turn, s.stretch);
     }
-    stands(s, State::Unread)
+    Err(Failure::Unread(io::Error::other("no end was found")))
 }
 
 // Behind the last octet: what is open is listed, and GOOD is on its disk.
-fn close(step: Step, good: i32) -> Step {
-    let state = step.state;
-    if !is_over(state) {
-        return step;
+fn close(rt: &impl Print, salvage: Salvage, good: &File) -> Result<Salvage, Failure> {
+    let finished = salvage::finish(salvage);
+    listed(rt, finished.listing)?;
+    match good.sync_all() {
+        Ok(()) => Ok(finished.salvage),
+        Err(e) => Err(Failure::Unwritten(e)),
     }
-    let finished = salvage::finish(step.salvage);
-    let salvage = finished.salvage;
-    let listing = finished.listing;
-    if !listed(listing) {
-        return stands(salvage, State::Unlisted);
-    }
-    if libc::fsync(good) < 0 {
-        return stands(salvage, State::Unwritten);
-    }
-    stands(salvage, State::Over)
-}
-
-// GOOD gets its name.
-fn give_name(totals: Totals, octets: u64, good: &[u8], beside: &[u8]) {
-    if os::rename(beside, good) < 0 {
-        fail(good, b" cannot be written", b"failed\n");
-        os::unlink(beside);
-        return;
-    }
-    say_totals(totals, octets);
-}
-
-// Why it has failed; what was written of GOOD is gone.
-fn give_up(state: State, capture: &[u8], good: &[u8], beside: &[u8]) {
-    match state {
-        State::Well => {}
-        State::Over => {}
-        State::Unread => fail(capture, b" cannot be read to its end", b"failed\n"),
-        State::Unwritten => fail(good, b" cannot be written", b"failed\n"),
-        State::Unlisted => fail(b"the list", b" cannot be written", b"failed\n"),
-    }
-    os::unlink(beside);
 }
 
 // Reads and writes files that are open, and ends.
-fn work(from: i32, to: i32, limit: usize, capture: &[u8], good: &[u8], beside: &[u8]) {
-    let step = close(read_all(from, to, limit), to);
-    let state = step.state;
-    let salvage = step.salvage;
-    libc::close(from);
-    libc::close(to);
-    if !is_over(state) {
-        return give_up(state, capture, good, beside);
-    }
-    let stretch = salvage.stretch;
-    give_name(salvage.totals, stretch.offset, good, beside);
+fn work(rt: &HostRuntime, from: File, to: File, limit: usize) -> Result<Salvage, Failure> {
+    let mut from = from;
+    let mut to = to;
+    let salvage = read_all(rt, &mut from, &mut to, limit)?;
+    close(rt, salvage, &to)
 }
 
-fn salvage_file(limit: usize, capture: &[u8], good: &[u8], beside: &[u8]) {
-    let from = os::open_read(capture);
-    if from < 0 {
-        return fail(capture, b" cannot be opened", b"refused\n");
+// GOOD gets its name.
+fn give_name(rt: &HostRuntime, salvage: Salvage, good: &str, beside: &str) -> io::Result<()> {
+    if let Err(e) = fs::rename(rt, beside, good) {
+        let _ = fs::remove_file(rt, beside);
+        return fail(rt, good, "cannot be written", &e, "failed");
     }
-    let to = os::create(beside);
-    if to < 0 {
-        fail(beside, b" cannot be made", b"failed\n");
-        libc::close(from);
-        return;
-    }
-    work(from, to, limit, capture, good, beside);
+    say_totals(rt, salvage.totals, salvage.stretch.offset)
 }
 
-fn main() {
-    let count = os::arg_count();
+// Why it has failed; what was written of GOOD is gone.
+fn give_up(
+    rt: &HostRuntime,
+    failure: Failure,
+    capture: &str,
+    good: &str,
+    beside: &str,
+) -> io::Result<()> {
+    let _ = fs::remove_file(rt, beside);
+    match failure {
+        Failure::Unread(e) => fail(rt, capture, "cannot be read to its end", &e, "failed"),
+        Failure::Unwritten(e) => fail(rt, good, "cannot be written", &e, "failed"),
+        Failure::Unlisted(e) => fail(rt, "the list", "cannot be written", &e, "failed"),
+    }
+}
+
+fn salvage_file(
+    rt: &HostRuntime,
+    limit: usize,
+    capture: &str,
+    good: &str,
+    beside: &str,
+) -> io::Result<()> {
+    let from = match File::open(rt, capture) {
+        Ok(from) => from,
+        Err(e) => return fail(rt, capture, "cannot be opened", &e, "refused"),
+    };
+    let to = match File::options()
+        .write(true)
+        .create_new(true)
+        .open(rt, beside)
+    {
+        Ok(to) => to,
+        Err(e) => return fail(rt, beside, "cannot be made", &e, "failed"),
+    };
+    match work(rt, from, to, limit) {
+        Ok(salvage) => give_name(rt, salvage, good, beside),
+        Err(failure) => give_up(rt, failure, capture, good, beside),
+    }
+}
+
+fn main(rt: HostRuntime) -> io::Result<()> {
+    let words: Vec<String> = match env::args(&rt) {
+        Ok(args) => args.collect(rt.alloc())?,
+        Err(_) => return refuse(&rt, "the words are text in UTF-8"),
+    };
+    let count = words.len();
     if count < 3 {
-        return refuse(b"two names are asked for, CAPTURE and GOOD");
+        return refuse(&rt, "two names are asked for, CAPTURE and GOOD");
     }
     if 4 < count {
-        return refuse(b"two names and a frame limit are all that is asked for");
+        return refuse(&rt, "two names and a frame limit are all that is asked for");
     }
-    let capture = words::argument(1);
-    let good = words::argument(2);
-    let limit = words::limit(count, LIMIT_MOST);
+    let limit = words::limit(words.get(3), LIMIT_MOST);
     if !limits::is_limit(limit) {
-        return refuse(b"a frame limit is a number from 78 to 260");
+        return refuse(&rt, "a frame limit is a number from 78 to 260");
     }
-    let beside = words::beside(good);
-    if beside.len == 0 {
-        return refuse(b"GOOD is a name, and this one is empty or too long");
+    let good = words[2].as_str();
+    if !words::is_name(good) {
+        return refuse(&rt, "GOOD is a name, and this one is empty or too long");
     }
-    salvage_file(
-        limit,
-        octets::part(&capture.octets, 0, capture.len),
-        octets::part(&good.octets, 0, good.len),
-        octets::part(&beside.octets, 0, beside.len),
-    );
+    let beside = words::beside(rt.alloc(), good)?;
+    salvage_file(&rt, limit, words[1].as_str(), good, beside.as_str())
 }
