@@ -3,6 +3,8 @@
 // and what the commands do is the libraries', and so is each word of an answer (`terms`); here are the row of devices, the
 // scan by hand and the receiver that the bench holds. A function that hands back a value promises which (specs/); one that
 // only prints is proved safe and ending, since no promise can speak of what standard output gets.
+// Where standard input or output fails, its error is handed on and ends the program: no other error comes, and nothing is left
+// behind by it, since each value is handed in whole.
 #![tactic(auto)]
 
 mod answers;
