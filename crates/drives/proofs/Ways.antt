@@ -17,7 +17,6 @@ use Rattle.record.specs.declared.Device.{Device}
 use Rattle.record.specs.Fresh.{fresh_of, blank_device}
 use Rattle.record.specs.Allowed.{allowed_device, limit_of}
 use Rattle.record.specs.Changes.{event_rows, happened}
-use Rattle.device.specs.declared.Said.{Said}
 use Rattle.device.specs.declared.Judged.{Judged}
 use Rattle.device.specs.Judge.{Reaction, judged, heard, Judges}
 use Rattle.bus.specs.declared.Row.{Row}

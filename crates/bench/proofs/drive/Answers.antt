@@ -1,7 +1,6 @@
 -- `drive` meets its promise: the row of the command. Assumes nothing.
 use Rattle.bench.specs.Bench.{lent_of}
 use Rattle.bench.proofs.Laws.{driven-is}
-use borrow.Author.Rules.{rules}
 use Rattle.bench.proofs.drive.Goals as goal
 
 pub returns : goal.returns

@@ -5,7 +5,6 @@ use Rattle.record.specs.declared.Device.{Device}
 use Rattle.bus.specs.Cable.{row_most}
 use Rattle.bench.specs.Bench.{no_devices}
 use Rattle.bench.proofs.Laws.{blank-left}
-use borrow.Author.Rules.{rules}
 use Rattle.bench.proofs.no_devices.Goals as goal
 
 pub returns : goal.returns

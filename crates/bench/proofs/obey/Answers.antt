@@ -1,7 +1,5 @@
 -- `obey` meets its promise: each way out, by the tests that lead to it. Assumes nothing.
-use mathlib.Core.Path.{◌∙◌}
 use Rattle.bench.proofs.Laws.{ok-same, row-driven, row-swept, row_kept}
-use borrow.Author.Rules.{rules}
 use Rattle.bench.proofs.obey.Goals as goal
 
 pub returns-then-is_driven : goal.returns-then-is_driven

@@ -1,5 +1,4 @@
 -- `play` is safe and ends: the turns that are left fall. Assumes nothing.
-use borrow.Author.Rules.{rules}
 use Rattle.bench.proofs.play.Given as goal
 
 abbrev pub invariant-loop-turns : goal.invariant-loop-turns

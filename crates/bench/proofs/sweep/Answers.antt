@@ -1,7 +1,6 @@
 -- `sweep` meets its promise: the row of the scan. Assumes nothing.
 use mathlib.Core.Path.{ap}
 use Rattle.mast.specs.declared.Swept.{Swept}
-use borrow.Author.Rules.{rules}
 use Rattle.bench.proofs.sweep.Goals as goal
 
 pub returns : goal.returns

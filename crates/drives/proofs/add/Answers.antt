@@ -5,7 +5,6 @@ use mathlib.Core.Path.{◌∙◌}
 use Rattle.refusal.specs.Answer.{outcome_of}
 use Rattle.drives.specs.Drives.{reply_of, adds}
 use Rattle.drives.proofs.Ways.{adds-open, adds-shut}
-use borrow.Author.Rules.{rules}
 use Rattle.drives.proofs.add.Goals as goal
 
 pub returns-then-row-ge-MOST : goal.returns-then-row-ge-MOST

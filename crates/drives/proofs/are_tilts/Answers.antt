@@ -2,7 +2,6 @@
 use Rattle.drives.specs.Drives.{are_tilts}
 use Rattle.octets.proofs.Rules.{tests}
 use mathlib.Core.Path.{sym, ◌∙◌}
-use borrow.Author.Rules.{rules}
 use Rattle.drives.proofs.are_tilts.Goals as goal
 
 pub returns-then-is_tilt-2 : goal.returns-then-is_tilt-2

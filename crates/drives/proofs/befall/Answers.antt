@@ -1,6 +1,5 @@
 -- `drives::befall` meets its promise: the event happens, and the device goes back. Assumes nothing.
 use Rattle.drives.proofs.Ways.{befalls-at}
-use borrow.Author.Rules.{rules}
 use Rattle.drives.proofs.befall.Goals as goal
 
 pub returns : goal.returns

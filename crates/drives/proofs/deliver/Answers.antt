@@ -1,6 +1,5 @@
 -- `drives::deliver` meets its promise: the device hears, and goes back. Assumes nothing.
 use Rattle.drives.proofs.Ways.{tells_at}
-use borrow.Author.Rules.{rules}
 use Rattle.drives.proofs.deliver.Goals as goal
 
 pub returns : goal.returns

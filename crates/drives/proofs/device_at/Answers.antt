@@ -2,7 +2,6 @@
 use native.Mathlib.Omega.{arith}
 use Rattle.record.specs.Fresh.{blank_device}
 use Rattle.drives.proofs.Ways.{stands}
-use borrow.Author.Rules.{rules}
 use Rattle.drives.proofs.device_at.Goals as goal
 
 pub returns : goal.returns

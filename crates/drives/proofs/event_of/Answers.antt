@@ -4,7 +4,6 @@ use mathlib.Core.Path.{sym}
 use native.Mathlib.Omega.{arith}
 use Rattle.drives.specs.Drives.{event_of}
 use Rattle.drives.proofs.Ways.{alarm-octet}
-use borrow.Author.Rules.{rules}
 use Rattle.drives.proofs.event_of.Goals as goal
 
 pub returns-then-command-eq-STOPPED : goal.returns-then-command-eq-STOPPED

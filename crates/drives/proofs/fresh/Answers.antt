@@ -1,6 +1,5 @@
 -- `drives::fresh` meets its promise: the texts and the tilts of its words. Assumes nothing.
 use Rattle.drives.proofs.Ways.{fresh-by}
-use borrow.Author.Rules.{rules}
 use Rattle.drives.proofs.fresh.Goals as goal
 
 pub returns : goal.returns

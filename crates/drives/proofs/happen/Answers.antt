@@ -4,7 +4,6 @@ use Rattle.refusal.specs.declared.Refusal.TheVariants.{NotAllowed, CannotBe}
 use Rattle.refusal.proofs.Answers.{unchanged, changes-is}
 use Rattle.record.specs.Changes.{happened}
 use Rattle.drives.proofs.Ways.{happens-event, happens-never, happens-not}
-use borrow.Author.Rules.{rules}
 use Rattle.drives.proofs.happen.Goals as goal
 
 pub event_of-requires : goal.event_of-requires

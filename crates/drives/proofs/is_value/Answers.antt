@@ -2,7 +2,6 @@
 use Rattle.octets.proofs.Rules.{tests}
 use mathlib.Core.Path.{sym}
 use Rattle.drives.specs.Drives.{is_value}
-use borrow.Author.Rules.{rules}
 use Rattle.drives.proofs.is_value.Goals as goal
 
 pub returns-then-command-eq-STOPPED : goal.returns-then-command-eq-STOPPED

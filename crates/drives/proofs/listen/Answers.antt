@@ -1,7 +1,6 @@
 -- `drives::listen` meets its promise: each way out, by the test that leads to it. Assumes nothing.
 use native.Mathlib.Omega.{arith}
 use Rattle.drives.proofs.Ways.{listens-frame, listens-line}
-use borrow.Author.Rules.{rules}
 use Rattle.drives.proofs.listen.Goals as goal
 
 pub returns-then-command-eq-FRAME : goal.returns-then-command-eq-FRAME

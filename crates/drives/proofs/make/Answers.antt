@@ -1,7 +1,6 @@
 -- `drives::make` meets its promise: a refused device takes no number. Assumes nothing.
 use Rattle.drives.specs.Drives.{reply_of, fresh_with}
 use Rattle.drives.proofs.Ways.{added-refused, added-done}
-use borrow.Author.Rules.{rules}
 use Rattle.drives.proofs.make.Goals as goal
 
 pub returns-in-Refused : goal.returns-in-Refused

@@ -1,7 +1,6 @@
 -- `drives::tell_limit` meets its promise: the one way out. Assumes nothing.
 use Rattle.drives.specs.Drives.{reply_of}
 use Rattle.drives.proofs.Ways.{limit-at}
-use borrow.Author.Rules.{rules}
 use Rattle.drives.proofs.tell_limit.Goals as goal
 
 pub returns : goal.returns

@@ -1,6 +1,5 @@
 -- `drives::tilt_of` meets its promise: the tilt of the two octets. Assumes nothing.
 use Rattle.drives.specs.Drives.{tilt_of}
-use borrow.Author.Rules.{rules}
 use Rattle.drives.proofs.tilt_of.Goals as goal
 
 pub returns : goal.returns

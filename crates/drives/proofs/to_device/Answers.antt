@@ -6,7 +6,6 @@ use mathlib.Core.Path.{◌∙◌}
 use Rattle.drives.specs.Drives.{reply_of}
 use Rattle.drives.proofs.Ways.{device-place, obeys-by, drives-tells, drives-state, limit-obeys, event-obeys}
 use Rattle.drives.proofs.Ways.{at-device, no-device}
-use borrow.Author.Rules.{rules}
 use Rattle.drives.proofs.to_device.Goals as goal
 
 pub overflow_sub-k : goal.overflow_sub-k

@@ -1,7 +1,6 @@
 -- `mast::ask` meets its promise: a probe that is given fills the octets lent to it. Assumes nothing.
 use mathlib.Core.Path.{refl}
 use Rattle.mast.proofs.Lines.{asks-is}
-use borrow.Author.Rules.{rules}
 use Rattle.mast.proofs.ask.Goals as goal
 
 pub returns : goal.returns

@@ -4,7 +4,6 @@ use Prim.Native.Nat.{ℕ, ◌-◌}
 use native.Mathlib.Omega.{arith}
 use lib.ListN.{take, drop}
 use Rattle.mast.proofs.Lines.{inside-none, inside-some}
-use borrow.Author.Rules.{rules}
 use Rattle.mast.proofs.inner.Goals as goal
 
 pub returns-then-end-lt2 : goal.returns-then-end-lt2

@@ -2,7 +2,6 @@
 use native.Mathlib.Omega.{arith}
 use Rattle.scan.specs.Scan.{probe_length}
 use Rattle.mast.proofs.Lines.{probe-line}
-use borrow.Author.Rules.{rules}
 use Rattle.mast.proofs.line_of.Goals as goal
 
 pub returns : goal.returns

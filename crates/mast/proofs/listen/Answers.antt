@@ -1,7 +1,6 @@
 -- `mast::listen` meets its promise: what is said is a frame exactly if the line is answered by one. Assumes nothing.
 use Rattle.mast.specs.Steps.{line_in}
 use Rattle.mast.proofs.Lines.{listens-is}
-use borrow.Author.Rules.{rules}
 use Rattle.mast.proofs.listen.Goals as goal
 
 pub returns : goal.returns

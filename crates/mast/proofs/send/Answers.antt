@@ -1,9 +1,8 @@
 -- `mast::send` meets its promise: what the devices that are left come to is what all of them come to. Assumes nothing.
-use borrow.Author.Rules.{rules}
 use mathlib.Core.Path.{refl}
 use native.Mathlib.Omega.{arith}
 use Rattle.mast.specs.Steps.{line_in}
-use Rattle.mast.proofs.Rounds.{Sending, sending-all, sending-one, sending-none}
+use Rattle.mast.proofs.Rounds.{sending-all, sending-one, sending-none}
 use Rattle.mast.proofs.send.Goals as goal
 
 pub loop-left-init : goal.loop-left-init

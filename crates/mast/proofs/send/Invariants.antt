@@ -1,9 +1,6 @@
 -- `mast::send` meets its promise: what the devices that are left come to is what all of them come to. Assumes nothing.
-use borrow.Author.Rules.{rules}
-use mathlib.Core.Path.{refl}
-use native.Mathlib.Omega.{arith}
 use Rattle.mast.specs.Steps.{line_in}
-use Rattle.mast.proofs.Rounds.{Sending, sending-all, sending-one, sending-none}
+use Rattle.mast.proofs.Rounds.{Sending}
 use Rattle.mast.proofs.send.Given as goal
 
 abbrev pub invariant-loop-left : goal.invariant-loop-left

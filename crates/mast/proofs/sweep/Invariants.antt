@@ -1,8 +1,5 @@
 -- `mast::sweep` meets its promise: what the probes that are left come to is what all of them come to. Assumes nothing.
-use borrow.Author.Rules.{rules}
-use borrow.Author.Tests.{not-true, not-false}
-use native.Mathlib.Omega.{arith}
-use Rattle.mast.proofs.Rounds.{Sweeping, sweeping-all, sweeping-one, sweeping-none, sweeping-over}
+use Rattle.mast.proofs.Rounds.{Sweeping}
 use Rattle.mast.proofs.sweep.Given as goal
 
 abbrev pub invariant-loop-probes : goal.invariant-loop-probes

@@ -3,7 +3,6 @@ use Rattle.terms.specs.Terms.{name_of, fault_word}
 use Rattle.octets.specs.Octets.{◌at_start_of◌}
 use Rattle.script.specs.Words.{spelled}
 use Rattle.octets.proofs.Rules.{tests}
-use borrow.Author.Rules.{rules}
 use Rattle.terms.proofs.fault_word.Goals as goal
 
 pub returns-in-Long : goal.returns-in-Long

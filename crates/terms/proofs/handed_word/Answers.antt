@@ -4,7 +4,6 @@ use Rattle.octets.specs.Octets.{◌at_start_of◌}
 use Rattle.script.specs.Words.{spelled}
 use Rattle.octets.proofs.Rules.{tests}
 use mathlib.Core.Path.{sym}
-use borrow.Author.Rules.{rules}
 use Rattle.terms.proofs.handed_word.Goals as goal
 
 pub returns-in-Octets : goal.returns-in-Octets

@@ -1,7 +1,6 @@
 -- `digit` meets its promise: each way out, by the test that leads to it. Assumes nothing.
 use Rattle.octets.proofs.Rules.{tests}
 use Rattle.bench.specs.Written.{digit_of}
-use borrow.Author.Rules.{rules}
 use Rattle.bench.proofs.answers.digit.Goals as goal
 
 pub returns-then-d-lt10 : goal.returns-then-d-lt10

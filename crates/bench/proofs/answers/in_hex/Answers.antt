@@ -1,9 +1,7 @@
 -- `in_hex` meets its promise: what is left to put makes the row of all. Assumes nothing.
-use mathlib.Core.Path.{◌≡◌, refl}
-use Prim.Native.Nat.{◌+◌, ◌-◌, ◌*◌, ◌≤◌}
-use lib.ListN.{take, drop}
-use lib.Seq.{sets}
-use Rattle.bench.specs.Written.{hexed, hex_row}
+use mathlib.Core.Path.{refl}
+use lib.ListN.{take}
+use Rattle.bench.specs.Written.{hex_row}
 use Rattle.bench.proofs.Laws.{hex-turn, hex-done}
 use borrow.Author.Rules.{rules}
 use native.Mathlib.Omega.{arith}

@@ -1,13 +1,9 @@
 -- `in_hex` meets its promise: what is left to put makes the row of all. Assumes nothing.
-use mathlib.Core.Path.{◌≡◌, refl}
+use mathlib.Core.Path.{◌≡◌}
 use Prim.Native.Nat.{◌+◌, ◌-◌, ◌*◌, ◌≤◌}
 use lib.ListN.{take, drop}
 use lib.Seq.{sets}
 use Rattle.bench.specs.Written.{hexed, hex_row}
-use Rattle.bench.proofs.Laws.{hex-turn, hex-done}
-use borrow.Author.Rules.{rules}
-use native.Mathlib.Omega.{arith}
-use lib.ListN.{length-take}
 use Rattle.bench.proofs.answers.in_hex.Given as goal
 
 abbrev pub invariant-loop-i : goal.invariant-loop-i

@@ -3,7 +3,6 @@ use mathlib.Core.Path.{ap, ◌∙◌}
 use Prim.Native.Nat.{ℕ}
 use lib.ListN.{take}
 use Rattle.terms.specs.Terms.{letters_of}
-use borrow.Author.Rules.{rules}
 use Rattle.bench.proofs.answers.letters.Goals as goal
 
 pub returns : goal.returns

@@ -1,7 +1,6 @@
 -- `call` meets its promise: what the receiver holds after the call. Assumes nothing.
 use Rattle.bench.specs.Bench.{ear_of, lent_of}
 use Rattle.bench.proofs.Laws.{ear-held}
-use borrow.Author.Rules.{rules}
 use Rattle.bench.proofs.ear.call.Goals as goal
 
 pub returns : goal.returns

@@ -4,7 +4,6 @@ use lib.ListN.{replicate}
 use Rattle.receiver.specs.declared.Receiver.{Receiver}
 use Rattle.receiver.specs.Held.{held_of, places}
 use Rattle.bench.specs.Bench.{fresh_ear}
-use borrow.Author.Rules.{rules}
 use Rattle.bench.proofs.ear.fresh.Goals as goal
 
 pub returns : goal.returns

@@ -2,7 +2,6 @@
 use mathlib.Core.Path.{◌∙◌}
 use Rattle.bench.specs.Bench.{ear_of}
 use Rattle.bench.proofs.Laws.{ok-same, ear-fresh, ear-called, ear-kept}
-use borrow.Author.Rules.{rules}
 use Rattle.bench.proofs.ear.hear.Goals as goal
 
 pub returns-then-command-eq-LISTEN : goal.returns-then-command-eq-LISTEN

@@ -1,7 +1,6 @@
 -- `by_limit` meets its promise: each way out, by the test that leads to it. Assumes nothing.
 use Rattle.octets.proofs.Rules.{tests}
 use mathlib.Core.Path.{sym, ◌∙◌}
-use borrow.Author.Rules.{rules}
 use Rattle.bench.proofs.handed.by_limit.Goals as goal
 
 pub returns-then-is_limited : goal.returns-then-is_limited

@@ -1,6 +1,5 @@
 -- `coded_by` meets its promise: each way out, by the test that leads to it. Assumes nothing.
 use Rattle.bench.proofs.Laws.{hands-decode, hands-write}
-use borrow.Author.Rules.{rules}
 use Rattle.bench.proofs.handed.coded_by.Goals as goal
 
 pub returns-then-is_decode : goal.returns-then-is_decode

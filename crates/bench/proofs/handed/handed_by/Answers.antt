@@ -1,6 +1,5 @@
 -- `handed_by` meets its promise: each way out, by the test that leads to it. Assumes nothing.
 use Rattle.bench.proofs.Laws.{hands-probe, hands-coded}
-use borrow.Author.Rules.{rules}
 use Rattle.bench.proofs.handed.handed_by.Goals as goal
 
 pub returns-then-command-eq-PROBE : goal.returns-then-command-eq-PROBE

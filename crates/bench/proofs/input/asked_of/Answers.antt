@@ -4,7 +4,6 @@ use mathlib.Core.List.{List}
 use Prim.Native.Nat.{ℕ, ◌%◌}
 use Rattle.script.specs.Script.{read_line}
 use Rattle.bench.specs.Input.{without_return}
-use borrow.Author.Rules.{rules}
 use Rattle.bench.proofs.input.asked_of.Goals as goal
 
 pub returns : goal.returns

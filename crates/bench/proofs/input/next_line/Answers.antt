@@ -2,8 +2,7 @@
 use mathlib.Core.Path.{refl}
 use mathlib.Core.List.{[]}
 use Rattle.bench.specs.Input.{anew, after_runs}
-use Rattle.bench.proofs.Laws.{Reads, run_more, comes-ended, comes-whole}
-use borrow.Author.Rules.{rules}
+use Rattle.bench.proofs.Laws.{run_more, comes-ended, comes-whole}
 use Rattle.bench.proofs.input.next_line.Goals as goal
 
 pub loop-turns-init : goal.loop-turns-init

@@ -1,9 +1,5 @@
 -- `next_line` meets its promise, and ends: each turn reads one run more, and the turns that are left fall. Assumes nothing.
-use mathlib.Core.Path.{refl}
-use mathlib.Core.List.{[]}
-use Rattle.bench.specs.Input.{anew, after_runs}
-use Rattle.bench.proofs.Laws.{Reads, run_more, comes-ended, comes-whole}
-use borrow.Author.Rules.{rules}
+use Rattle.bench.proofs.Laws.{Reads}
 use Rattle.bench.proofs.input.next_line.Given as goal
 
 abbrev pub invariant-loop-turns : goal.invariant-loop-turns

@@ -1,7 +1,6 @@
 -- `refill` meets its promise: all but the run stays. Assumes nothing.
 use mathlib.Core.Path.{refl}
 use Rattle.bench.specs.Input.{refilled}
-use borrow.Author.Rules.{rules}
 use Rattle.bench.proofs.input.refill.Goals as goal
 
 pub returns : goal.returns

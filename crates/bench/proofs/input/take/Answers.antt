@@ -3,7 +3,6 @@ use mathlib.Core.Path.{ap, ◌∙◌}
 use lib.Seq.{sets}
 use Rattle.bench.specs.Input.{rest_of}
 use Rattle.bench.proofs.Laws.{taken_is}
-use borrow.Author.Rules.{rules}
 use Rattle.bench.proofs.input.take.Goals as goal
 
 pub returns : goal.returns

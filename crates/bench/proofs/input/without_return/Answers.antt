@@ -3,7 +3,6 @@ use mathlib.Core.Bool.{not}
 use mathlib.Core.Path.{ap, ◌∙◌}
 use native.Mathlib.Omega.{arith}
 use Rattle.bench.proofs.Laws.{return-half, return-none, return-there, return-other}
-use borrow.Author.Rules.{rules}
 use Rattle.bench.proofs.input.without_return.Goals as goal
 
 pub returns-then-not-whole : goal.returns-then-not-whole

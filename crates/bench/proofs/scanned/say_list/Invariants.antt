@@ -1,5 +1,4 @@
 -- `say_list` is safe and ends: the identities passed rise, up to their number or 32. Assumes nothing.
-use borrow.Author.Rules.{rules}
 use Prim.Native.Nat.{◌-◌}
 use Rattle.bench.proofs.scanned.say_list.Given as goal
 

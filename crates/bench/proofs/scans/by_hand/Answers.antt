@@ -2,7 +2,6 @@
 use mathlib.Core.Path.{◌∙◌}
 use lib.ListN.{get_or}
 use Rattle.bench.proofs.Laws.{ok-same, scan-begun, scan-reported, scan-kept}
-use borrow.Author.Rules.{rules}
 use Rattle.bench.proofs.scans.by_hand.Goals as goal
 
 pub returns-then-command-eq-BEGIN : goal.returns-then-command-eq-BEGIN
