@@ -61,19 +61,14 @@ prove() {
         fail 1 "'rt run' in crates/$crate failed; all that it said: $log"
     fi
     # Under its name at once, since another run may be at the one that is there.
-    if [ -x "$made" ]; then
-        mkdir -p "${program%/*}"
-        cp "$made" "$program.new" && mv -f "$program.new" "$program" || fail 1 "$program could not be written"
-    fi
+    [ -x "$made" ] || fail 1 "'rt run' in crates/$crate made no program; all that it said: $log"
+    mkdir -p "${program%/*}"
+    cp "$made" "$program.new" && mv -f "$program.new" "$program" || fail 1 "$program could not be written"
     # As old as the proof's beginning: a source that changed while it ran is newer.
     touch -c -r "$begun" "$program"
 }
 
-# Programs are compiled for x86-64; the kit has an emulator for other machines. In a process of its own: it becomes the program.
+# Programs are compiled for x86-64. In a process of its own: it becomes the program.
 run() {
-    [ "$(uname -m)" != x86_64 ] || exec "$program" "$@"
-    local rt tools
-    rt=$(readlink -f "$(command -v rt)")
-    tools=${RATTLE_HOME:-$(dirname "$(dirname "$rt")")}/on/$(uname -m)/toolchain
-    exec "$tools/bin/qemu-x86_64" "$tools/lib/ld-linux-x86-64.so.2" --library-path "$tools/lib" "$program" "$@"
+    exec "$program" "$@"
 }

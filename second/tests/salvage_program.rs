@@ -123,6 +123,8 @@ fn good_the_same_file_as_the_capture() {
     // The same octets in another file are no matter.
     fs::write(folder.join("copy"), CAPTURE).unwrap();
     works(&folder, &["capture", "copy"], LIST, &GOOD);
+    // `rt ci` takes no link in the checkout, where this folder may be.
+    fs::remove_file(folder.join("link")).unwrap();
 }
 
 #[test]
