@@ -1,4 +1,6 @@
 -- What the bench's functions come to, each by what the libraries promise. Assumes nothing.
+use Rattle.std.proofs.Common.{Result, Ok, Err}
+use Rattle.refusal.specs.declared.Refusal.{Refusal}
 use mathlib.Core.Path.{◌≡◌, refl, sym, ap, ap₂, ◌∙◌}
 use mathlib.Core.Bool.{Bool, true, false, cond, not, false≢true}
 use mathlib.Core.List.{List, [], ◌∷◌, map}
@@ -13,8 +15,6 @@ use Rattle.std.specs.Prelude.{Result, Ok, Err, IfOk}
 use Rattle.octets.specs.Octets.{last_of, place_of}
 use Rattle.octets.proofs.Rest.{rest}
 use Rattle.octets.proofs.Words.{last-at, last_empty}
-use Rattle.refusal.specs.declared.Outcome.{Outcome}
-use Rattle.refusal.specs.declared.Handed.{Handed}
 use Rattle.refusal.specs.Answer.{Changes, state_after, answered, Hands}
 use Rattle.refusal.proofs.Answers.{hands-is}
 use Rattle.limits.specs.Limits.{limit_least}
@@ -154,7 +154,7 @@ pub room-last : map room_at (command.probe ∷ command.decode ∷ command.write 
 unfolding room_at word_at first_of behind_first place_of spelled
 room-last = refl
 
-module _ (c : ℕ) (a : Asked) (room : ℕ) {n : ℕ} {os o o' : List ℕ} {r : Handed} {b : Bool}
+module _ (c : ℕ) (a : Asked) (room : ℕ) {n : ℕ} {os o o' : List ℕ} {r : Result ℕ Refusal} {b : Bool}
     (l : n ≡ cond (is_limited c) (value_in a 1) limit_least) (h : os ≡ hex_in a) (e : b ≡ is_decode c) where
   pub hands-decode : b ≡ true → Hands (decoded n os room) o r o' → Hands (coded c a room) o r o'
   unfolding coded limit_in
@@ -166,7 +166,7 @@ module _ (c : ℕ) (a : Asked) (room : ℕ) {n : ℕ} {os o o' : List ℕ} {r : 
   unfolding coded limit_in octet_in
   hands-write t eu ex ev ey = let z : is_decode c ≡ false = sym e ∙ t in hands-is (rw (z, ex, eu, ey, ev, l, h))
 
-module _ (c : ℕ) (s : Scan) (a : Asked) (room : ℕ) {o o' : List ℕ} {r : Handed} where
+module _ (c : ℕ) (s : Scan) (a : Asked) (room : ℕ) {o o' : List ℕ} {r : Result ℕ Refusal} where
   pub hands-probe : c ≡ command.probe → Hands (probed s room) o r o' → Hands (hands_out c s a room) o r o'
   unfolding hands_out
   hands-probe e = hands-is (rw (eq-eqb c command.probe e))
@@ -178,7 +178,7 @@ module _ (c : ℕ) (s : Scan) (a : Asked) (room : ℕ) {o o' : List ℕ} {r : Ha
 -- ---- the row
 
 -- no identity, no device
-pub blank-left : (w : Span) {u : Outcome} {d : Device} → Changes (fresh_of [] [] [] [] w) blank_device u d
+pub blank-left : (w : Span) {u : Result (Unit {0}) Refusal} {d : Device} → Changes (fresh_of [] [] [] [] w) blank_device u d
     → d ≡ blank_device
 unfolding fresh_of answered data_allowed texts_allowed allowed_identity state_after
 blank-left w c = c.state

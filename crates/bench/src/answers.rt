@@ -7,7 +7,7 @@ ghost use Rattle.bench.specs.Written.{digit_of, hex_row};
 use crate::rows;
 use antenna::Angle;
 use device::Said;
-use refusal::{Handed, Outcome, Refusal};
+use refusal::Refusal;
 use std::io::{Result, Stdout};
 use terms::Term;
 
@@ -99,18 +99,18 @@ pub fn say_refusal(out: Stdout, refusal: Refusal) -> Result<()> {
     say_number(out, b' ', refusal::number(refusal) as usize)
 }
 
-pub fn say_outcome(out: Stdout, outcome: Outcome) -> Result<()> {
-    if let Outcome::Refused(refusal) = outcome {
+pub fn say_outcome(out: Stdout, outcome: Result<(), Refusal>) -> Result<()> {
+    if let Err(refusal) = outcome {
         return say_refusal(out, refusal);
     }
     Ok(())
 }
 
 // Octets that were handed out, or why not.
-pub fn say_handed(out: Stdout, handed: Handed) -> Result<()> {
+pub fn say_handed(out: Stdout, handed: Result<usize, Refusal>) -> Result<()> {
     match handed {
-        Handed::Octets(n) => say_number(out, b' ', n),
-        Handed::Refused(refusal) => say_refusal(out, refusal),
+        Ok(n) => say_number(out, b' ', n),
+        Err(refusal) => say_refusal(out, refusal),
     }
 }
 

@@ -6,7 +6,7 @@ ghost use Rattle.bench.specs.Bench.{is_decode, is_limited, room_at, coded, hands
 
 use crate::answers::{FILL, ROOM};
 use crate::{answers, rows};
-use refusal::Handed;
+use refusal::Refusal;
 use scan::Scan;
 use script::Asked;
 use std::io::{Result, Stdout};
@@ -42,7 +42,7 @@ fn by_limit(command: usize, limited: usize, plain: usize) -> usize
 }
 
 // The codec's commands.
-fn coded_by(command: usize, asked: Asked, lent: &mut [u8]) -> Handed
+fn coded_by(command: usize, asked: Asked, lent: &mut [u8]) -> Result<usize, Refusal>
     ensures { Hands (coded command asked (length lent.old)) lent.old result
         lent.new }
 {
@@ -57,7 +57,7 @@ fn coded_by(command: usize, asked: Asked, lent: &mut [u8]) -> Handed
     writer::write(limit, address, control, hex, lent)
 }
 
-fn handed_by(scan: Scan, command: usize, asked: Asked, lent: &mut [u8]) -> Handed
+fn handed_by(scan: Scan, command: usize, asked: Asked, lent: &mut [u8]) -> Result<usize, Refusal>
     ensures { Hands (hands_out command scan asked (length lent.old)) lent.old result
         lent.new }
 {

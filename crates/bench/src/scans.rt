@@ -5,7 +5,7 @@ ghost use Rattle.scan.specs.Scan.{reported};
 ghost use Rattle.bench.specs.Bench.{scan_after};
 
 use crate::{answers, scanned};
-use refusal::Outcome;
+use refusal::Refusal;
 use scan::Scan;
 use script::Asked;
 use std::io::{Result, Stdout};
@@ -18,8 +18,8 @@ fn report(out: Stdout, scan: Scan, heard: bool) -> Result<Scan>
     let outcome = reported.outcome;
     let scan = reported.scan;
     match outcome {
-        Outcome::Done => scanned::say_scan(out, scan)?,
-        Outcome::Refused(refusal) => {
+        Ok(()) => scanned::say_scan(out, scan)?,
+        Err(refusal) => {
             answers::say(out, Term::Outcome(outcome))?;
             answers::say_refusal(out, refusal)?;
         }

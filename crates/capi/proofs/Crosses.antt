@@ -1,5 +1,6 @@
 -- What a promise by `Crosses` is shown from, and what the number tells a caller in C: which answer it is, since no
 -- length reaches the refusals. Assumes nothing.
+use Rattle.std.proofs.Common.{Result, Err}
 use mathlib.Core.Path.{◌≡◌, refl, sym, ap, ◌∙◌}
 use mathlib.Core.List.{List}
 use Prim.Native.Nat.{ℕ, ◌+◌, ◌-◌, ◌<◌, ◌≤◌}
@@ -10,8 +11,6 @@ use Rattle.octets.proofs.Stores.{take-start}
 use Rattle.refusal.specs.Numbers.{number_of}
 use Rattle.refusal.specs.Answer.{Answer, gives, refuses, answer_of, counted, out_after, Hands}
 use Rattle.refusal.specs.declared.Refusal.{Refusal}
-use Rattle.refusal.specs.declared.Handed.{Handed}
-use Rattle.refusal.specs.declared.Handed.TheVariants.{Refused}
 use Rattle.refusal.proofs.Answers.{gives-not-refuses}
 use Rattle.receiver.specs.Call.{Took, heard_of, told_by, took_by}
 use Rattle.receiver.specs.declared.Heard.{Heard}
@@ -20,13 +19,13 @@ use Rattle.block.specs.Block.{Blocks}
 use Rattle.block.specs.declared.Returned.{Returned}
 use Rattle.capi.specs.Crossing.{refusals, crossed, Crosses, heard_crossed, taken_after, Hears}
 
-pub refusal-crosses : {h : Handed} {k : Refusal} {n : ℕ}
-    → h ≡ Refused k → n ≡ number_of k → refusals + n ≡ crossed (answer_of h)
+pub refusal-crosses : {h : Result ℕ Refusal} {k : Refusal} {n : ℕ}
+    → h ≡ Err k → n ≡ number_of k → refusals + n ≡ crossed (answer_of h)
 unfolding crossed answer_of
 refusal-crosses e q = rw (e, q) refl
 
 -- the code's answer, crossed
-pub handed-crosses : {x : Answer (List ℕ)} {o o' : List ℕ} {h : Handed} {r : ℕ}
+pub handed-crosses : {x : Answer (List ℕ)} {o o' : List ℕ} {h : Result ℕ Refusal} {r : ℕ}
     → Hands x o h o' → r ≡ crossed (answer_of h) → Crosses x o r o'
 handed-crosses h e = record { number = e ∙ ap crossed h.answer; octets = h.octets }
 
@@ -62,7 +61,7 @@ module _ {b o b' o' : List ℕ} {w : Returned} {t : ℕ} where
   hears-none (refuses k) c e =
       absurd (gives-not-refuses (ap heard_of (sym e) ∙ c.answer))
 
-  pub hears-handed : (x : Answer Took) {a : Handed} {r : ℕ} → Blocks x b o w b' o' → w.heard ≡ HandedOut a
+  pub hears-handed : (x : Answer Took) {a : Result ℕ Refusal} {r : ℕ} → Blocks x b o w b' o' → w.heard ≡ HandedOut a
       → r ≡ crossed (answer_of a) → Hears x b o t r b' o' w.taken
   unfolding heard_crossed heard_of told_by took_by taken_after
   hears-handed (gives u) c e f =

@@ -19,18 +19,18 @@ ghost use Rattle.capi.specs.Crossing.{crossed, Crosses, Hears};
 use block::BLOCK;
 use limits::LIMIT_LEAST;
 use receiver::Heard;
-use refusal::Handed;
+use refusal::Refusal;
 
 // What a refusal's number is added to.
 const REFUSED: usize = 0x10000;
 
 // The number that an answer crosses as.
-fn crossing(answer: Handed) -> usize
+fn crossing(answer: Result<usize, Refusal>) -> usize
     ensures { result ≡ crossed (answer_of answer) }
 {
     match answer {
-        Handed::Octets(n) => n,
-        Handed::Refused(refusal) => REFUSED + refusal::number(refusal) as usize,
+        Ok(n) => n,
+        Err(refusal) => REFUSED + refusal::number(refusal) as usize,
     }
 }
 

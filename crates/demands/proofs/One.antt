@@ -6,6 +6,7 @@
 -- octets, any record of a device and of a scan, any lent buffer. That nothing is asked of the caller (`AsksNothing`) is a
 -- lemma of every public function, FUNCTION-asks of crates/NAME/proofs/Only.antt; Index.antt has those of these functions.
 -- Proved by citation. Assumes nothing.
+use Rattle.std.proofs.Common.{Result, Ok, Err}
 use mathlib.Core.Path.{◌≡◌, refl, sym, ap, ◌∙◌}
 use mathlib.Core.Bool.{Bool, true, false}
 use mathlib.Core.List.{List, ◌∷◌}
@@ -21,8 +22,6 @@ use Rattle.refusal.specs.Answer.{Answer, gives, refuses, handed_out, answer_of, 
 use Rattle.refusal.specs.Answer.{settled, state_after, Changes}
 use Rattle.refusal.specs.Numbers.{number_of}
 use Rattle.refusal.specs.declared.Refusal.{Refusal}
-use Rattle.refusal.specs.declared.Handed.{Handed}
-use Rattle.refusal.specs.declared.Outcome.{Outcome}
 use Rattle.refusal.proofs.Answers.{gives-not-refuses, gives_same, refusal-told, change-told, unchange-told}
 use Rattle.refusal.proofs.hand_out.Reads as hand-out-reads
 use Rattle.capi.proofs.Tells.{Tells, decode-tells, write-tells}
@@ -105,24 +104,24 @@ use Rattle.device.proofs.Fits.{answer-fits}
 
 -- octets handed out, as the answer x has them, at the start of the lent output o, which is o' afterwards; or the number
 -- of x, and the output as it was
-pub data Hands-out (x : Answer (List ℕ)) (o : List ℕ) (r : Handed) (o' : List ℕ) : Type 0 where
-  handed : (b : List ℕ) → x ≡ gives b → r ≡ Handed.Octets (length b) → o' ≡ b at_start_of o → Hands-out x o r o'
-  refusal : (k : Refusal) → x ≡ refuses (number_of k) → r ≡ Handed.Refused k → o' ≡ o → Hands-out x o r o'
+pub data Hands-out (x : Answer (List ℕ)) (o : List ℕ) (r : Result ℕ Refusal) (o' : List ℕ) : Type 0 where
+  handed : (b : List ℕ) → x ≡ gives b → r ≡ Ok (length b) → o' ≡ b at_start_of o → Hands-out x o r o'
+  refusal : (k : Refusal) → x ≡ refuses (number_of k) → r ≡ Err k → o' ≡ o → Hands-out x o r o'
 
-hands_out : {o o' : List ℕ} (x : Answer (List ℕ)) (r : Handed) → Hands x o r o' → Hands-out x o r o'
+hands_out : {o o' : List ℕ} (x : Answer (List ℕ)) (r : Result ℕ Refusal) → Hands x o r o' → Hands-out x o r o'
 unfolding answer_of counted out_after
-hands_out (gives b) (Handed.Octets n) h = handed b refl (ap Handed.Octets (gives_same h.answer)) h.octets
-hands_out (refuses k) (Handed.Octets n) h = absurd (gives-not-refuses h.answer)
-hands_out x (Handed.Refused k) h = let (number, same) = refusal-told x h in refusal k number refl same
+hands_out (gives b) (Ok n) h = handed b refl (ap Ok (gives_same h.answer)) h.octets
+hands_out (refuses k) (Ok n) h = absurd (gives-not-refuses h.answer)
+hands_out x (Err k) h = let (number, same) = refusal-told x h in refusal k number refl same
 
 -- a state changed, as the answer x has it; or the number of x, and the state s as it was
-pub data Changes-to {S : Type 0} (x : Answer S) (s : S) (r : Outcome) (s' : S) : Type 0 where
-  done : x ≡ gives s' → r ≡ Outcome.Done → Changes-to x s r s'
-  refusal : (k : Refusal) → x ≡ refuses (number_of k) → r ≡ Outcome.Refused k → s' ≡ s → Changes-to x s r s'
+pub data Changes-to {S : Type 0} (x : Answer S) (s : S) (r : Result (Unit {0}) Refusal) (s' : S) : Type 0 where
+  done : x ≡ gives s' → r ≡ (Ok tt) → Changes-to x s r s'
+  refusal : (k : Refusal) → x ≡ refuses (number_of k) → r ≡ Err k → s' ≡ s → Changes-to x s r s'
 
-changes-to : {S : Type 0} {s s' : S} (x : Answer S) (r : Outcome) → Changes x s r s' → Changes-to x s r s'
-changes-to x Outcome.Done c = done (change-told x c) refl
-changes-to x (Outcome.Refused k) c = let (number, same) = unchange-told x c in refusal k number refl same
+changes-to : {S : Type 0} {s s' : S} (x : Answer S) (r : Result (Unit {0}) Refusal) → Changes x s r s' → Changes-to x s r s'
+changes-to x (Ok tt) c = done (change-told x c) refl
+changes-to x (Err k) c = let (number, same) = unchange-told x c in refusal k number refl same
 
 -- what becomes of the device d and of the answer buffer o, as the answer x has it: r and o'
 pub data Defined (x : Answer Reaction) (d : Device) (o : List ℕ) (r : Judged) (o' : List ℕ) : Type 0 where

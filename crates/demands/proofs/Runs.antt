@@ -7,6 +7,8 @@
 --   ReportsAll answers s t  == t comes of s by reporting the answers, one after the other
 --   Runs heard limit n t    == t comes of a new scan by n reports; RunsBy limit answers t == by those answers
 -- Assumes nothing.
+use Rattle.std.proofs.Common.{Result, Ok, Err}
+use Rattle.refusal.specs.declared.Refusal.{Refusal}
 use mathlib.Core.Path.{◌≡◌, refl, sym, ap, ◌∙◌, subst}
 use mathlib.Core.Bool.{Bool, true, false, true≢false}
 use mathlib.Core.List.{List, [], ◌∷◌}
@@ -19,8 +21,6 @@ use lib.Dec.{ltb}
 use lib.ListN.{length}
 use Rattle.identity.specs.Bits.{Bits}
 use Rattle.identity.specs.Identity.{depth, octets_of}
-use Rattle.refusal.specs.declared.Handed.{Handed}
-use Rattle.refusal.specs.declared.Outcome.TheVariants.{Done, Refused}
 use Rattle.refusal.specs.declared.Refusal.TheVariants.{ScanOver}
 use Rattle.refusal.specs.Answer.{Hands}
 use Rattle.walk.specs.Machine.{step}
@@ -41,7 +41,7 @@ NewAllows limit s = (e : _) × new-reads.Learnt tt (limit, tt) s e
 abbrev pub ReportAllows : Scan → Bool → Reported → Type 0
 ReportAllows s a r = (e : _) × report-reads.Learnt tt (s, (a, tt)) r e
 
-abbrev pub ProbeAllows : Scan → List ℕ → Handed → List ℕ → Type 0
+abbrev pub ProbeAllows : Scan → List ℕ → Result ℕ Refusal → List ℕ → Type 0
 ProbeAllows s o r o' =
     (κs : Lfts 1) × (out : _) × (e : _) × probe-reads.Learnt κs (s, (out, tt)) r e
     × (o ≡ out.now) × (o' ≡ e.1.0.now)
@@ -76,10 +76,10 @@ report-allowed : (s : Scan) (a : Bool) → (r : Reported) × ReportAllows s a r
 report-allowed s a = by-test (over s) refl
   where
     by-test : (b : Bool) → over s ≡ b → (r : Reported) × ReportAllows s a r
-    by-test true e = (record { outcome = Refused ScanOver; scan = s }, ((s, (a, tt)), report-over s a (sym e)))
+    by-test true e = (record { outcome = Err ScanOver; scan = s }, ((s, (a, tt)), report-over s a (sym e)))
     by-test false e =
         let t : Scan = record_of s (step octets_of depth list_most (walk_of s) a) in
-        (record { outcome = Done; scan = t }, ((s, (a, tt)), report-taken s a e refl))
+        (record { outcome = (Ok tt); scan = t }, ((s, (a, tt)), report-taken s a e refl))
 
 reports-are : (heard : Bits → Bool) (n : ℕ) (s t : Scan) → Reports heard n s t → t ≡ driven heard n s
 unfolding driven
@@ -147,5 +147,5 @@ module _ (heard : Bits → Bool) (limit : ℕ) where
       ap (λ (s : Scan). ended s.state) is ∙ w.ends
 
 -- what `probe` hands out is what the definition gives
-pub probe-gives : (s : Scan) (o o' : List ℕ) (r : Handed) → ProbeAllows s o r o' → Hands (probed s (length o)) o r o'
+pub probe-gives : (s : Scan) (o o' : List ℕ) (r : Result ℕ Refusal) → ProbeAllows s o r o' → Hands (probed s (length o)) o r o'
 probe-gives s o o' r (κs, out, e, h, x, y) = rw (x, y) h

@@ -7,6 +7,8 @@
 -- `Runs heard limit n last`, from `new` on by n reports, each of what `heard` says of the beginning that is asked.
 -- Cable.antt has the same of a row of devices, where "heard" is what writing the probe, decoding and judging it at each
 -- device comes to: there no premise about hearing is left. Proved by citation. Assumes nothing.
+use Rattle.std.proofs.Common.{Result}
+use Rattle.refusal.specs.declared.Refusal.{Refusal}
 use mathlib.Core.Path.{◌≡◌, sym, ap, ◌∙◌, subst}
 use mathlib.Core.Bool.{Bool, true, false}
 use mathlib.Core.List.{List, [], map, Memᴰ}
@@ -14,7 +16,6 @@ use mathlib.Core.Logic.Iff
 use mathlib.Core.Logic.{◌↔◌, ◌⊎◌}
 use Prim.Native.Nat.{ℕ, ◌+◌, ◌*◌, ◌-◌, ◌<◌, ◌≤◌}
 use lib.ListN.{length, take, get_or}
-use Rattle.refusal.specs.declared.Handed.{Handed}
 use Rattle.refusal.specs.Answer.{Answer, refuses, handed_out, Hands}
 use Rattle.identity.specs.Bits.{Bits, bits_of}
 use Rattle.identity.specs.Identity.{depth, octets_of}
@@ -49,7 +50,7 @@ pub whole-identities : Demand3Identities
 whole-identities = demand3-identities
 
 -- what `probe` may hand out for a record that is known
-probe-is : {s t : Scan} {x : Answer (List ℕ)} {o o' : List ℕ} {r : Handed} → s ≡ t → probed t (length o) ≡ x
+probe-is : {s t : Scan} {x : Answer (List ℕ)} {o o' : List ℕ} {r : Result ℕ Refusal} → s ≡ t → probed t (length o) ≡ x
     → ProbeAllows s o r o' → Hands x o r o'
 probe-is {s} {x = x} {o = o} {o' = o'} {r = r} e g p =
     let gives = ap (λ (u : Scan). probed u (length o)) e ∙ g in
@@ -146,7 +147,7 @@ module _ (limit : ℕ) (ids : List (List ℕ)) (heard : Bits → Bool) (b : Octe
 
     -- the octets that `probe` hands out after i answers are those of the order's beginnings, and none comes twice
     pub probes-sent : ((i : ℕ) (s : Scan) → Runs heard limit i s → i < last.count
-        → (o o' : List ℕ) (r : Handed) → ProbeAllows s o r o'
+        → (o o' : List ℕ) (r : Result ℕ Refusal) → ProbeAllows s o r o'
         → Hands (handed_out (probe_of (get_or (beginnings_of probes) i [])) (length o)) o r o')
         × Different (beginnings_of probes)
     probes-sent = (
@@ -156,7 +157,7 @@ module _ (limit : ℕ) (ids : List (List ℕ)) (heard : Bits → Bool) (b : Octe
 
     -- and from the count on it hands out the number 7 alone
     pub probes-refused : (i : ℕ) (s : Scan) → Runs heard limit i s → last.count ≤ i
-        → (o o' : List ℕ) (r : Handed) → ProbeAllows s o r o' → Hands (refuses 7) o r o'
+        → (o o' : List ℕ) (r : Result ℕ Refusal) → ProbeAllows s o r o' → Hands (refuses 7) o r o'
     probes-refused i s runs h o o' r p =
         probe-is ((runs-exactly heard limit i s).0 runs) (any-run.exactly.refused i h (length o)) p
 
@@ -236,5 +237,5 @@ module _ (limit : ℕ) (answers : List Bool) (enough : limit ≤ length answers)
   pub any-stays : last.count ≤ i → s ≡ last
   any-stays h = is-part ∙ exactly.stays i h
 
-  pub any-refused : last.count ≤ i → (o o' : List ℕ) (r : Handed) → ProbeAllows s o r o' → Hands (refuses 7) o r o'
+  pub any-refused : last.count ≤ i → (o o' : List ℕ) (r : Result ℕ Refusal) → ProbeAllows s o r o' → Hands (refuses 7) o r o'
   any-refused h o o' r p = probe-is is-part (exactly.refused i h (length o)) p

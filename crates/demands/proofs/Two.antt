@@ -5,6 +5,7 @@
 -- `session`, `station`, `xid`, `negotiation`, `xid_answer`, `message`, `poll`, `inform`, `states`, `link`, `speech`,
 -- `device`). Here stand the other two, and what shuts out a device that is always silent and a decoder that refuses
 -- everything. Proved by citation. Assumes nothing.
+use Rattle.std.proofs.Common.{Ok}
 use mathlib.Core.Path.{◌≡◌, refl, ap, ◌∙◌}
 use mathlib.Core.Bool.{true, false}
 use mathlib.Core.List.{List, [], ◌∷◌}
@@ -15,7 +16,6 @@ use native.Mathlib.Omega.{arith}
 use lib.ListN.{length, take, drop}
 use Rattle.octets.specs.Octets.{Octets, ◌at_start_of◌}
 use Rattle.refusal.specs.Answer.{Answer, gives, out_after}
-use Rattle.refusal.specs.declared.Handed.{Handed}
 use Rattle.refusal.proofs.Answers.{in-room, handed, octets-told, hands-is}
 use Rattle.refusal.proofs.Only.{hands-only}
 use Rattle.frame.proofs.decode.Reads as decode-reads
@@ -80,10 +80,10 @@ use Rattle.device.proofs.Fits.{address-fits}
 -- limit or a higher one gives those for what lies between its flags, into any output that has room for them. Of both, all
 -- that is used is what their callers learn.
 pub written-reads-back : (κs : _) (a : _) (n : ℕ) (s : _) (κs' : _) (a' : _) (r : _) (s' : _)
-    → write-reads.Learnt κs a (Handed.Octets n) s → decode-reads.Learnt κs' a' r s' → a.0 ≤ a'.0 → is_limit a'.0 ≡ true
+    → write-reads.Learnt κs a (Ok n) s → decode-reads.Learnt κs' a' r s' → a.0 ≤ a'.0 → is_limit a'.0 ≡ true
     → let b = a.1.0 ∷ a.1.1.0 ∷ a.1.1.1.0.now in Octets b
     → a'.1.0.now ≡ inside (take n s.1.1.1.1.0.now) → length b ≤ length a'.1.1.0.now
-    → (r ≡ Handed.Octets (length b)) × (s'.1.1.0.now ≡ b at_start_of a'.1.1.0.now)
+    → (r ≡ Ok (length b)) × (s'.1.1.0.now ≡ b at_start_of a'.1.1.0.now)
 unfolding out_after
 written-reads-back κs a n s κs' a' r s' w v up ok os e h =
     let p = a.1.1.1.0.now in

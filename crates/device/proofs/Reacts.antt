@@ -1,4 +1,5 @@
 -- The ways out of judging and hearing: a number, silence, or a frame at the start of the buffer. Assumes nothing.
+use Rattle.std.proofs.Common.{Result, Ok, Err}
 use mathlib.Core.Path.{◌≡◌, refl, sym, ap, ◌∙◌}
 use mathlib.Core.Bool.{Bool, true, false}
 use mathlib.Core.List.{List, ◌∷◌}
@@ -9,7 +10,6 @@ use lib.ListN.{length, take, replicate, length-take}
 use lib.Seq.{sets}
 use Rattle.octets.proofs.Stores.{sets-start, take-start}
 use Rattle.refusal.specs.declared.Refusal.{Refusal}
-use Rattle.refusal.specs.declared.Handed.{Handed}
 use Rattle.refusal.specs.Numbers.{number_of}
 use Rattle.refusal.specs.Answer.{Answer, gives, refuses, answered, Hands}
 use Rattle.refusal.proofs.Answers.{octets-told, refusal-told}
@@ -109,22 +109,22 @@ module _ (d : Device) (f o : List ℕ) where
 -- ---- a line heard
 
 module _ (d : Device) (line o store store' : List ℕ) where
-  pub heard-refused : {h : Handed} (k q : Refusal) → Hands (decoded_here d line) store h store'
-      → h ≡ Handed.Refused k → q ≡ refusal_in h
+  pub heard-refused : {h : Result ℕ Refusal} (k q : Refusal) → Hands (decoded_here d line) store h store'
+      → h ≡ Err k → q ≡ refusal_in h
       → Judges (heard d line (length o)) d o (record { said = Refused q; device = d }) o
   unfolding heard heard_by
   heard-refused k q w e u =
       let t = refusal-told (decoded_here d line) {k = k} (rw e at w) in
       refused (heard d line (length o)) d o q (rw (t.0, u, e))
 
-  pub heard-judged : (n : ℕ) → {h : Handed} → Hands (decoded_here d line) store h store' → h ≡ Handed.Octets n
+  pub heard-judged : (n : ℕ) → {h : Result ℕ Refusal} → Hands (decoded_here d line) store h store' → h ≡ Ok n
       → judged d (take n store') (length o) ≡ heard d line (length o)
   unfolding heard heard_by
   heard-judged n w e = let t = octets-told (decoded_here d line) {n = n} (rw e at w) in rw t.0
 
 -- the frame that was decoded stands in the decoder's buffer
-pub heard-count : (x : Answer (List ℕ)) (n : ℕ) {store store' : List ℕ} {h : Handed} → Hands x store h store'
-    → h ≡ Handed.Octets n → n ≤ length store'
+pub heard-count : (x : Answer (List ℕ)) (n : ℕ) {store store' : List ℕ} {h : Result ℕ Refusal} → Hands x store h store'
+    → h ≡ Ok n → n ≤ length store'
 heard-count x n {store' = store'} w e =
     let t = octets-told x {n = n} (rw e at w) in
     omega (arith, t.1, length-take n store')

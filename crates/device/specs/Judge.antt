@@ -7,12 +7,12 @@
 --   said_of x         == the number, silence, or how many octets, for each case of the code's answer
 --   Judges x d o r o' == the code's result r, and the buffer o' that was o, are the answer x of the device d
 -- Assumes nothing.
+use Rattle.std.specs.Prelude.{Result, Ok, Err}
 use Rattle.std.specs.Prelude.{◌≡◌, not, List, [], ◌∷◌, ℕ, ltb, length}
 use Rattle.std.proofs.Math.Option.{Option, none, some}
 use Rattle.octets.specs.Octets.{◌at_start_of◌}
 use Rattle.refusal.specs.declared.Refusal.{Refusal}
 use Rattle.refusal.specs.declared.Refusal.TheVariants.{NoRoom}
-use Rattle.refusal.specs.declared.Handed.{Handed}
 use Rattle.refusal.specs.Numbers.{number_of}
 use Rattle.refusal.specs.Answer.{Answer, gives, refuses, TestRow, ◌when◌, answered}
 use Rattle.limits.specs.Limits.{limit_most, frame_most}
@@ -60,9 +60,9 @@ heard d line room = heard_by d room (decoded_here d line)
 -- ---- the code's answers
 
 -- the number of a refused decoding; one that gave octets does not come here
-abbrev pub refusal_in : Handed → Refusal
-refusal_in (Handed.Octets n) = NoRoom
-refusal_in (Handed.Refused r) = r
+abbrev pub refusal_in : Result ℕ Refusal → Refusal
+refusal_in (Ok n) = NoRoom
+refusal_in (Err r) = r
 
 unfoldable pub said_of : Said → Answer (Option ℕ)
 said_of Silence = gives none

@@ -11,7 +11,7 @@ ghost use Rattle.device.specs.Judge.{Judges, reacts, judged, heard, refusal_in};
 
 use limits::LONGEST_FRAME;
 use record::Device;
-use refusal::{Handed, Refusal};
+use refusal::Refusal;
 use speech::SPOKEN_MOST;
 use station::Say;
 
@@ -82,12 +82,12 @@ pub fn judge(device: Device, frame: &[u8], answer: &mut [u8]) -> Judged
 }
 
 // The decoder's number for "no".
-fn refusal_in(handed: Handed) -> Refusal
+fn refusal_in(handed: Result<usize, Refusal>) -> Refusal
     ensures { result ≡ refusal_in handed }
 {
     match handed {
-        Handed::Octets(_) => Refusal::NoRoom,
-        Handed::Refused(refusal) => refusal,
+        Ok(_) => Refusal::NoRoom,
+        Err(refusal) => refusal,
     }
 }
 
@@ -100,7 +100,7 @@ pub fn hear(device: Device, line: &[u8], answer: &mut [u8]) -> Judged
     let desk = station.desk;
     let mut store = [0u8; LONGEST_FRAME];
     let handed = frame::decode(desk.limit, line, &mut store);
-    let Handed::Octets(n) = handed else {
+    let Ok(n) = handed else {
         return Judged {
             said: Said::Refused(refusal_in(handed)),
             device,

@@ -1,9 +1,10 @@
 -- The promise of this crate allows one result, and one content of the lent output. Assumes nothing.
+use Rattle.std.proofs.Common.{Result}
+use Rattle.refusal.specs.declared.Refusal.{Refusal}
 use mathlib.Core.Path.{◌≡◌, refl, sym, ap, ap₂, ◌∙◌}
 use mathlib.Core.List.{List}
 use Prim.Native.Nat.{ℕ}
 use Rattle.octets.proofs.Only.{only}
-use Rattle.refusal.specs.declared.Outcome.{Outcome}
 use Rattle.refusal.specs.Answer.{outcome_of}
 use Rattle.refusal.proofs.Only.{outcome-apart}
 use Rattle.device.specs.declared.Said.{Said}
@@ -24,7 +25,7 @@ Means no_command x = x ≡ code.NoCommand
 Means no_device x = x ≡ code.NoDevice
 Means full x = x ≡ code.Full
 Means (device k) x = x ≡ code.Device k
-Means (outcome a) x = (u : Outcome) × (x ≡ code.Outcome u) × (outcome_of u ≡ a)
+Means (outcome a) x = (u : Result (Unit {0}) Refusal) × (x ≡ code.Outcome u) × (outcome_of u ≡ a)
 Means (answer a) x = (s : Said) × (x ≡ code.Said s) × (said_of s ≡ a)
 Means (state place) x = x ≡ code.State place
 Means (limit n) x = x ≡ code.Limit n

@@ -1,4 +1,6 @@
 -- The ways through a command, each by what was asked on it. Assumes nothing.
+use Rattle.std.proofs.Common.{Result, Ok, Err}
+use Rattle.refusal.specs.declared.Refusal.{Refusal}
 use mathlib.Core.Path.{◌≡◌, refl, sym, ap, ap₂, ◌∙◌}
 use mathlib.Core.Bool.{Bool, true, false, not, ◌&&◌}
 use mathlib.Core.List.{List, [], ◌∷◌}
@@ -8,8 +10,6 @@ use lib.Dec.{leb, eqb}
 use borrow.Author.Tests.{le-leb, lt-leb, eq-eqb, ne_eqb, leb-true, ltb-true, eqb-false, not-true}
 use lib.ListN.{length, get_or, set}
 use Rattle.octets.proofs.Words.{and_parts}
-use Rattle.refusal.specs.declared.Outcome.{Outcome}
-use Rattle.refusal.specs.declared.Outcome.TheVariants.{Done, Refused}
 use Rattle.refusal.specs.Answer.{Answer, gives, refuses, answered, Changes, outcome_of, settled, state_after}
 use Rattle.refusal.proofs.Answers.{gives-not-refuses}
 use Rattle.antenna.specs.declared.Angle.{Angle}
@@ -72,7 +72,7 @@ tells_is row place x h e =
       lent = h.buffer;
     }
 
-pub befalls-is : (row : Row) (place : ℕ) (x : Answer Device) {u : Outcome} {d : Device} {r : Obeyed}
+pub befalls-is : (row : Row) (place : ℕ) (x : Answer Device) {u : Result (Unit {0}) Refusal} {d : Device} {r : Obeyed}
     → Changes x (device_at row place) u d → r ≡ put_back row place d (code.Outcome u)
     → after_of r ≡ befalls row place x
 unfolding befalls reply_of
@@ -88,7 +88,7 @@ pub tells_at : (row : Row) (place c : ℕ) (os : List ℕ) (n : ℕ) {d : Device
     → Obeys (tells row place (listens c (device_at row place) os n) o) r o'
 tells_at row place c os n e h p = tells_is row place (listens c (device_at row place) os n) (rw e at h) p
 
-pub befalls-at : (row : Row) (place c v : ℕ) {d d' : Device} {u : Outcome} {r : Obeyed}
+pub befalls-at : (row : Row) (place c v : ℕ) {d d' : Device} {u : Result (Unit {0}) Refusal} {r : Obeyed}
     → d ≡ device_at row place → Changes (happens d c v) d u d' → r ≡ put_back row place d' (code.Outcome u)
     → after_of r ≡ befalls row place (happens (device_at row place) c v)
 befalls-at row place c v e h p = befalls-is row place (happens (device_at row place) c v) (rw e at h) p
@@ -120,7 +120,7 @@ module _ (d : Device) (c v : ℕ) where
 -- ---- one more device
 
 -- the texts and the tilts of the words
-pub fresh-by : (v os : List ℕ) {i p h s : List ℕ} {l m t : Angle} {u : Outcome} {d : Device}
+pub fresh-by : (v os : List ℕ) {i p h s : List ℕ} {l m t : Angle} {u : Result (Unit {0}) Refusal} {d : Device}
     → i ≡ part_of 0 (value v 1) os → p ≡ part_of (value v 1) (value v 2) os
     → h ≡ part_of (value v 2) (value v 3) os → s ≡ part_of (value v 3) (value v 4) os
     → l ≡ tilt_of (value v 5) → m ≡ tilt_of (value v 6) → t ≡ tilt_of (value v 7)
@@ -130,14 +130,14 @@ unfolding fresh_with
 fresh-by v os ei ep eh es el em et c = rw (ei, ep, eh, es, el, em, et) at c
 
 module _ (row : Row) where
-  pub added-refused : (x : Answer Device) {z d : Device} {u : Outcome} {k : _} → Changes x z u d → u ≡ Refused k
+  pub added-refused : (x : Answer Device) {z d : Device} {u : Result (Unit {0}) Refusal} {k : _} → Changes x z u d → u ≡ Err k
       → record { row = row; reply = outcome (outcome_of u) } ≡ added row x
   unfolding added settled outcome_of
   added-refused (gives y) h e = absurd (gives-not-refuses (sym h.outcome ∙ ap outcome_of e))
   added-refused (refuses j) h e =
       ap (λ (a : Answer (Unit {0})). record { row = row; reply = outcome a }) h.outcome
 
-  pub added-done : (x : Answer Device) {z d : Device} {u : Outcome} → Changes x z u d → u ≡ Done
+  pub added-done : (x : Answer Device) {z d : Device} {u : Result (Unit {0}) Refusal} → Changes x z u d → u ≡ (Ok tt)
       → record {
         row = record { devices = set row.devices row.count d; count = row.count + 1 };
         reply = device (row.count + 1);

@@ -19,7 +19,7 @@ use antenna::Angle;
 use bus::{MOST, Row};
 use device::{Judged, Said};
 use record::{Changed, Device, Event, Span};
-use refusal::{Outcome, Refusal};
+use refusal::Refusal;
 
 // The words of a command by their places, the command's own word at 0. The value of HEX is where its octets end.
 pub type Values = [usize; 8];
@@ -32,7 +32,7 @@ pub enum Response {
     NoDevice,
     Full,
     Device(usize),
-    Outcome(Outcome),
+    Outcome(Result<(), Refusal>),
     Said(Said),
     State(usize),
     Limit(usize),
@@ -101,7 +101,7 @@ fn make(row: Row, values: Values, octets: &[u8]) -> Obeyed
     let count = row.count;
     let made = fresh(values, octets);
     let outcome = made.outcome;
-    if let Outcome::Refused(_) = outcome {
+    if let Err(_) = outcome {
         return Obeyed {
             row,
             answer: Response::Outcome(outcome),
@@ -132,7 +132,7 @@ fn add(row: Row, values: Values, octets: &[u8]) -> Obeyed
     }
     Obeyed {
         row,
-        answer: Response::Outcome(Outcome::Refused(Refusal::NotAllowed)),
+        answer: Response::Outcome(Err(Refusal::NotAllowed)),
     }
 }
 
@@ -223,12 +223,12 @@ fn happen(device: Device, command: usize, value: usize) -> Changed
     }
     if record::allowed(device) {
         return Changed {
-            outcome: Outcome::Refused(Refusal::CannotBe),
+            outcome: Err(Refusal::CannotBe),
             device,
         };
     }
     Changed {
-        outcome: Outcome::Refused(Refusal::NotAllowed),
+        outcome: Err(Refusal::NotAllowed),
         device,
     }
 }

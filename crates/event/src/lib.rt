@@ -14,12 +14,12 @@ ghost use Rattle.record.specs.Changes.{antenna_happened, happened};
 
 use antenna::{Angle, Antenna, Motion};
 use record::{Changed, Device, Event};
-use refusal::{Outcome, Refusal};
+use refusal::Refusal;
 
 // An antenna after an event.
 #[derive(Clone, Copy)]
 struct Befallen {
-    outcome: Outcome,
+    outcome: Result<(), Refusal>,
     antenna: Antenna,
 }
 
@@ -76,13 +76,13 @@ fn stopped(antenna: Antenna, t: Angle) -> Befallen
                 drive,
             };
             return Befallen {
-                outcome: Outcome::Done,
+                outcome: Ok(()),
                 antenna,
             };
         }
     }
     Befallen {
-        outcome: Outcome::Refused(Refusal::CannotBe),
+        outcome: Err(Refusal::CannotBe),
         antenna,
     }
 }
@@ -102,12 +102,12 @@ fn alarmed(antenna: Antenna, code: u8, on: bool) -> Befallen
         raised.flags[place] = on;
         drive.raised = raised;
         return Befallen {
-            outcome: Outcome::Done,
+            outcome: Ok(()),
             antenna: Antenna { motion, drive },
         };
     }
     Befallen {
-        outcome: Outcome::Refused(Refusal::CannotBe),
+        outcome: Err(Refusal::CannotBe),
         antenna,
     }
 }
@@ -145,7 +145,7 @@ pub fn happen(device: Device, event: Event) -> Changed
         };
     }
     Changed {
-        outcome: Outcome::Refused(Refusal::NotAllowed),
+        outcome: Err(Refusal::NotAllowed),
         device,
     }
 }

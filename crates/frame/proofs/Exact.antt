@@ -1,6 +1,7 @@
 -- Each number is given exactly when 01 and 02 say: per number, both ways, for every number N, a frame limit or not. And
 -- demand 1 for this layer: any octets get a frame or one of the numbers, and a number leaves the lent output as it was.
 -- Assumes nothing.
+use Rattle.std.proofs.Common.{Err}
 use mathlib.Core.Path.{◌≡◌, refl, ap}
 use mathlib.Core.Bool.{true, false, not}
 use mathlib.Core.List.{List, [], ◌∷◌}
@@ -13,7 +14,6 @@ use Rattle.octets.specs.Octets.{holds}
 use Rattle.refusal.specs.Answer.{Answer, gives, refuses, TestRow, ◌when◌, answered, Clear, numbers_of, Hands}
 use Rattle.refusal.specs.Numbers.{number_of}
 use Rattle.refusal.specs.declared.Refusal.{Refusal}
-use Rattle.refusal.specs.declared.Handed.TheVariants.{Refused}
 use Rattle.refusal.proofs.Exactly.{TestsFor, exactly-tests, exactly-given, answered-all}
 use Rattle.refusal.proofs.Answers.{refusal-told}
 use Rattle.limits.specs.Limits.{is_limit, payload_most}
@@ -185,5 +185,5 @@ module _ (N a c : ℕ) (p : List ℕ) (room : ℕ) where
 
 -- a number leaves every octet of the lent output as it was, and is the paper's
 pub refused-unchanged : (x : Answer (List ℕ)) {o o' : List ℕ} {k : Refusal}
-    → Hands x o (Refused k) o' → (x ≡ refuses (number_of k)) × (o' ≡ o)
+    → Hands x o (Err k) o' → (x ≡ refuses (number_of k)) × (o' ≡ o)
 refused-unchanged x = refusal-told x

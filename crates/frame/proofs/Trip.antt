@@ -1,5 +1,7 @@
 -- The round trip, over the frame limit N: what lies between the flags of a written line decodes to what was put in.
 -- Assumes nothing.
+use Rattle.std.proofs.Common.{Result, Ok}
+use Rattle.refusal.specs.declared.Refusal.{Refusal}
 use mathlib.Core.Path.{◌≡◌, refl, sym, ap, ◌∙◌}
 use mathlib.Core.Bool.{Bool, true, false}
 use mathlib.Core.List.{List, [], ◌∷◌, ◌++◌}
@@ -11,8 +13,6 @@ use lib.ListN.{length, take}
 use lib.Seq.{take_at}
 use Rattle.octets.specs.Octets.{Octets, holds, last_of}
 use Rattle.refusal.specs.Answer.{gives, handed_out, Hands}
-use Rattle.refusal.specs.declared.Handed.{Handed}
-use Rattle.refusal.specs.declared.Handed.TheVariants.{Octets as Handed-as-Octets}
 use Rattle.refusal.proofs.Answers.{in-room, octets-told, hands-is}
 use Rattle.refusal.proofs.Exactly.{handed-out-told}
 use Rattle.fcs.specs.Check.{with_check}
@@ -86,8 +86,8 @@ module _ (b : List ℕ) (os : Octets b) (N : ℕ) (l : is_limit N ≡ true) (roo
 -- The same of the promises, for every frame limit N, 78 to 260, and every reader's limit M from N on: any answer and output
 -- that `write` may give, and then any that `decode` may give to what lies between the flags of what was written.
 pub round_trip : (N M : ℕ) → is_limit N ≡ true → is_limit M ≡ true → N ≤ M → (a c : ℕ) (p : List ℕ) (o o' u u' : List ℕ)
-    {n : ℕ} {r : Handed} → Octets (a ∷ c ∷ p) → length p ≤ payload_most N → length p + 2 ≤ length u
-    → Hands (written N a c p (length o)) o (Handed-as-Octets n) o'
+    {n : ℕ} {r : Result ℕ Refusal} → Octets (a ∷ c ∷ p) → length p ≤ payload_most N → length p + 2 ≤ length u
+    → Hands (written N a c p (length o)) o (Ok n) o'
     → Hands (decoded M (inside (take n o')) (length u)) u r u'
     → Hands (gives (a ∷ c ∷ p)) u r u'
 round_trip N M l m up a c p o o' u u' {n} os h k w d =

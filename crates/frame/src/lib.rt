@@ -13,7 +13,7 @@ ghost use Rattle.frame.specs.Line.{flag, escape, broken, plain};
 ghost use Rattle.frame.specs.Decode.{framed, decoded};
 
 use limits::{LIMIT_LEAST, LINE_MOST, LONGEST_LINE};
-use refusal::{Handed, Refusal};
+use refusal::Refusal;
 
 // The octet at both ends of a line; the one in front of an octet that is escaped, and what that is changed by.
 pub const FLAG: u8 = 0x7E;
@@ -80,28 +80,28 @@ fn unescape(s: &[u8], store: &mut [u8]) -> usize
 
 // Judges the decoded octets `d`, and hands address, control and payload out: what the decoder and the receiver say of a
 // line that is whole.
-pub fn deliver(limit: usize, d: &[u8], out: &mut [u8]) -> Handed
+pub fn deliver(limit: usize, d: &[u8], out: &mut [u8]) -> Result<usize, Refusal>
     ensures { Hands (framed limit d.now (length out.old))
         out.old result out.new }
 {
     let n = d.len();
     if n < 4 {
-        return Handed::Refused(Refusal::TooShort);
+        return Err(Refusal::TooShort);
     }
     if limit < n {
-        return Handed::Refused(Refusal::TooLong);
+        return Err(Refusal::TooLong);
     }
     let len = n - 2;
     let check = fcs::check(&d[..len]);
     let given = octets::pair(d[len], d[n - 1]);
     if check != given {
-        return Handed::Refused(Refusal::WrongCheck);
+        return Err(Refusal::WrongCheck);
     }
     refusal::hand_out(&d[..len], out)
 }
 
 // Takes the escapes out of a line that is whole, into a store that has room for it, and judges what is left.
-fn by_store(limit: usize, src: &[u8], store: &mut [u8], out: &mut [u8]) -> Handed
+fn by_store(limit: usize, src: &[u8], store: &mut [u8], out: &mut [u8]) -> Result<usize, Refusal>
     requires { (length src.now ≤ length store.old) × (eqb (last_of 0 src.now) escape ≡ false) }
     ensures { Hands (framed limit (plain src.now) (length out.old))
         out.old result out.new }
@@ -111,7 +111,7 @@ fn by_store(limit: usize, src: &[u8], store: &mut [u8], out: &mut [u8]) -> Hande
 }
 
 // A line as long as one of the least limit can be: a small store, which is soon set to zero.
-fn decode_short(limit: usize, src: &[u8], out: &mut [u8]) -> Handed
+fn decode_short(limit: usize, src: &[u8], out: &mut [u8]) -> Result<usize, Refusal>
     requires { (length src.now ≤ line_most limit_least) × (eqb (last_of 0 src.now) escape ≡ false) }
     ensures { Hands (framed limit (plain src.now) (length out.old))
         out.old result out.new }
@@ -121,7 +121,7 @@ fn decode_short(limit: usize, src: &[u8], out: &mut [u8]) -> Handed
 }
 
 // A longer one.
-fn decode_long(limit: usize, src: &[u8], out: &mut [u8]) -> Handed
+fn decode_long(limit: usize, src: &[u8], out: &mut [u8]) -> Result<usize, Refusal>
     requires { (length src.now ≤ line_most limit_most) × (eqb (last_of 0 src.now) escape ≡ false) }
     ensures { Hands (framed limit (plain src.now) (length out.old))
         out.old result out.new }
@@ -133,25 +133,25 @@ fn decode_long(limit: usize, src: &[u8], out: &mut [u8]) -> Handed
 // Decodes what lies between two flags, with the frame limit `limit`: address, control and payload to the start of `out`.
 // More octets than a line has stand for more than its limit, so that a store has room for what is left, and no octet asks
 // for it.
-pub fn decode(limit: usize, src: &[u8], out: &mut [u8]) -> Handed
+pub fn decode(limit: usize, src: &[u8], out: &mut [u8]) -> Result<usize, Refusal>
     ensures { Hands (decoded limit src.now (length out.old))
         out.old result out.new }
 {
     if !limits::is_limit(limit) {
-        return Handed::Refused(Refusal::NotAllowed);
+        return Err(Refusal::NotAllowed);
     }
     if is_broken(src) {
-        return Handed::Refused(Refusal::Broken);
+        return Err(Refusal::Broken);
     }
     if src.len() <= LINE_MOST {
         return decode_short(limit, src, out);
     }
     // Only for the compiler: a caller with the constant 78 does without the long store.
     if limit <= LIMIT_LEAST {
-        return Handed::Refused(Refusal::TooLong);
+        return Err(Refusal::TooLong);
     }
     if LONGEST_LINE < src.len() {
-        return Handed::Refused(Refusal::TooLong);
+        return Err(Refusal::TooLong);
     }
     decode_long(limit, src, out)
 }

@@ -1,5 +1,6 @@
 -- The promise of this crate allows one result. Assumes nothing.
-use Rattle.refusal.specs.declared.Outcome.{Outcome}
+use Rattle.std.proofs.Common.{Result}
+use Rattle.refusal.specs.declared.Refusal.{Refusal}
 use Rattle.refusal.proofs.Only.{changes-only}
 use Rattle.record.specs.declared.Device.{Device}
 use mathlib.Core.Path.{ap₂}
@@ -8,7 +9,7 @@ use Rattle.fresh.proofs.fresh.Reads as fresh-reads
 
 pub fresh-only : Settles fresh-reads.Learnt
 fresh-only κs a r q s t x y =
-    let e = changes-only x y in ap₂ (λ (o : Outcome) (n : Device). record { outcome = o; device = n }) e.0 e.1
+    let e = changes-only x y in ap₂ (λ (o : Result (Unit {0}) Refusal) (n : Device). record { outcome = o; device = n }) e.0 e.1
 
 pub fresh-asks : AsksNothing fresh-reads.Asked
 fresh-asks κs a = tt

@@ -16,7 +16,7 @@ use identity::OCTETS;
 use record::{
     Changed, Desk, Device, Identity, Link, PRODUCT, Plate, Product, Span, Station, VERSION, Version,
 };
-use refusal::{Outcome, Refusal};
+use refusal::Refusal;
 
 fn texts_allowed(identity: &[u8], product: &[u8], hardware: &[u8], software: &[u8]) -> bool
     ensures { result ≡ texts_allowed identity.now product.now hardware.now
@@ -187,12 +187,12 @@ pub fn fresh(
         let plate = plate_from(identity, product, hardware, software);
         let device = fresh_from(plate, antenna);
         return Changed {
-            outcome: Outcome::Done,
+            outcome: Ok(()),
             device,
         };
     }
     Changed {
-        outcome: Outcome::Refused(Refusal::NotAllowed),
+        outcome: Err(Refusal::NotAllowed),
         device: blank(),
     }
 }

@@ -3,6 +3,8 @@
 --   fitting_rows N h  == the rows of what is handed out, but for that of 5
 --   TookAll, TookUpTo == a call goes over all octets, or up to the flag at the place k; HowFar == one of the two
 -- Assumes nothing.
+use Rattle.std.proofs.Common.{Result, Ok, Err}
+use Rattle.refusal.specs.declared.Refusal.{Refusal}
 use mathlib.Core.Path.{◌≡◌, refl, sym, ap, ◌∙◌, subst}
 use mathlib.Core.Bool.{Bool, true, false, not}
 use mathlib.Core.List.{List, [], ◌∷◌, ◌++◌}
@@ -17,7 +19,6 @@ use Rattle.octets.proofs.Bounds.{octets-take}
 use Rattle.octets.proofs.Words.{true-not-false, and_parts, holds-exactly}
 use Rattle.refusal.specs.Answer.{Answer, gives, refuses, TestRow, ◌when◌, answered, Clear, numbers_of, shorter}
 use Rattle.refusal.specs.Answer.{out_after, Hands}
-use Rattle.refusal.specs.declared.Handed.{Handed}
 use Rattle.refusal.proofs.Answers.{gives-not-refuses, refuses-same, gives_same, octets-told, refusal-told}
 use Rattle.refusal.proofs.Exactly.{TestsFor, exactly-tests, exactly-given, answered-all}
 use Rattle.fcs.specs.Check.{check_of, with_check}
@@ -324,14 +325,14 @@ module _ (N : ℕ) (h : Held) (s o : List ℕ) (r : Received) (m o' : List ℕ) 
     quiet_told q octets =
         (t, refl, q, count ∙ quiet_all N h s (length o) e q, held, octets)
 
-    handed-told : (a : Answer (List ℕ)) (q : Handed) → t.told ≡ handed a → Hands a o q o'
+    handed-told : (a : Answer (List ℕ)) (q : Result ℕ Refusal) → t.told ≡ handed a → Hands a o q o'
         → HeardTells (HandedOut q) (gives t) h s o r m o'
     unfolding out_after
-    handed-told a (Handed.Octets n) told w =
+    handed-told a (Ok n) told w =
         let (this, size) = octets-told a w in
         let there = w.octets ∙ ap (λ (b : Answer (List ℕ)). out_after b o) this in
         (t, refl, told ∙ ap handed this, count, held, size, there)
-    handed-told a (Handed.Refused k) told w =
+    handed-told a (Err k) told w =
         let (this, same) = refusal-told a w in (t, refl, told ∙ ap handed this, count, held, same)
 
     taken-tells : (w : Heard) (d : Told (List ℕ)) → t.told ≡ d → heard_of w ≡ gives (told_counted d) → o' ≡ out_told d o
@@ -361,8 +362,8 @@ module _ (N : ℕ) (h : Held) (s o : List ℕ) (r : Received) (m o' : List ℕ) 
   read-tells : (x : Answer Took) (w : Heard) → HeardTells w x h s o r m o' → read_out w o' ≡ outs_by x
   unfolding read_out outs_by told_outs
   read-tells x Nothing w = rw (w.1, w.2)
-  read-tells x (HandedOut (Handed.Octets n)) w = rw (w.1, w.2)
-  read-tells x (HandedOut (Handed.Refused k)) w = rw (w.1, w.2)
+  read-tells x (HandedOut (Ok n)) w = rw (w.1, w.2)
+  read-tells x (HandedOut (Err k)) w = rw (w.1, w.2)
   read-tells x (Refused k) w = rw w.0
 
 module _ (N : ℕ) (h : Held) (s o : List ℕ) {r : Received} {m o' : List ℕ} where
@@ -394,7 +395,7 @@ module _ (N : ℕ) (h : Held) (s o : List ℕ) {r : Received} {m o' : List ℕ} 
       )
 
   -- for every record: a frame that is handed out has the right check for the octets that the caller reads
-  pub right-check-call : {n : ℕ} → Receives (received N h s (length o)) h o r m o' → r.heard ≡ HandedOut (Handed.Octets n)
+  pub right-check-call : {n : ℕ} → Receives (received N h s (length o)) h o r m o' → r.heard ≡ HandedOut (Ok n)
       → (k : ℕ) × (low : ℕ) × (high : ℕ) × (r.taken ≡ suc k) × (get_or s k 0 ≡ flag)
       × (held_octets (after_all h (take k s)) ≡ take n o' ++ low ∷ high ∷ []) × (check_of (take n o') ≡ pair_of low high)
   right-check-call {n} w is =

@@ -17,12 +17,11 @@
 --   round_offers cs  == how the calls cs offer the octets
 --   Likewise t u     == two calls go equally far, with the same record behind them, and both hand something out or neither
 -- Assumes nothing.
+use Rattle.std.specs.Prelude.{Ok, Err}
 use Rattle.std.specs.Prelude.{◌≡◌, cond, List, [], ◌∷◌, ◌++◌, ◌⊎◌, ℕ, zero, suc, ◌≤◌, length, take, drop}
 use Rattle.octets.specs.Octets.{◌at_start_of◌}
 use Rattle.refusal.specs.Numbers.{number_of}
 use Rattle.refusal.specs.Answer.{Answer, gives, refuses}
-use Rattle.refusal.specs.declared.Handed.{Handed}
-use Rattle.refusal.specs.declared.Handed.TheVariants.{Octets}
 use Rattle.limits.specs.Limits.{frame_most}
 use Rattle.receiver.specs.Held.{Held, held_of, after_octet, closes, stretch_says}
 use Rattle.receiver.specs.declared.Heard.{Heard}
@@ -99,10 +98,10 @@ abbrev pub HeardTells : Heard → Answer Took → Held → List ℕ → List ℕ
 HeardTells Nothing x h s o r m o' =
     (t : Took) × (x ≡ gives t) × (t.told ≡ nothing) × (r.taken ≡ length s) × (held_of r.receiver m ≡ t.held)
     × (o' ≡ o)
-HeardTells (HandedOut (Octets n)) x h s o r m o' =
+HeardTells (HandedOut (Ok n)) x h s o r m o' =
     (t : Took) × (x ≡ gives t) × (t.told ≡ handed (gives (take n o'))) × (r.taken ≡ t.count)
     × (held_of r.receiver m ≡ t.held) × (n ≡ length (take n o')) × (o' ≡ take n o' at_start_of o)
-HeardTells (HandedOut (Handed.Refused k)) x h s o r m o' =
+HeardTells (HandedOut (Err k)) x h s o r m o' =
     (t : Took) × (x ≡ gives t) × (t.told ≡ handed (refuses (number_of k))) × (r.taken ≡ t.count)
     × (held_of r.receiver m ≡ t.held) × (o' ≡ o)
 HeardTells (Refused k) x h s o r m o' =
@@ -114,8 +113,8 @@ CallTells x h s o r m o' = HeardTells r.heard x h s o r m o'
 -- a frame is read at the start of the output
 unfoldable pub read_out : Heard → List ℕ → List (Answer (List ℕ))
 read_out Nothing o = []
-read_out (HandedOut (Octets n)) o = gives (take n o) ∷ []
-read_out (HandedOut (Handed.Refused k)) o = refuses (number_of k) ∷ []
+read_out (HandedOut (Ok n)) o = gives (take n o) ∷ []
+read_out (HandedOut (Err k)) o = refuses (number_of k) ∷ []
 read_out (Refused k) o = []
 
 pub record Round : Type 0 where

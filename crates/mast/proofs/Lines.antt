@@ -1,5 +1,7 @@
 -- One line: the octets of the next probe as they are handed out, what lies between the flags, and what a device that
 -- hears it says. Assumes nothing.
+use Rattle.std.proofs.Common.{Result, Ok, Err}
+use Rattle.refusal.specs.declared.Refusal.{Refusal}
 use mathlib.Core.Path.{◌≡◌, refl, sym, ap, ◌∙◌}
 use mathlib.Core.Bool.{Bool, true, false, ◌||◌}
 use mathlib.Core.List.{List, [], ◌∷◌, append-nil}
@@ -9,8 +11,6 @@ use native.Mathlib.Omega.{arith}
 use lib.ListN.{length, take, drop, get_or, length-take, length-drop, drop_of_length-le}
 use lib.Seq.{take_all, take-take}
 use Rattle.octets.specs.Octets.{◌at_start_of◌}
-use Rattle.refusal.specs.declared.Handed.{Handed}
-use Rattle.refusal.specs.declared.Handed.TheVariants.{Octets, Refused}
 use Rattle.refusal.specs.Answer.{Answer, gives, refuses, answer_of, counted, out_after, Hands}
 use Rattle.refusal.proofs.Answers.{gives-not-refuses, gives_same, octets-told, in-room}
 use Rattle.limits.specs.Limits.{limit_least, limit_most, frame_most, line_most}
@@ -33,22 +33,22 @@ use Rattle.mast.specs.declared.Written.{Written}
 
 module _ {o o' : List ℕ} where
   -- so many octets of the output are what was given; none where it was refused
-  handed-line : (x : Answer (List ℕ)) (r : Handed) → Hands x o r o' → take (size_in r) o' ≡ octets_given x
+  handed-line : (x : Answer (List ℕ)) (r : Result ℕ Refusal) → Hands x o r o' → take (size_in r) o' ≡ octets_given x
   unfolding octets_given answer_of counted
-  handed-line (gives b) (Octets n) h = gives_same (sym (octets-told (gives b) h).0)
-  handed-line (gives b) (Refused k) h = absurd (gives-not-refuses (sym h.answer))
-  handed-line (refuses j) (Octets n) h = absurd (gives-not-refuses h.answer)
-  handed-line (refuses j) (Refused k) h = refl
+  handed-line (gives b) (Ok n) h = gives_same (sym (octets-told (gives b) h).0)
+  handed-line (gives b) (Err k) h = absurd (gives-not-refuses (sym h.answer))
+  handed-line (refuses j) (Ok n) h = absurd (gives-not-refuses h.answer)
+  handed-line (refuses j) (Err k) h = refl
 
-  handed-given : (x : Answer (List ℕ)) (r : Handed) → Hands x o r o' → given_in r ≡ is_handed_out x
+  handed-given : (x : Answer (List ℕ)) (r : Result ℕ Refusal) → Hands x o r o' → given_in r ≡ is_handed_out x
   unfolding is_handed_out answer_of counted
-  handed-given (gives b) (Octets n) h = refl
-  handed-given (gives b) (Refused k) h = absurd (gives-not-refuses (sym h.answer))
-  handed-given (refuses j) (Octets n) h = absurd (gives-not-refuses h.answer)
-  handed-given (refuses j) (Refused k) h = refl
+  handed-given (gives b) (Ok n) h = refl
+  handed-given (gives b) (Err k) h = absurd (gives-not-refuses (sym h.answer))
+  handed-given (refuses j) (Ok n) h = absurd (gives-not-refuses h.answer)
+  handed-given (refuses j) (Err k) h = refl
 
 -- a probe is written from its first octet, its second and the rest
-pub probe-line : (f : List ℕ) (m : ℕ) {o o' : List ℕ} {r : Handed} {n : ℕ} → length f ≤ m
+pub probe-line : (f : List ℕ) (m : ℕ) {o o' : List ℕ} {r : Result ℕ Refusal} {n : ℕ} → length f ≤ m
     → Hands (written limit_least (get_or f 0 0) (get_or f 1 0) (take (m - 2) (drop 2 f)) (line_most limit_least)) o r o'
     → n ≡ size_in r
     → take n o' ≡ line_for f
@@ -72,7 +72,7 @@ given-all s f g = go (over s) refl
         ap length (gives_same (sym g ∙ gave)) ∙ length-probe (beginning_of s)
 
 -- and so it fills what was lent
-given-fills : (s : Scan) (f : List ℕ) {o o' : List ℕ} {r : Handed} → length o ≡ probe_length
+given-fills : (s : Scan) (f : List ℕ) {o o' : List ℕ} {r : Result ℕ Refusal} → length o ≡ probe_length
     → Hands (probed s probe_length) o r o' → probed s probe_length ≡ gives f → o' ≡ f
 unfolding out_after ◌at_start_of◌
 given-fills s f {o} n h e =
@@ -80,7 +80,7 @@ given-fills s f {o} n h e =
     h.octets ∙ ap (λ (x : Answer (List ℕ)). out_after x o) e
     ∙ rw (drop_of_length-le o {i = length f} (omega arith), append-nil f)
 
-pub asks-is : (s : Scan) {o o' : List ℕ} {r : Handed} {w : Written} {b : Bool} → length o ≡ probe_length
+pub asks-is : (s : Scan) {o o' : List ℕ} {r : Result ℕ Refusal} {w : Written} {b : Bool} → length o ≡ probe_length
     → Hands (probed s probe_length) o r o' → line_in w ≡ line_for o' → b ≡ given_in r
     → Probing (probed s probe_length) (record { asks = b; line = w })
 asks-is s {r = r} n h l e =

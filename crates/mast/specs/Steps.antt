@@ -6,9 +6,9 @@
 --   Listens d l b r  == r is the device d after the line l, and whether it answered, or one before did: b
 --   Sends ds n l r   == r is the devices ds after the first n of them heard the line l, and whether one answered
 -- Assumes nothing.
+use Rattle.std.specs.Prelude.{Result, Ok, Err}
+use Rattle.refusal.specs.declared.Refusal.{Refusal}
 use Rattle.std.specs.Prelude.{◌≡◌, Bool, true, false, ◌||◌, List, ◌++◌, ℕ, take, drop}
-use Rattle.refusal.specs.declared.Handed.{Handed}
-use Rattle.refusal.specs.declared.Handed.TheVariants.{Octets, Refused}
 use Rattle.refusal.specs.Answer.{Answer, gives, refuses}
 use Rattle.record.specs.declared.Device.{Device}
 use Rattle.device.specs.declared.Said.{Said}
@@ -21,13 +21,13 @@ use Rattle.mast.specs.declared.Heard.{Heard}
 abbrev pub line_in : Written → List ℕ
 line_in w = take w.len w.octets
 
-abbrev pub size_in : Handed → ℕ
-size_in (Octets n) = n
-size_in (Refused k) = 0
+abbrev pub size_in : Result ℕ Refusal → ℕ
+size_in (Ok n) = n
+size_in (Err k) = 0
 
-abbrev pub given_in : Handed → Bool
-given_in (Octets n) = true
-given_in (Refused k) = false
+abbrev pub given_in : Result ℕ Refusal → Bool
+given_in (Ok n) = true
+given_in (Err k) = false
 
 abbrev pub frame_in : Said → Bool
 frame_in Said.Silence = false

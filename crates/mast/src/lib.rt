@@ -15,7 +15,7 @@ use bus::{MOST, Row};
 use device::Said;
 use limits::{LIMIT_LEAST, LINE_MOST, LONGEST_FRAME};
 use record::Device;
-use refusal::Handed;
+use refusal::Refusal;
 use scan::{PROBE, Scan};
 
 // A scan that was run to its end, and the row after it.
@@ -42,22 +42,22 @@ struct Asked {
 }
 
 // How many octets were handed out.
-fn size_in(handed: Handed) -> usize
+fn size_in(handed: Result<usize, Refusal>) -> usize
     ensures { result ≡ size_in handed }
 {
     match handed {
-        Handed::Octets(len) => len,
-        Handed::Refused(_) => 0,
+        Ok(len) => len,
+        Err(_) => 0,
     }
 }
 
 // Whether octets were handed out.
-fn given_in(handed: Handed) -> bool
+fn given_in(handed: Result<usize, Refusal>) -> bool
     ensures { result ≡ given_in handed }
 {
     match handed {
-        Handed::Octets(_) => true,
-        Handed::Refused(_) => false,
+        Ok(_) => true,
+        Err(_) => false,
     }
 }
 

@@ -1,4 +1,6 @@
 -- What a closing flag hands out, by the tests of the code; and a call that is over. Assumes nothing.
+use Rattle.std.proofs.Common.{Result}
+use Rattle.refusal.specs.declared.Refusal.{Refusal}
 use mathlib.Core.Path.{◌≡◌, refl, sym, ap, ◌∙◌}
 use mathlib.Core.Bool.{true, false}
 use mathlib.Core.List.{List, ◌∷◌}
@@ -8,7 +10,6 @@ use native.Mathlib.Omega.{arith}
 use lib.ListN.{length, get_or, take, drop, drop_of_length-le}
 use Rattle.octets.proofs.Rest.{rest}
 use Rattle.refusal.specs.Answer.{Answer, gives, refuses, Hands}
-use Rattle.refusal.specs.declared.Handed.{Handed}
 use Rattle.refusal.proofs.Answers.{answered-here, answered-later}
 use Rattle.frame.specs.Line.{flag}
 use Rattle.frame.specs.Decode.{framed}
@@ -46,7 +47,7 @@ module _ (N : ℕ) (h g : Held) (s o : List ℕ) {k : ℕ} (p : Passes h s k g) 
       (record { answer = refl; count = sym (add-zero k); held = refl; octets = refl })
 
   -- a flag closes a stretch that has octets
-  pub flag-closes : {a : Handed} {o' : List ℕ} → k < length s → get_or s k 0 ≡ flag → stretched g.marks ≡ true
+  pub flag-closes : {a : Result ℕ Refusal} {o' : List ℕ} → k < length s → get_or s k 0 ≡ flag → stretched g.marks ≡ true
       → Hands (stretch_says N (length o) g) o a o'
       → Receives (gives (takes N (length o) h s)) h o
       (record { receiver = open_marks; taken = k + 1; heard = HandedOut a }) g.store o'

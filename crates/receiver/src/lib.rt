@@ -14,7 +14,7 @@ ghost use Rattle.receiver.specs.Pieces.{Plain, Copies};
 
 use frame::{ESCAPE, FLAG, TOGGLE};
 use limits::LIMIT_MOST;
-use refusal::{Handed, Refusal};
+use refusal::Refusal;
 
 // The places of the store: one for each octet of the longest frame.
 pub const PLACES: usize = LIMIT_MOST;
@@ -40,7 +40,7 @@ pub struct Receiver {
 #[derive(Clone, Copy)]
 pub enum Heard {
     Nothing,
-    HandedOut(Handed),
+    HandedOut(Result<usize, Refusal>),
     Refused(Refusal),
 }
 
@@ -104,16 +104,16 @@ fn copy(s: &[u8], store: &mut [u8], at: usize) -> usize
 }
 
 // What is handed out where a flag closes the stretch.
-fn close(limit: usize, receiver: Receiver, store: &[u8], out: &mut [u8]) -> Handed
+fn close(limit: usize, receiver: Receiver, store: &[u8], out: &mut [u8]) -> Result<usize, Refusal>
     requires { Usable (held_of receiver store.now) }
     ensures { Hands (stretch_says limit (length out.old) (held_of receiver store.now))
         out.old result out.new }
 {
     if receiver.last {
-        return Handed::Refused(Refusal::Broken);
+        return Err(Refusal::Broken);
     }
     if receiver.more {
-        return Handed::Refused(Refusal::TooLong);
+        return Err(Refusal::TooLong);
     }
     let n = receiver.count;
     frame::deliver(limit, &store[..n], out)

@@ -1,10 +1,11 @@
 -- An event of a device is the event of its antenna, after refusal 6. Assumes nothing.
+use Rattle.std.proofs.Common.{Result}
+use Rattle.refusal.specs.declared.Refusal.{Refusal}
 use mathlib.Core.Path.{◌≡◌, sym, ap}
 use mathlib.Core.Bool.{true, false, not}
 use mathlib.Core.List.{[], ◌∷◌}
 use Prim.Native.Nat.{ℕ}
 use Rattle.refusal.specs.Answer.{refuses, ◌when◌, Changes}
-use Rattle.refusal.specs.declared.Outcome.{Outcome}
 use Rattle.refusal.proofs.Answers.{answered-here, answered-later, changes-is, changes-through}
 use Rattle.antenna.specs.declared.Angle.{Angle}
 use Rattle.antenna.specs.declared.Antenna.{Antenna}
@@ -33,7 +34,7 @@ module _ (d : Device) (e : Event) where
   unfolding happened event_rows
   not-allowed h = answered-here _ _ _ (ap not h)
 
-  pub device-happened : allowed_device d ≡ true → {n : Antenna} {r : Outcome}
+  pub device-happened : allowed_device d ≡ true → {n : Antenna} {r : Result (Unit {0}) Refusal}
       → Changes (antenna_happened d.antenna e) d.antenna r n → Changes (happened d e) d r (with_antenna d n)
   unfolding happened event_rows antenna_happened
   device-happened h c =

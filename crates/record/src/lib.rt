@@ -11,7 +11,7 @@ ghost use Rattle.record.specs.Allowed.{addressed, session_allowed, link_allowed,
 ghost use Rattle.record.specs.Allowed.{allowed_device};
 
 use antenna::{Alarms, Angle, Antenna, Motion};
-use refusal::Outcome;
+use refusal::Refusal;
 
 // The most octets of the product text, and of the hardware and the software text.
 pub const PRODUCT: usize = 20;
@@ -128,7 +128,7 @@ pub enum Event {
 
 #[derive(Clone, Copy)]
 pub struct Changed {
-    pub outcome: Outcome,
+    pub outcome: Result<(), Refusal>,
     pub device: Device,
 }
 

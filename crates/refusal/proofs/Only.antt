@@ -1,4 +1,5 @@
 -- Each promise of this crate allows one result, and one content of the lent output. Assumes nothing.
+use Rattle.std.proofs.Common.{Result, Ok, Err}
 use mathlib.Core.Path.{◌≡◌, refl, sym, ap, ◌∙◌}
 use mathlib.Core.Bool.{cond}
 use mathlib.Core.List.{List}
@@ -10,11 +11,7 @@ use Rattle.refusal.specs.Answer.{Answer, answer_of, Hands}
 use Rattle.refusal.specs.declared.Refusal.{Refusal}
 use Rattle.refusal.specs.declared.Refusal.TheVariants.{TooShort, TooLong, WrongCheck, Broken, NoRoom}
 use Rattle.refusal.specs.declared.Refusal.TheVariants.{NotAllowed, ScanOver, CannotBe, PayloadTooLong}
-use Rattle.refusal.specs.declared.Handed.{Handed}
-use Rattle.refusal.specs.declared.Handed.TheVariants.{Octets, Refused}
 use Rattle.refusal.specs.Answer.{outcome_of, Changes}
-use Rattle.refusal.specs.declared.Outcome.{Outcome}
-use Rattle.refusal.specs.declared.Outcome.TheVariants.{Done}
 use Rattle.refusal.proofs.Answers.{gives-not-refuses, refuses-same, gives_same}
 use Rattle.octets.proofs.Only.{AsksNothing, Settles, SettlesAll}
 use Rattle.refusal.proofs.number.Reads as number-reads
@@ -46,28 +43,27 @@ named-number PayloadTooLong = refl
 pub number-apart : (r q : Refusal) → number_of r ≡ number_of q → r ≡ q
 number-apart r q e = sym (named-number r) ∙ ap named e ∙ named-number q
 
-pub answer-apart : (r q : Handed) → answer_of r ≡ answer_of q → r ≡ q
+pub answer-apart : (r q : Result ℕ Refusal) → answer_of r ≡ answer_of q → r ≡ q
 unfolding answer_of
-answer-apart (Octets n) (Octets m) e = ap Octets (gives_same e)
-answer-apart (Octets n) (Refused k) e = absurd (gives-not-refuses e)
-answer-apart (Refused k) (Octets n) e = absurd (gives-not-refuses (sym e))
-answer-apart (Refused k) (Refused j) e = ap Refused (number-apart k j (refuses-same e))
+answer-apart (Ok n) (Ok m) e = ap Ok (gives_same e)
+answer-apart (Ok n) (Err k) e = absurd (gives-not-refuses e)
+answer-apart (Err k) (Ok n) e = absurd (gives-not-refuses (sym e))
+answer-apart (Err k) (Err j) e = ap Err (number-apart k j (refuses-same e))
 
 -- every promise by `Hands` allows one answer and one output
-pub hands-only : {right : Answer (List ℕ)} {o p q : List ℕ} {r s : Handed}
+pub hands-only : {right : Answer (List ℕ)} {o p q : List ℕ} {r s : Result ℕ Refusal}
     → Hands right o r p → Hands right o s q → (r ≡ s) × (p ≡ q)
 hands-only {r = r} {s = s} a b = (answer-apart r s (only a.answer b.answer), only a.octets b.octets)
 
-pub outcome-apart : (r q : Outcome) → outcome_of r ≡ outcome_of q → r ≡ q
+pub outcome-apart : (r q : Result (Unit {0}) Refusal) → outcome_of r ≡ outcome_of q → r ≡ q
 unfolding outcome_of
-outcome-apart Done Done e = refl
-outcome-apart Done (Outcome.Refused k) e = absurd (gives-not-refuses e)
-outcome-apart (Outcome.Refused k) Done e = absurd (gives-not-refuses (sym e))
-outcome-apart (Outcome.Refused k) (Outcome.Refused j) e =
-    ap Outcome.Refused (number-apart k j (refuses-same e))
+outcome-apart (Ok _) (Ok _) e = refl
+outcome-apart (Ok _) (Err k) e = absurd (gives-not-refuses e)
+outcome-apart (Err k) (Ok _) e = absurd (gives-not-refuses (sym e))
+outcome-apart (Err k) (Err j) e = ap Err (number-apart k j (refuses-same e))
 
 -- every promise by `Changes` allows one outcome and one state
-pub changes-only : {S : Type 0} {right : Answer S} {s t u : S} {r q : Outcome}
+pub changes-only : {S : Type 0} {right : Answer S} {s t u : S} {r q : Result (Unit {0}) Refusal}
     → Changes right s r t → Changes right s q u → (r ≡ q) × (t ≡ u)
 changes-only {r = r} {q = q} a b = (outcome-apart r q (only a.outcome b.outcome), only a.state b.state)
 

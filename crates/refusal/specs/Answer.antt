@@ -11,13 +11,11 @@
 --   Hands x o r o'    == the code's answer r, and the output o' that was o, are the answer x
 --   Changes x s r s'  == the code's outcome r, and the state s' that was s, are the answer x
 -- Assumes nothing.
+use Rattle.std.specs.Prelude.{Result, Ok, Err}
+use Rattle.refusal.specs.declared.Refusal.{Refusal}
 use Rattle.std.specs.Prelude.{◌≡◌, Bool, true, false, cond, List, [], ◌∷◌, ◌⊎◌, ℕ, ltb, length}
 use Rattle.octets.specs.Octets.{◌at_start_of◌}
 use Rattle.refusal.specs.Numbers.{number_of}
-use Rattle.refusal.specs.declared.Handed.{Handed}
-use Rattle.refusal.specs.declared.Handed.TheVariants.{Octets, Refused}
-use Rattle.refusal.specs.declared.Outcome.{Outcome}
-use Rattle.refusal.specs.declared.Outcome.TheVariants.{Done}
 
 infix 70 ◌when◌
 pub data Answer (A : Type 0) : Type 0 where
@@ -55,9 +53,9 @@ unfoldable pub handed_out : List ℕ → ℕ → Answer (List ℕ)
 handed_out b room = answered (5 when shorter room b ∷ []) b
 
 -- the paper's number, or how many octets, for each case of the code's answer
-unfoldable pub answer_of : Handed → Answer ℕ
-answer_of (Octets n) = gives n
-answer_of (Refused r) = refuses (number_of r)
+unfoldable pub answer_of : Result ℕ Refusal → Answer ℕ
+answer_of (Ok n) = gives n
+answer_of (Err r) = refuses (number_of r)
 
 unfoldable pub counted : Answer (List ℕ) → Answer ℕ
 counted (gives b) = gives (length b)
@@ -68,14 +66,14 @@ unfoldable pub out_after : Answer (List ℕ) → List ℕ → List ℕ
 out_after (gives b) o = b at_start_of o
 out_after (refuses k) o = o
 
-pub record Hands (right : Answer (List ℕ)) (o : List ℕ) (r : Handed) (o' : List ℕ) : Type 0 where
+pub record Hands (right : Answer (List ℕ)) (o : List ℕ) (r : Result ℕ Refusal) (o' : List ℕ) : Type 0 where
   pub answer : answer_of r ≡ counted right
   pub octets : o' ≡ out_after right o
 
 -- the paper's number, or none, for each case of the code's outcome
-unfoldable pub outcome_of : Outcome → Answer (Unit {0})
-outcome_of Done = gives tt
-outcome_of (Outcome.Refused r) = refuses (number_of r)
+unfoldable pub outcome_of : Result (Unit {0}) Refusal → Answer (Unit {0})
+outcome_of (Ok _) = gives tt
+outcome_of (Err r) = refuses (number_of r)
 
 unfoldable pub settled : {S : Type 0} → Answer S → Answer (Unit {0})
 settled (gives s) = gives tt
@@ -86,6 +84,6 @@ unfoldable pub state_after : {S : Type 0} → Answer S → S → S
 state_after (gives t) s = t
 state_after (refuses k) s = s
 
-pub record Changes {S : Type 0} (right : Answer S) (s : S) (r : Outcome) (s' : S) : Type 0 where
+pub record Changes {S : Type 0} (right : Answer S) (s : S) (r : Result (Unit {0}) Refusal) (s' : S) : Type 0 where
   pub outcome : outcome_of r ≡ settled right
   pub state : s' ≡ state_after right s

@@ -20,20 +20,6 @@ pub enum Refusal {
     PayloadTooLong,
 }
 
-// So many octets stand at the start of the lent output; or the number for "no", and the output is as it was.
-#[derive(Clone, Copy)]
-pub enum Handed {
-    Octets(usize),
-    Refused(Refusal),
-}
-
-// A change was made; or the number for "no", and all is as it was.
-#[derive(Clone, Copy)]
-pub enum Outcome {
-    Done,
-    Refused(Refusal),
-}
-
 // The paper's number of a refusal.
 pub fn number(refusal: Refusal) -> u8
     ensures { result ≡ number_of refusal }
@@ -51,14 +37,15 @@ pub fn number(refusal: Refusal) -> u8
     }
 }
 
-// Hands `octets` out: to the start of `out`, if it has room for them all.
-pub fn hand_out(octets: &[u8], out: &mut [u8]) -> Handed
+// Hands `octets` out: to the start of `out`, if it has room for them all. So many stand there then; or the number for "no", and the
+// output is as it was.
+pub fn hand_out(octets: &[u8], out: &mut [u8]) -> Result<usize, Refusal>
     ensures { Hands (handed_out octets.now (length out.old))
         out.old result out.new }
 {
     if out.len() < octets.len() {
-        return Handed::Refused(Refusal::NoRoom);
+        return Err(Refusal::NoRoom);
     }
     octets::put_all(out, 0, octets);
-    Handed::Octets(octets.len())
+    Ok(octets.len())
 }

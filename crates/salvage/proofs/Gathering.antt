@@ -1,6 +1,8 @@
 -- The octets up to the next flag, at once and one by one: what is carried behind them, and what becomes of the open stretch.
 --   AllIs c p d == d is c with the octets p more, but for the receiver's record
 -- Assumes nothing.
+use Rattle.std.proofs.Common.{Result, Ok, Err}
+use Rattle.refusal.specs.declared.Refusal.{Refusal}
 use Rattle.std.proofs.Common.{◌≡◌, ℕ, suc, ◌+◌, ◌%◌, ◌^◌, ◌<◌, ◌≤◌, min, Bool, true, false, cond, eqb, ltb, List, [], ◌∷◌, ◌++◌, length, take, set, sym, refl, ap, ◌∙◌, ap₂, append-nil, suc-add, zero-add, arith, length-set, length-take, take_all, ltb-false, ltb-true, ne_eqb, eqb-true}
 use lib.Seq.{sets, length-sets}
 use Rattle.octets.specs.Octets.{holds, place_of, part_of}
@@ -8,8 +10,6 @@ use Rattle.octets.proofs.Stores.{sets-past}
 use Rattle.octets.proofs.Words.{true-not-false, holds-head, holds-tail, place-held}
 use Rattle.refusal.specs.Answer.{Answer, gives, refuses, answer_of, counted}
 use Rattle.refusal.proofs.Answers.{gives_same, gives-not-refuses, refuses-same}
-use Rattle.refusal.specs.declared.Handed.{Handed}
-use Rattle.refusal.specs.declared.Handed.TheVariants.{Octets}
 use Rattle.limits.specs.Limits.{is_limit, limit_most, frame_most}
 use Rattle.limits.proofs.Exactly.{is-limit-exactly}
 use Rattle.frame.specs.Line.{flag}
@@ -185,12 +185,12 @@ module _ (closed : Bool) (n : ℕ) where
   heard-quiet (HandedOut q) e = absurd (nothing-not-handed (sym (gives_same e)))
   heard-quiet (Refused r) e = absurd (gives-not-refuses (sym e))
 
-  said-handed : (q : Handed) (a : Answer (List ℕ)) → answer_of q ≡ counted a → handed_verdict q ≡ said_verdict a
+  said-handed : (q : Result ℕ Refusal) (a : Answer (List ℕ)) → answer_of q ≡ counted a → handed_verdict q ≡ said_verdict a
   unfolding answer_of counted said_verdict
-  said-handed (Octets k) (gives b) e = refl
-  said-handed (Octets k) (refuses j) e = absurd (gives-not-refuses e)
-  said-handed (Handed.Refused r) (gives b) e = absurd (gives-not-refuses (sym e))
-  said-handed (Handed.Refused r) (refuses j) e = ap Dropped (refuses-same e)
+  said-handed (Ok k) (gives b) e = refl
+  said-handed (Ok k) (refuses j) e = absurd (gives-not-refuses e)
+  said-handed (Err r) (gives b) e = absurd (gives-not-refuses (sym e))
+  said-handed (Err r) (refuses j) e = ap Dropped (refuses-same e)
 
   pub heard-said : (q : Heard) (a : Answer (List ℕ)) → heard_of q ≡ gives (handed (counted a))
       → heard_verdict q closed n ≡ said_verdict a

@@ -18,11 +18,11 @@
 --                       stretch with the verdict f and n flags: one at a flag, none at the end
 --   listed_by o f    == what is told of it; sound_by count held == a record that is not refused
 -- Assumes nothing.
+use Rattle.std.specs.Prelude.{Result, Ok, Err}
+use Rattle.refusal.specs.declared.Refusal.{Refusal}
 use Rattle.std.specs.Prelude.{◌≡◌, ℕ, ◌+◌, ◌-◌, min, Bool, true, false, cond, not, ◌&&◌, ◌||◌, List, [], ◌∷◌, length, take, ◌==◌, nat_lt, slice_index}
 use Rattle.octets.specs.Octets.{holds, place_of}
 use Rattle.refusal.specs.Numbers.{number_of}
-use Rattle.refusal.specs.declared.Handed.{Handed}
-use Rattle.refusal.specs.declared.Handed.TheVariants.{Octets}
 use Rattle.receiver.specs.Held.{places}
 use Rattle.receiver.specs.declared.Receiver.{Receiver}
 use Rattle.receiver.specs.declared.Heard.{Heard}
@@ -83,9 +83,9 @@ goes_until Empty at end = end
 goes_until Kept at end = end
 goes_until (Dropped k) at end = at
 
-abbrev pub handed_verdict : Handed → Verdict
-handed_verdict (Octets n) = Kept
-handed_verdict (Handed.Refused r) = Dropped (number_of r)
+abbrev pub handed_verdict : Result ℕ Refusal → Verdict
+handed_verdict (Ok n) = Kept
+handed_verdict (Err r) = Dropped (number_of r)
 
 abbrev pub passed_verdict : ℕ → Verdict
 passed_verdict n = cond (n == 0) Empty (Dropped 0)

@@ -22,7 +22,7 @@ ghost use Rattle.salvage.specs.declared.Listing.TheVariants.{Refused};
 use frame::FLAG;
 use limits::{LIMIT_MOST, LONGEST_FRAME};
 use receiver::{Heard, PLACES, Received, Receiver};
-use refusal::{Handed, Refusal};
+use refusal::Refusal;
 
 // The most raw octets of a stretch that the receiver reads: each octet of the longest frame escaped.
 pub const RAW: usize = 2 * LIMIT_MOST;
@@ -221,12 +221,12 @@ fn settle(
 }
 
 // What becomes of a stretch of which the receiver handed something out.
-fn judge(handed: Handed) -> Verdict
+fn judge(handed: Result<usize, Refusal>) -> Verdict
     ensures { result ≡ handed_verdict handed }
 {
     match handed {
-        Handed::Octets(_) => Verdict::Kept,
-        Handed::Refused(refusal) => Verdict::Dropped(refusal::number(refusal)),
+        Ok(_) => Verdict::Kept,
+        Err(refusal) => Verdict::Dropped(refusal::number(refusal)),
     }
 }
 

@@ -9,7 +9,7 @@ ghost use Rattle.refusal.specs.Answer.{Hands};
 ghost use Rattle.scan.specs.Scan.{over, probe_of, probed};
 
 use identity::{BITS, OCTETS};
-use refusal::{Handed, Refusal};
+use refusal::Refusal;
 
 // How many identities the list holds, and their octets.
 pub const LIST_MOST: usize = 32;
@@ -87,11 +87,11 @@ fn probe_of(beginning: [bool; BITS], bits: usize) -> [u8; PROBE]
 }
 
 // The probe that is next, at the start of the lent output. Asking changes nothing in the scan.
-pub fn probe(scan: Scan, out: &mut [u8]) -> Handed
+pub fn probe(scan: Scan, out: &mut [u8]) -> Result<usize, Refusal>
     ensures { Hands (probed scan (length out.old)) out.old result out.new }
 {
     if is_over(scan) {
-        return Handed::Refused(Refusal::ScanOver);
+        return Err(Refusal::ScanOver);
     }
     let beginning = scan.beginning;
     let octets = probe_of(beginning, scan.bits);

@@ -12,13 +12,13 @@ ghost use Rattle.scan.specs.Steps.{next_at, state_at, finished_by, in_state, goi
 ghost use Rattle.scan.specs.Scan.{fresh, reported};
 
 use identity::{BITS, OCTETS};
-use refusal::{Outcome, Refusal};
+use refusal::Refusal;
 use scan::{LIST, LIST_MOST, Scan, State};
 
 // What an answer comes to, and the scan after it; where it is refused, the scan as it was.
 #[derive(Clone, Copy)]
 pub struct Reported {
-    pub outcome: Outcome,
+    pub outcome: Result<(), Refusal>,
     pub scan: Scan,
 }
 
@@ -186,19 +186,19 @@ pub fn report(scan: Scan, heard: bool) -> Reported
     let state = scan.state;
     if scan::is_over(scan) {
         return Reported {
-            outcome: Outcome::Refused(Refusal::ScanOver),
+            outcome: Err(Refusal::ScanOver),
             scan,
         };
     }
     let State::Asking { quiet, doubt } = state else {
         return Reported {
-            outcome: Outcome::Refused(Refusal::ScanOver),
+            outcome: Err(Refusal::ScanOver),
             scan,
         };
     };
     let next = note(scan, quiet, doubt, heard);
     Reported {
-        outcome: Outcome::Done,
+        outcome: Ok(()),
         scan: next,
     }
 }

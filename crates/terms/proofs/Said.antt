@@ -1,5 +1,7 @@
 -- What is said of a name is the word itself, and `complete` is said of a scan that is complete and of no other. Assumes
 -- nothing.
+use Rattle.std.proofs.Common.{Result, Ok, Err}
+use Rattle.refusal.specs.declared.Refusal.{Refusal}
 use mathlib.Core.Path.{◌≡◌, refl, ap}
 use mathlib.Core.Bool.{Bool, true, false, cond}
 use mathlib.Core.List.{List, ◌∷◌}
@@ -9,10 +11,6 @@ use native.Mathlib.Omega.{arith}
 use lib.Dec.{eqb}
 use lib.ListN.{get_or}
 use Rattle.octets.specs.Octets.{place_of, ◌at_start_of◌}
-use Rattle.refusal.specs.declared.Handed.{Handed}
-use Rattle.refusal.specs.declared.Handed.TheVariants.{Octets}
-use Rattle.refusal.specs.declared.Outcome.{Outcome}
-use Rattle.refusal.specs.declared.Outcome.TheVariants.{Done}
 use Rattle.receiver.specs.declared.Heard.{Heard}
 use Rattle.receiver.specs.declared.Heard.TheVariants as heard
 use Rattle.antenna.specs.declared.Motion.{Motion}
@@ -50,10 +48,10 @@ fault-said fault.Number = refl
 fault-said fault.Room = refl
 fault-said fault.Device = refl
 
-outcome-said : (x : Outcome) → Spoken (outcome_word x)
+outcome-said : (x : Result (Unit {0}) Refusal) → Spoken (outcome_word x)
 unfolding name_of letters_of outcome_word spelled place_of ◌at_start_of◌
-outcome-said Done = refl
-outcome-said (Outcome.Refused k) = refl
+outcome-said (Ok tt) = refl
+outcome-said (Err k) = refl
 
 said-said : (x : Said) → Spoken (said_word x)
 unfolding name_of letters_of said_word spelled place_of ◌at_start_of◌
@@ -76,12 +74,12 @@ either-said : (b : Bool) {v w : List ℕ} → Spoken v → Spoken w → Spoken (
 either-said true p q = p
 either-said false p q = q
 
-handed-said : (c : ℕ) (x : Handed) → Spoken (handed_word c x)
+handed-said : (c : ℕ) (x : Result ℕ Refusal) → Spoken (handed_word c x)
 unfolding name_of letters_of handed_word given_word spelled place_of ◌at_start_of◌
-handed-said c (Octets n) =
+handed-said c (Ok n) =
     either-said (eqb c command.probe) refl
     (either-said (eqb c command.decode) refl (either-said (eqb c command.decode_n) refl refl))
-handed-said c (Handed.Refused k) = refl
+handed-said c (Err k) = refl
 
 heard-said : (x : Heard) → Spoken (heard_word x)
 unfolding name_of letters_of heard_word spelled place_of ◌at_start_of◌

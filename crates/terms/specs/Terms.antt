@@ -9,13 +9,11 @@
 --   link_word, pending_word, drive_word == LINK, PENDING and DRIVE of `show`, up to a number or octets
 --   word_of t        == the word for t
 -- Assumes nothing.
+use Rattle.std.specs.Prelude.{Result, Ok, Err}
+use Rattle.refusal.specs.declared.Refusal.{Refusal}
 use Rattle.std.specs.Prelude.{cond, List, ℕ, eqb, replicate, take}
 use Prim.Native.Char.{code}
 use Rattle.octets.specs.Octets.{place_of, ◌at_start_of◌}
-use Rattle.refusal.specs.declared.Handed.{Handed}
-use Rattle.refusal.specs.declared.Handed.TheVariants.{Octets}
-use Rattle.refusal.specs.declared.Outcome.{Outcome}
-use Rattle.refusal.specs.declared.Outcome.TheVariants.{Done}
 use Rattle.receiver.specs.declared.Heard.{Heard}
 use Rattle.receiver.specs.declared.Heard.TheVariants as heard
 use Rattle.antenna.specs.declared.Motion.{Motion}
@@ -54,9 +52,9 @@ fault_word fault.Room = spelled "error room"
 fault_word fault.Device = spelled "error device"
 
 -- "`done` or `refused N`"
-unfoldable pub outcome_word : Outcome → List ℕ
-outcome_word Done = spelled "done"
-outcome_word (Outcome.Refused k) = spelled "refused"
+unfoldable pub outcome_word : Result (Unit {0}) Refusal → List ℕ
+outcome_word (Ok tt) = spelled "done"
+outcome_word (Err k) = spelled "refused"
 
 -- "`answer LEN BUFFER`, `silence BUFFER` or `refused N BUFFER`"
 unfoldable pub said_word : Said → List ℕ
@@ -81,9 +79,9 @@ given_word c =
     cond (eqb c command.probe) (spelled "probe")
     (cond (eqb c command.decode) (spelled "frame") (cond (eqb c command.decode_n) (spelled "frame") (spelled "line")))
 
-unfoldable pub handed_word : ℕ → Handed → List ℕ
-handed_word c (Octets n) = given_word c
-handed_word c (Handed.Refused k) = spelled "refused"
+unfoldable pub handed_word : ℕ → Result ℕ Refusal → List ℕ
+handed_word c (Ok n) = given_word c
+handed_word c (Err k) = spelled "refused"
 
 -- "`took T frame LEN BUFFER`, `took T refused R BUFFER` .., `took T nothing BUFFER`; or `refused R BUFFER`": at a closing
 -- flag, as `decode`

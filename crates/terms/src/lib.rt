@@ -13,7 +13,7 @@ use device::Said;
 use drives::Response;
 use receiver::Heard;
 use record::{Link, Pending};
-use refusal::{Handed, Outcome};
+use refusal::Refusal;
 use scan::State;
 use script::Fault;
 
@@ -27,8 +27,8 @@ pub type Name = [u8; 14];
 pub enum Term {
     Fault(Fault),
     Reply(Response),
-    Outcome(Outcome),
-    Handed { command: usize, handed: Handed },
+    Outcome(Result<(), Refusal>),
+    Handed { command: usize, handed: Result<usize, Refusal> },
     Heard(Heard),
     End(State),
     Link(Link),
@@ -133,12 +133,12 @@ fn fault_word(fault: Fault) -> Name
     }
 }
 
-fn outcome_word(outcome: Outcome) -> Name
+fn outcome_word(outcome: Result<(), Refusal>) -> Name
     ensures { result ≡ name_of (outcome_word outcome) }
 {
     match outcome {
-        Outcome::Done => DONE,
-        Outcome::Refused(_) => REFUSED,
+        Ok(()) => DONE,
+        Err(_) => REFUSED,
     }
 }
 
@@ -183,12 +183,12 @@ fn given_word(command: usize) -> Name
     LINE
 }
 
-fn handed_word(command: usize, handed: Handed) -> Name
+fn handed_word(command: usize, handed: Result<usize, Refusal>) -> Name
     ensures { result ≡ name_of (handed_word command handed) }
 {
     match handed {
-        Handed::Octets(_) => given_word(command),
-        Handed::Refused(_) => REFUSED,
+        Ok(_) => given_word(command),
+        Err(_) => REFUSED,
     }
 }
 

@@ -12,7 +12,7 @@ ghost use Rattle.frame.specs.Write.{frame_of, line_of, written};
 
 use frame::{ESCAPE, FLAG, TOGGLE};
 use limits::{AROUND, LIMIT_LEAST, LIMIT_MOST, PAYLOAD_MOST};
-use refusal::{Handed, Refusal};
+use refusal::Refusal;
 
 // Whether `b` is escaped on the line.
 fn is_special(b: u8) -> bool
@@ -111,19 +111,19 @@ fn is_short(d: &[u8], room: usize) -> bool
 }
 
 // Hands the line of `d` out, escaped straight into `out`.
-fn hand_line(d: &[u8], out: &mut [u8]) -> Handed
+fn hand_line(d: &[u8], out: &mut [u8]) -> Result<usize, Refusal>
     requires { length d.now ≤ limit_most }
     ensures { Hands (handed_out (between d.now) (length out.old))
         out.old result out.new }
 {
     if is_short(d, out.len()) {
-        return Handed::Refused(Refusal::NoRoom);
+        return Err(Refusal::NoRoom);
     }
-    Handed::Octets(put_between(d, out))
+    Ok(put_between(d, out))
 }
 
 // A payload that the least limit has room for: a small store, which is soon set to zero.
-fn write_short(address: u8, control: u8, payload: &[u8], out: &mut [u8]) -> Handed
+fn write_short(address: u8, control: u8, payload: &[u8], out: &mut [u8]) -> Result<usize, Refusal>
     requires { length payload.now ≤ payload_most limit_least }
     ensures { Hands (handed_out (line_of (address ∷ control ∷ payload.now)) (length out.old))
         out.old result out.new }
@@ -134,7 +134,7 @@ fn write_short(address: u8, control: u8, payload: &[u8], out: &mut [u8]) -> Hand
 }
 
 // A longer one. Apart from the other, so that the compiler knows how long each store is.
-fn write_long(address: u8, control: u8, payload: &[u8], out: &mut [u8]) -> Handed
+fn write_long(address: u8, control: u8, payload: &[u8], out: &mut [u8]) -> Result<usize, Refusal>
     requires { length payload.now ≤ payload_most limit_most }
     ensures { Hands (handed_out (line_of (address ∷ control ∷ payload.now)) (length out.old))
         out.old result out.new }
@@ -145,22 +145,22 @@ fn write_long(address: u8, control: u8, payload: &[u8], out: &mut [u8]) -> Hande
 }
 
 // Writes flag, frame, flag to the start of `out`, with the frame limit `limit`.
-pub fn write(limit: usize, address: u8, control: u8, payload: &[u8], out: &mut [u8]) -> Handed
+pub fn write(limit: usize, address: u8, control: u8, payload: &[u8], out: &mut [u8]) -> Result<usize, Refusal>
     ensures { Hands (written limit address control payload.now (length out.old))
         out.old result out.new }
 {
     if !limits::is_limit(limit) {
-        return Handed::Refused(Refusal::NotAllowed);
+        return Err(Refusal::NotAllowed);
     }
     if payload.len() <= PAYLOAD_MOST {
         return write_short(address, control, payload, out);
     }
     // Only for the compiler: a caller with the constant 78 does without the long store.
     if limit <= LIMIT_LEAST {
-        return Handed::Refused(Refusal::PayloadTooLong);
+        return Err(Refusal::PayloadTooLong);
     }
     if limit - AROUND < payload.len() {
-        return Handed::Refused(Refusal::PayloadTooLong);
+        return Err(Refusal::PayloadTooLong);
     }
     write_long(address, control, payload, out)
 }
