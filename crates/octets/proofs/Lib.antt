@@ -7,4 +7,5 @@ pub mod Rules
 pub mod Runs
 pub mod Stores
 pub mod Takes
+pub mod Texts
 pub mod Words

@@ -3,9 +3,10 @@
 // Assumes nothing of its caller.
 #![tactic(auto)]
 
-ghost use Rattle.std.specs.Prelude.{◌≡◌, min, set};
+ghost use Rattle.std.specs.Prelude.{◌≡◌, ◌≤◌, min, set, take, length};
 ghost use Rattle.std.proofs.lemmas.List.Edits.{sets};
 ghost use Rattle.octets.specs.Octets.{pair_of, part_of, place_of};
+ghost use Rattle.octets.specs.Text.{content, laid};
 
 // Stores `octet` at `at`, if that is inside.
 pub fn put(out: &mut [u8], at: usize, octet: u8)
@@ -73,4 +74,32 @@ pub fn part(s: &[u8], from: usize, end: usize) -> &[u8]
     let last = fewer(end, s.len());
     let first = fewer(from, last);
     &s[first..last]
+}
+
+// Octets of any number up to N: the first `len` of a row of N; all of it where `len` says more.
+#[derive(Clone, Copy)]
+pub struct Text<const N: usize> {
+    pub octets: [u8; N],
+    pub len: usize,
+}
+
+impl<const N: usize> Text<N> {
+    // The octets of `s`, zeros behind them; of more than N, the first N.
+    pub fn of(s: &[u8]) -> Text<N>
+        ensures { result ≡ laid N (take N s.now) }
+    {
+        let len = fewer(s.len(), N);
+        let mut octets = [0u8; N];
+        put_all(&mut octets, 0, &s[..len]);
+        Text { octets, len }
+    }
+
+    // The octets that count.
+    pub fn octets(&self) -> &[u8]
+        ensures all { result.now ≡ content self.now }
+        ensures few { length result.now ≤ N }
+    {
+        let len = fewer(self.len, N);
+        &self.octets[..len]
+    }
 }
