@@ -1,5 +1,6 @@
 -- An allowed record stays allowed under every frame: the device never makes a record that it would refuse.
 -- Assumes nothing.
+use Rattle.octets.specs.Text.{laid}
 use mathlib.Core.Path.{◌≡◌, refl, ap, ◌∙◌}
 use mathlib.Core.Bool.{Bool, true, false, ◌&&◌}
 use mathlib.Core.List.{List}
@@ -126,7 +127,7 @@ renewed-stays d allowed has = begun-stays (released d) (released-stays d allowed
 -- ---- in a session, the acknowledged answer being removed
 
 result_fits : (b : Bool) → leb (payload_of (result_of b)).len reply_most ≡ true
-unfolding result_of success_of message_of failure_of payload_of
+unfolding result_of success_of message_of failure_of laid
 result_fits true = refl
 result_fits false = refl
 

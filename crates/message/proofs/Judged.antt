@@ -13,7 +13,7 @@ use Rattle.antenna.specs.declared.Angle.{Angle}
 use Rattle.antenna.specs.declared.Antenna.{Antenna}
 use Rattle.antenna.specs.Motions.{aimed_at, started}
 use Rattle.antenna.proofs.Movements.{starts}
-use Rattle.record.specs.declared.Payload.{Payload}
+use Rattle.record.specs.Desk.{Payload}
 use Rattle.record.specs.declared.Plate.{Plate}
 use Rattle.payload.specs.Payloads.{payload_of, failure_of}
 use Rattle.message.specs.declared.Check.{Check}

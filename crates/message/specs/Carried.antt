@@ -17,7 +17,7 @@ use Rattle.antenna.specs.declared.Aim.TheVariants.{Started}
 use Rattle.antenna.specs.Alarms.{codes_of}
 use Rattle.antenna.specs.Motions.{started}
 use Rattle.antenna.specs.Events.{marked}
-use Rattle.record.specs.declared.Payload.{Payload}
+use Rattle.record.specs.Desk.{Payload}
 use Rattle.record.specs.declared.Plate.{Plate}
 use Rattle.record.specs.Desk.{calm, no_reply}
 use Rattle.payload.specs.Payloads.{payload_of, success_of, failure_of}

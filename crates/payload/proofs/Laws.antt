@@ -1,4 +1,5 @@
 -- What the payloads of this crate are: how long, what lies in them, and the rows that 01 spells out. Assumes nothing.
+use Rattle.octets.specs.Text.{laid}
 use mathlib.Core.Path.{◌≡◌, refl}
 use mathlib.Core.Bool.{Bool, true, false}
 use mathlib.Core.List.{List, [], ◌∷◌}
@@ -33,12 +34,12 @@ failure-is code why = refl
 
 -- what a payload says is what was laid into it
 pub payload-says : (b : List ℕ) → take (payload_of b).len (payload_of b).octets ≡ b
-unfolding payload_of
+unfolding laid
 payload-says b = take-start b (replicate 74 0)
 
 -- no payload has more than 74 octets
 pub laid-fits : (code : ℕ) (d : List ℕ) → (payload_of (message_of code (take body_most d))).len ≤ 74
-unfolding payload_of
+unfolding laid
 laid-fits code d =
     let few : length (take body_most d) ≤ 71 = simp length-take (omega arith) in
     omega (arith, few, length-message code (take body_most d))

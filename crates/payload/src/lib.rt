@@ -6,6 +6,7 @@
 ghost use Rattle.std.specs.Prelude.{◌≡◌, [], take};
 ghost use Rattle.payload.specs.Payloads.{payload_of, message_of, success_of, failure_of, body_most};
 
+use octets::Text;
 use record::Payload;
 
 // Code, data length (low octet first), data; of more than 71 octets of data, the first 71.
@@ -18,7 +19,7 @@ pub fn laid(code: u8, body: &[u8]) -> Payload
     octets[1] = (n % 256) as u8;
     octets[2] = (n / 256 % 256) as u8;
     octets::put_all(&mut octets, 3, &body[..n]);
-    Payload { octets, len: n + 3 }
+    Text { octets, len: n + 3 }
 }
 
 // A failure, with its return code.

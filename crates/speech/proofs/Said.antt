@@ -13,7 +13,7 @@ use Rattle.record.specs.declared.Pending.{Pending}
 use Rattle.record.specs.declared.Pending.TheVariants.{Indication}
 use Rattle.record.specs.declared.Desk.{Desk}
 use Rattle.record.specs.declared.Device.{Device}
-use Rattle.record.specs.declared.Payload.{Payload}
+use Rattle.record.specs.Desk.{Payload}
 use Rattle.record.specs.Allowed.{identity_of, limit_of, reply_most}
 use Rattle.payload.specs.Payloads.{payload_of}
 use Rattle.payload.proofs.Laws.{payload-says}

@@ -15,7 +15,7 @@ use Rattle.record.specs.declared.Link.{Link}
 use Rattle.record.specs.declared.Link.TheVariants.{NoAddress, AddressAssigned, Connected}
 use Rattle.record.specs.declared.Desk.{Desk}
 use Rattle.record.specs.declared.Device.{Device}
-use Rattle.record.specs.declared.Payload.{Payload}
+use Rattle.record.specs.Desk.{Payload}
 use Rattle.record.specs.Allowed.{reply_most, identity_of, limit_of}
 use Rattle.report.specs.Reports.{indication_of}
 use Rattle.xid_answer.specs.Answer.{scan_answer, assignment_answer, negotiation_answer}
