@@ -12,7 +12,7 @@ use lib.Dec.{eqb, ltb, leb-suc-suc}
 use lib.ListN.{length, get_or, drop, drop_of_length-le}
 use Rattle.std.proofs.lemmas.List.Recursion.{is_position_or_len}
 use Rattle.std.proofs.lemmas.List.Sums.{prefix_len-le-length}
-use Rattle.std.specs.List.{position, position_or_len}
+use Rattle.std.specs.List.{list_any, position, position_or_len}
 use Rattle.std.proofs.Common.{Option}
 use Rattle.std.specs.Option.{unwrap_or}
 use Rattle.octets.specs.Octets.{holds, OneOf, place_of, last_of}
@@ -34,19 +34,6 @@ or_parts false b e = inr e
 pub or-none : (a b : Bool) → (a || b) ≡ false → (a ≡ false) × (b ≡ false)
 or-none true b e = absurd (true-not-false e)
 or-none false b e = (refl, e)
-
-module _ (x : ℕ) (s : List ℕ) (i : ℕ) {w : Bool} (v : holds x (drop i s) ≡ w) where
-  pub holds-here : i < length s → get_or s i 0 ≡ x → true ≡ w
-  unfolding holds
-  holds-here h e = rw (rest s i h, eq-eqb (get_or s i 0) x e) at v
-
-  pub holds_more : i < length s → (get_or s i 0 ≡ x → ⊥) → holds x (drop (i + 1) s) ≡ w
-  unfolding holds
-  holds_more h n = rw (rest s i h, ne_eqb (get_or s i 0) x n) at v
-
-  pub holds-done : length s ≤ i → false ≡ w
-  unfolding holds
-  holds-done h = rw (drop_of_length-le s h) at v
 
 module _ (x y : ℕ) (ys : List ℕ) (h : holds x (y ∷ ys) ≡ false) where
   pub holds-head : y ≡ x → ⊥
@@ -95,6 +82,16 @@ place-found x s {r} e = go (ltb n (length s)) refl
     go false t =
         let most : n ≡ length s = omega (arith, ltb-false n (length s) t, prefix_len-le-length (λ y. not (eqb y x)) s) in
         rw (e, t) (sym most ∙ sym (place-first x s))
+
+-- the library's test
+pub holds-any : (x : ℕ) (s : List ℕ) → list_any (λ y. eqb y x) s ≡ holds x s
+unfolding holds
+holds-any x [] = refl
+holds-any x (y ∷ ys) = go (eqb y x) (holds-any x ys)
+  where
+    go : (t : Bool) {a b : Bool} → a ≡ b → (t || a) ≡ cond t true b
+    go true e = refl
+    go false e = e
 
 -- what a list holds has a place in it, and what it does not hold has none
 pub place-held : (x : ℕ) (s : List ℕ) → holds x s ≡ ltb (place_of x s) (length s)
