@@ -1,12 +1,14 @@
 -- Octets put on the line, one after the other: how many, and which. Assumes nothing.
-use mathlib.Core.Path.{◌≡◌, refl, ap}
+use mathlib.Core.Path.{◌≡◌, refl, ap, ◌∙◌}
 use mathlib.Core.Bool.{Bool, true, false}
 use mathlib.Core.List.{List, [], ◌∷◌, ◌++◌}
-use Prim.Native.Nat.{ℕ, ◌+◌, ◌*◌, ◌<◌, ◌≤◌}
+use Prim.Native.Nat.{ℕ, ◌+◌, ◌*◌, ◌/◌, ◌<◌, ◌≤◌}
 use native.Mathlib.Omega.{arith}
 use lib.Bits.{bit_xor}
 use lib.ListN.{length, get_or, drop, drop_of_length-le, length-append, set}
 use Rattle.octets.specs.Puts.{Puts}
+use Rattle.std.specs.Simd.{first_chunks}
+use Rattle.octets.proofs.Chunks.{chunk-left, chunk-length}
 use Rattle.octets.proofs.Rest.{rest}
 use Rattle.octets.proofs.Runs.{run-all, run-one, run-put, run-done}
 use Rattle.frame.specs.Line.{flag, escape, toggle, special, escaped, on_line, between}
@@ -56,36 +58,45 @@ module _ (x : ℕ) (o : List ℕ) (at : ℕ) {o₁ : List ℕ} {n y : ℕ} where
   pub other-put : special x ≡ false → o₁ ≡ o → n ≡ at → y ≡ x → Puts o at (escaped x) (n + 1) (set o₁ n y)
   other-put e s k v = rw (s, k, v) (run-done refl (run-one _ refl (escaped-other x e) run-all))
 
--- a loop that goes through d by i: one octet more, four, and the end
+-- a loop that goes through d by i: one octet more, and the end
 module _ (d : List ℕ) where
   pub line-more : (i : ℕ) → i < length d → on_line (drop i d) ≡ escaped (get_or d i 0) ++ on_line (drop (i + 1) d)
   unfolding on_line
   line-more i h = rw (rest d i h)
 
-  pub line-four : (i : ℕ) → i + 3 < length d → on_line (drop i d) ≡ escaped (get_or d i 0) ++ (escaped (get_or d (i + 1) 0)
-      ++ (escaped (get_or d (i + 2) 0) ++ (escaped (get_or d (i + 3) 0) ++ on_line (drop (i + 4) d))))
-  line-four i h =
-      let two : i + 1 + 1 ≡ i + 2 = omega arith in
-      let three : i + 2 + 1 ≡ i + 3 = omega arith in
-      let four : i + 3 + 1 ≡ i + 4 = omega arith in
-      let second = rw two at (line-more (i + 1) (omega arith)) in
-      let third = rw three at (line-more (i + 2) (omega arith)) in
-      let fourth = rw four at (line-more (i + 3) h) in
-      rw (line-more i (omega arith), second, third, fourth)
-
-  -- how many octets these take
+  -- how many octets it takes
   pub more-long : (i : ℕ) → i < length d
       → length (on_line (drop i d)) ≡ length (escaped (get_or d i 0)) + length (on_line (drop (i + 1) d))
   more-long i h = rw (line-more i h) (length-append (escaped (get_or d i 0)) _)
 
-  pub four-long : (i : ℕ) → i + 3 < length d → length (on_line (drop i d)) ≡ length (escaped (get_or d i 0))
-      + length (escaped (get_or d (i + 1) 0)) + length (escaped (get_or d (i + 2) 0)) + length (escaped (get_or d (i + 3) 0))
-      + length (on_line (drop (i + 4) d))
-  four-long i h = rw (line-four i h) (simp length-append (omega arith))
-
   pub line-done : (i : ℕ) → length d ≤ i → on_line (drop i d) ≡ []
   unfolding on_line
   line-done i h = rw (drop_of_length-le d h)
+
+-- a loop that goes through d by chunks of four octets: the chunk c at i, and what is left behind it
+on_line-four : (c l : List ℕ) → length c ≡ 4 → on_line (c ++ l) ≡ escaped (get_or c 0 0) ++ (escaped (get_or c 1 0)
+    ++ (escaped (get_or c 2 0) ++ (escaped (get_or c 3 0) ++ on_line l)))
+unfolding on_line
+on_line-four (x ∷ y ∷ z ∷ w ∷ []) l h = refl
+on_line-four [] l h = absurd (omega (arith, h))
+on_line-four (x ∷ []) l h = absurd (omega (arith, h))
+on_line-four (x ∷ y ∷ []) l h = absurd (omega (arith, h))
+on_line-four (x ∷ y ∷ z ∷ []) l h = absurd (omega (arith, h))
+on_line-four (x ∷ y ∷ z ∷ w ∷ v ∷ c) l h = absurd (omega (arith, h))
+
+module _ (d : List ℕ) (i : ℕ) {p : List (List ℕ)} (e : p ≡ first_chunks 4 (length d / 4) d) (f : length p ≡ length d / 4)
+    (h : i < length p) where
+  pub line-four : on_line (drop (i * 4) d) ≡ escaped (get_or (get_or p i []) 0 0) ++ (escaped (get_or (get_or p i []) 1 0)
+      ++ (escaped (get_or (get_or p i []) 2 0) ++ (escaped (get_or (get_or p i []) 3 0) ++ on_line (drop ((i + 1) * 4) d))))
+  line-four =
+      ap on_line (chunk-left 4 i d e f h)
+      ∙ on_line-four (get_or p i []) (drop ((i + 1) * 4) d) (chunk-length 4 i d e f h (omega (arith, f)))
+
+  -- how many octets these take
+  pub four-long : length (on_line (drop (i * 4) d)) ≡ length (escaped (get_or (get_or p i []) 0 0))
+      + length (escaped (get_or (get_or p i []) 1 0)) + length (escaped (get_or (get_or p i []) 2 0))
+      + length (escaped (get_or (get_or p i []) 3 0)) + length (on_line (drop ((i + 1) * 4) d))
+  four-long = rw line-four (simp length-append (omega arith))
 
 -- the first flag, what lies between, and the last flag
 pub between_put : (d : List ℕ) {o o₁ o₂ o' : List ℕ} {n : ℕ} → o₁ ≡ set o 0 flag → Puts o₁ 1 (on_line d) n o₂
