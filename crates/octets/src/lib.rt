@@ -11,7 +11,7 @@ ghost use Rattle.octets.specs.Octets.{pair_of, part_of, place_of};
 pub fn put(out: &mut [u8], at: usize, octet: u8)
     ensures { out.new ≡ set out.old at octet }
 {
-    // Not by `get_mut`: its contract says nothing of what the buffer holds once the borrow is over.
+    // By an index: the contract of the library's method says nothing of what the buffer holds once the borrow is over.
     if at < out.len() {
         out[at] = octet;
     }

@@ -57,11 +57,8 @@ fn put_between(d: &[u8], line: &mut [u8]) -> usize
     line[0] = FLAG;
     let (fours, rest) = d.as_chunks::<4>();
     let mut n = 1;
-    for &[a, b, c, e] in fours {
-        n = put_octet(a, line, n);
-        n = put_octet(b, line, n);
-        n = put_octet(c, line, n);
-        n = put_octet(e, line, n);
+    for four in fours {
+        n = put_rest(four, line, n);
     }
     let end = put_rest(rest, line, n);
     line[end] = FLAG;

@@ -1,6 +1,6 @@
 -- `writer::write_in` meets its promise: the line of what was assembled is handed out. Assumes nothing.
 use native.Mathlib.Omega.{arith}
-use lib.ListN.{length-take, length-replicate}
+use lib.ListN.{length-replicate}
 use Rattle.refusal.proofs.Answers.{hands-is}
 use Rattle.frame.proofs.Assembled.{assembled-long, assembled-line}
 use Rattle.writer.proofs.write_in.Goals as goal
