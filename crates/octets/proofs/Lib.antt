@@ -1,5 +1,6 @@
 -- The laws of lists of octets that the layers above cite.
 pub mod Bounds
+pub mod Chunks
 pub mod Every
 pub mod Only
 pub mod Rest
