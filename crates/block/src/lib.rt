@@ -4,33 +4,16 @@
 #![tactic(auto)]
 
 ghost use Rattle.std.specs.Prelude.{◌≡◌, length};
-ghost use Rattle.receiver.specs.Call.{received, heard_of};
-ghost use Rattle.block.specs.Block.{marks_size, block_size, refused_call, marks_in, marks_octets, held_in, Blocks};
+ghost use Rattle.receiver.specs.Call.{received};
+ghost use Rattle.block.specs.Block.{marks_size, block_size, marks_in, marks_octets, held_in, Blocks};
 
-use receiver::{Heard, PLACES, Receiver};
+use receiver::{PLACES, Received, Receiver};
+use refusal::Refusal;
 
 // The octets behind the store, and those of a whole block.
 const MARKS: usize = 7;
 
 pub const BLOCK: usize = PLACES + MARKS;
-
-// A call's answer: how many octets were taken, and what was handed out.
-#[derive(Clone, Copy)]
-pub struct Returned {
-    pub taken: usize,
-    pub heard: Heard,
-}
-
-// Whether the call is refused.
-fn is_refused(heard: Heard) -> bool
-    ensures { result ≡ refused_call (heard_of heard) }
-{
-    match heard {
-        Heard::Nothing => false,
-        Heard::HandedOut(_) => false,
-        Heard::Refused(_) => true,
-    }
-}
 
 // The record that the octets behind the store stand for.
 #[tactic(auto, unfolding(crate::specs::Block::marks_in))]
@@ -67,25 +50,30 @@ fn put_marks(receiver: Receiver, t: &mut [u8])
 }
 
 // The call, with the block as a slice, of which parts can be lent.
-fn receive_by(block: &mut [u8], limit: usize, run: &[u8], out: &mut [u8]) -> Returned
+fn receive_by(
+    block: &mut [u8],
+    limit: usize,
+    run: &[u8],
+    out: &mut [u8],
+) -> Result<Received, Refusal>
     requires { length block.old ≡ block_size }
     ensures { Blocks (received limit (held_in block.old) run.now (length out.old))
         block.old out.old result block.new out.new }
 {
     let at = PLACES;
-    let before = marks(&block[at..]);
-    let received = receiver::receive_in(before, limit, run, &mut block[..at], out);
-    let taken = received.taken;
-    let heard = received.heard;
-    if is_refused(heard) {
-        return Returned { taken, heard };
-    }
-    put_marks(received.receiver, &mut block[at..]);
-    Returned { taken, heard }
+    let mut held = marks(&block[at..]);
+    let received = receiver::receive_in(&mut held, limit, run, &mut block[..at], out)?;
+    put_marks(held, &mut block[at..]);
+    Ok(received)
 }
 
 // Octets received: as `receiver::receive`, with the record in `block`.
-pub fn receive(block: &mut [u8; BLOCK], limit: usize, run: &[u8], out: &mut [u8]) -> Returned
+pub fn receive(
+    block: &mut [u8; BLOCK],
+    limit: usize,
+    run: &[u8],
+    out: &mut [u8],
+) -> Result<Received, Refusal>
     ensures { Blocks (received limit (held_in block.old) run.now (length out.old))
         block.old out.old result block.new out.new }
 {

@@ -11,7 +11,7 @@ ghost use Rattle.terms.specs.Terms.{behind_of};
 use antenna::Motion;
 use device::Said;
 use drives::Response;
-use receiver::Heard;
+use receiver::Received;
 use record::{Link, Pending};
 use refusal::Refusal;
 use scan::State;
@@ -28,8 +28,11 @@ pub enum Term {
     Fault(Fault),
     Reply(Response),
     Outcome(Result<(), Refusal>),
-    Handed { command: usize, handed: Result<usize, Refusal> },
-    Heard(Heard),
+    Handed {
+        command: usize,
+        handed: Result<usize, Refusal>,
+    },
+    Heard(Result<Received, Refusal>),
     End(State),
     Link(Link),
     Pending(Pending),
@@ -193,13 +196,15 @@ fn handed_word(command: usize, handed: Result<usize, Refusal>) -> Name
 }
 
 // A closing flag hands out what the decoder says.
-fn heard_word(heard: Heard) -> Name
+fn heard_word(heard: Result<Received, Refusal>) -> Name
     ensures { result ≡ name_of (heard_word heard) }
 {
     match heard {
-        Heard::Nothing => NOTHING,
-        Heard::HandedOut(handed) => handed_word(script::DECODE, handed),
-        Heard::Refused(_) => REFUSED,
+        Ok(received) => match received.handed {
+            None => NOTHING,
+            Some(handed) => handed_word(script::DECODE, handed),
+        },
+        Err(_) => REFUSED,
     }
 }
 
