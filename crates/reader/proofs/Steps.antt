@@ -13,6 +13,8 @@ use lib.Seq.{get_or-drop}
 use Rattle.octets.proofs.Rest.{rest}
 use Rattle.std.specs.Prelude.{Some, None, Ok, Err}
 use Rattle.reader.specs.Read.{Stands, end, broken, triple, stands_in, stands_at, behind, step_at}
+use Rattle.reader.specs.Read.{reader_of, next_in, reader_after}
+use Rattle.reader.specs.declared.Reader.{Reader}
 use Rattle.reader.specs.declared.Step.{Step}
 
 -- what stands at a place, by the number of octets from there on
@@ -110,3 +112,9 @@ module _ (m : List ℕ) (at : ℕ) where
         go (Ok None) w = refl
         go (Err e) w = refl
         go (Ok (Some t)) w = let none : ⊥ = omega (arith, h, w.0, w.3) in absurd none
+
+-- a caller of the reader learns: behind a triple its cursor goes on, in the same frame
+pub next-behind : (d : Reader) {e : Reader} → e ≡ reader_after d → {n from len : ℕ} → next_in d ≡ triple n from len
+    → e ≡ reader_of d.frame (from + len)
+unfolding behind
+next-behind d moved f = moved ∙ ap (λ (x : Stands). reader_of d.frame (behind d.cursor x)) f
