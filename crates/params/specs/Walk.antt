@@ -14,7 +14,7 @@ use Rattle.std.specs.Prelude.{cond, List, [], ◌∷◌, ℕ, suc, ◌+◌, eqb,
 use Rattle.std.specs.declared.option.Option as code
 use Rattle.std.specs.declared.result.Result.{Result}
 use Rattle.std.proofs.Math.Option.{Option, none, some}
-use Rattle.reader.specs.declared.Malformed.{Malformed}
+pub use Rattle.reader.specs.declared.Malformed.{Malformed}
 use Rattle.params.specs.Field.{Param, ◌is◌, params_of}
 use Rattle.params.specs.declared.Identifier.{Identifier}
 use Rattle.params.specs.declared.Group.{Group}
