@@ -19,7 +19,7 @@ use Rattle.params.proofs.Kept.{both_of}
 use Rattle.control.specs.declared.AskedFor.{AskedFor}
 use Rattle.negotiation.specs.declared.Agreed.{Agreed}
 use Rattle.negotiation.specs.Negotiation.{negotiating, bits_in, smaller_of, limit_for, limit_asked, agreed_limit}
-use Rattle.negotiation.specs.Negotiation.{asked_in, agreed, no_offer, offered, offer_of}
+use Rattle.negotiation.specs.Negotiation.{asked_in, agrees_on, no_offer, offered, offer_of}
 
 -- ---- which payloads
 
@@ -63,18 +63,18 @@ negotiating-exactly n k = (λ e. there (some-row negotiating.table n k e), back)
     back (inr (inr eight, one)) = rw (eight, one)
 
 -- a payload that is no negotiation agrees on nothing
-not-agreed : {N : ℕ} {a : AskedFor} → no_offer ≡ agreed N a → ⊥
+not-agreed : {N : ℕ} {a : AskedFor} → no_offer ≡ agrees_on N a → ⊥
 not-agreed e = let z : ◌≡◌ {A = ℕ} 0 1 = cc in omega arith
 
 -- and one agreement is on one limit, and says what was asked
-agreed-is : {L N : ℕ} {a b : AskedFor} → agreed L a ≡ agreed N b → (L ≡ N) × (a ≡ b)
+agreed-is : {L N : ℕ} {a b : AskedFor} → agrees_on L a ≡ agrees_on N b → (L ≡ N) × (a ≡ b)
 agreed-is {L} {N} {a} {b} e =
     let same : ◌≡◌ {A = Agreed} (record { limit = L; asked = a }) (record { limit = N; asked = b }) = cc in
     (ap (λ (x : Agreed). x.limit) same, ap (λ (x : Agreed). x.asked) same)
 
 module _ (N : ℕ) (m : List ℕ) where
   pub offer-agreed : (ps : List Param) → WellFormed negotiating m ps
-      → offer_of N m ≡ agreed (agreed_limit N ps) (asked_in ps)
+      → offer_of N m ≡ agrees_on (agreed_limit N ps) (asked_in ps)
   unfolding offer_of offered
   offer-agreed ps w = rw ((params-exactly negotiating m ps).1 w)
 
@@ -94,12 +94,12 @@ module _ (N : ℕ) (m : List ℕ) where
   )
 
   -- an agreement comes of a well-formed payload alone, by its parameters, which are read in one way
-  pub offer-exactly : (L : ℕ) (a : AskedFor) → offer_of N m ≡ agreed L a
+  pub offer-exactly : (L : ℕ) (a : AskedFor) → offer_of N m ≡ agrees_on L a
       ↔ ((ps : List Param) × WellFormed negotiating m ps × (L ≡ agreed_limit N ps) × (a ≡ asked_in ps)
       × ((qs : List Param) → WellFormed negotiating m qs → ps ≡ qs))
   offer-exactly L a = (there, λ (ps, w, l, b, one). offer-agreed ps w ∙ rw (l, b))
     where
-      there : offer_of N m ≡ agreed L a
+      there : offer_of N m ≡ agrees_on L a
           → (ps : List Param) × WellFormed negotiating m ps × (L ≡ agreed_limit N ps) × (a ≡ asked_in ps)
           × ((qs : List Param) → WellFormed negotiating m qs → ps ≡ qs)
       there e =

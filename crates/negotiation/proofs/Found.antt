@@ -13,7 +13,7 @@ use Rattle.params.specs.Walk.{place_in, Part, part_in, Found, Malformed, found_i
 use Rattle.params.proofs.Values.{walk-formed, walk-malformed}
 use Rattle.control.specs.declared.AskedFor.{AskedFor}
 use Rattle.negotiation.specs.Negotiation.{negotiating, bits_in, smaller_of, limit_for, limit_asked, agreed_limit}
-use Rattle.negotiation.specs.Negotiation.{asked_in, agreed, no_offer, offered, offer_of}
+use Rattle.negotiation.specs.Negotiation.{asked_in, agrees_on, no_offer, offered, offer_of}
 use Rattle.negotiation.proofs.Bits.{limit-as-far, smaller-as-far}
 
 -- ---- the lengths asked
@@ -61,7 +61,7 @@ module _ (m : List ℕ) (N : ℕ) {r : Found} (e : r ≡ found_in negotiating m)
       → (a.sent ≡ is_some (part_in f 0)) × (a.received ≡ is_some (part_in f 1))
       × (a.sending ≡ is_some (part_in f 2)) × (a.receiving ≡ is_some (part_in f 3))
       → x ≡ limit_asked N (smaller_of (value_at m (part_in f 0)) (value_at m (part_in f 1)))
-      → agreed x a ≡ offer_of N m
+      → agrees_on x a ≡ offer_of N m
   unfolding offer_of offered agreed_limit asked_in place_in
   read-agreed {f} {a} {x} g (sent, received, sending, receiving) l =
       let (ps, formed, at) = walk-formed negotiating m e g in

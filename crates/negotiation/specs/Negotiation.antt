@@ -8,8 +8,8 @@
 --   limit_asked N b == the frame limit after N where the length b is asked, or none
 --   agreed_limit N ps == the frame limit after N by the parameters ps
 --   asked_in ps     == which identifiers ps have
---   Offer           == what a payload comes to: `agreed` on a frame limit, and what was asked; or `no_offer`, no
---                      negotiation
+--   Offer           == what a payload comes to: agrees_on N a == the frame limit N, where a was asked; no_offer == it
+--                      is no negotiation
 --   offered N x     == what comes of the parameters x, where there are such; offer_of N m == of the payload m
 -- Assumes nothing.
 use Rattle.std.specs.Prelude.{List, [], ◌∷◌, ℕ, ◌+◌, ◌*◌, ◌/◌, min, max, Ok, Err}
@@ -92,8 +92,8 @@ asked_in ps =
 abbrev pub Offer : Type 0
 Offer = Result Agreed Malformed
 
-abbrev pub agreed : ℕ → AskedFor → Offer
-agreed N a = Ok (record { limit = N; asked = a })
+abbrev pub agrees_on : ℕ → AskedFor → Offer
+agrees_on N a = Ok (record { limit = N; asked = a })
 
 abbrev pub no_offer : Offer
 no_offer = Err (record {})
@@ -101,7 +101,7 @@ no_offer = Err (record {})
 -- "'own address, XID: silence' now holds for other groups and malformed ones"
 unfoldable pub offered : ℕ → Option (List Param) → Offer
 offered N none = no_offer
-offered N (some ps) = agreed (agreed_limit N ps) (asked_in ps)
+offered N (some ps) = agrees_on (agreed_limit N ps) (asked_in ps)
 
 unfoldable pub offer_of : ℕ → List ℕ → Offer
 offer_of N m = offered N (params_of negotiating m)
