@@ -10,15 +10,15 @@ use Rattle.octets.proofs.Words.{true-not-false}
 use Rattle.antenna.specs.Alarms.{any_differ}
 
 -- the code's test
-pub apart-differ : (f g : List Bool) → length f ≡ length g → not (pointwise beq f g) ≡ any_differ f g
+pub apart_differ : (f g : List Bool) → length f ≡ length g → not (pointwise beq f g) ≡ any_differ f g
 unfolding any_differ
-apart-differ [] [] h = refl
-apart-differ [] (b ∷ gs) h = absurd (omega arith)
-apart-differ (a ∷ fs) [] h = absurd (omega arith)
-apart-differ (true ∷ fs) (true ∷ gs) h = apart-differ fs gs (omega arith)
-apart-differ (true ∷ fs) (false ∷ gs) h = refl
-apart-differ (false ∷ fs) (true ∷ gs) h = refl
-apart-differ (false ∷ fs) (false ∷ gs) h = apart-differ fs gs (omega arith)
+apart_differ [] [] h = refl
+apart_differ [] (b ∷ gs) h = absurd (omega arith)
+apart_differ (a ∷ fs) [] h = absurd (omega arith)
+apart_differ (true ∷ fs) (true ∷ gs) h = apart_differ fs gs (omega arith)
+apart_differ (true ∷ fs) (false ∷ gs) h = refl
+apart_differ (false ∷ fs) (true ∷ gs) h = refl
+apart_differ (false ∷ fs) (false ∷ gs) h = apart_differ fs gs (omega arith)
 
 same_none : (f : List Bool) → any_differ f f ≡ false
 unfolding any_differ

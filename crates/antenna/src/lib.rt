@@ -63,6 +63,7 @@ pub fn busy(motion: Motion) -> bool
 }
 
 // Whether two rows of alarm flags differ somewhere.
+#[tactic(auto, using(crate::proofs::Differences::apart_differ))]
 pub fn differ(a: [bool; 6], b: [bool; 6]) -> bool
     ensures { result ≡ any_differ a b }
 {
