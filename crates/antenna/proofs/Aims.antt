@@ -58,6 +58,11 @@ module _ {x : Answer Antenna} {n : Antenna} where
     told : {a : Result (Unit {0}) Unaimed} → r ≡ a → x ≡ filled (aim_number a) m
     told e = filled-back x n ∙ ap₂ filled (sym w.aim ∙ ap aim_number e) (sym w.antenna)
 
+    -- a refusal, by its number
+    pub refused-told : {why : Unaimed} {k : ℕ} → r ≡ Err why → aim_number (Err why) ≡ refuses k → x ≡ refuses k
+    unfolding filled
+    refused-told e q = told e ∙ ap (λ (y : Answer (Unit {0})). filled y m) q
+
     pub busy-told : r ≡ Err Busy → x ≡ refuses 0x05
     unfolding filled aim_number
     busy-told = told
