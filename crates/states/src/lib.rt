@@ -2,8 +2,8 @@
 // Assumes nothing of its caller.
 #![tactic(auto)]
 
-ghost use Rattle.std.specs.Prelude.{◌≡◌};
-ghost use Rattle.session.specs.Session.{good_number, counts_of};
+ghost use Rattle.std.specs.Prelude.{◌≡◌, ◌<◌};
+ghost use Rattle.session.specs.Session.{good_number, vs_of, counts_of};
 ghost use Rattle.station.specs.Turns.{saying};
 ghost use Rattle.states.specs.States.{begun, released, ua, rejected, info_by, rr_by, rnr_by};
 ghost use Rattle.states.specs.States.{connected_by, is_snrm, assigned_by, linked_by};
@@ -47,16 +47,24 @@ fn say_ua(device: Device) -> Turn
     }
 }
 
+// V(S): S, or S+1 with an answer pending.
+#[tactic(auto, unfolding(session::specs::Session::vs_of, control::specs::Control::next_of))]
+fn vs(session: Session) -> u8
+    ensures number { result ≡ vs_of session }
+    ensures low { result < 8 }
+{
+    if session::is_pending(session.pending) {
+        return control::next(session.s);
+    }
+    session.s % 8
+}
+
 // The second octet of a frame reject: 2·V(S) + 32·R.
+#[tactic(auto, unfolding(session::specs::Session::counts_of))]
 fn counts(session: Session) -> u8
     ensures { result ≡ counts_of session }
 {
-    let vs = if session::is_pending(session.pending) {
-        control::next(session.s)
-    } else {
-        session.s % 8
-    };
-    vs * 2 + session.r % 8 * 32
+    vs(session) * 2 + session.r % 8 * 32
 }
 
 #[tactic(auto, unfolding(crate::specs::States::rejected, station::specs::Turns::saying))]
