@@ -13,7 +13,7 @@ use record::Payload;
 pub fn laid(code: u8, body: &[u8]) -> Payload
     ensures { result ≡ payload_of (message_of code (take body_most body.now)) }
 {
-    let n = octets::fewer(body.len(), 71);
+    let n = body.len().min(71);
     let mut octets = [0u8; 74];
     octets[0] = code;
     octets[1] = (n % 256) as u8;
@@ -23,17 +23,17 @@ pub fn laid(code: u8, body: &[u8]) -> Payload
 }
 
 // A failure, with its return code.
+#[tactic(auto, unfolding(crate::specs::Payloads::failure_of, crate::specs::Payloads::message_of))]
 pub fn failure(code: u8, why: u8) -> Payload
     ensures { result ≡ payload_of (failure_of code why) }
 {
-    let reason = [0x0B, why];
-    laid(code, &reason)
+    laid(code, &[0x0B, why])
 }
 
 // A success with no data out.
+#[tactic(auto, unfolding(crate::specs::Payloads::success_of))]
 pub fn done(code: u8) -> Payload
     ensures { result ≡ payload_of (success_of code []) }
 {
-    let body = [0x00];
-    laid(code, &body)
+    laid(code, &[0x00])
 }
