@@ -1,5 +1,6 @@
 -- What a message changes. Set tilt alone starts a movement, exactly where it is due; clear alarms alone changes what
 -- is raised and told; subscribe alone changes the subscription; nothing else changes anything. Assumes nothing.
+use Rattle.octets.specs.Text.{laid}
 use mathlib.Core.Path.{◌≡◌, refl, sym, ap, ◌∙◌}
 use mathlib.Core.Bool.{Bool, true, false}
 use mathlib.Core.List.{List, [], ◌∷◌}
@@ -21,7 +22,7 @@ use Rattle.antenna.specs.Alarms.{alarm_codes, codes_of}
 use Rattle.antenna.specs.Motions.{in_range, busy_of, owes_of, started, moves}
 use Rattle.record.specs.declared.Plate.{Plate}
 use Rattle.record.specs.Desk.{calm}
-use Rattle.payload.specs.Payloads.{payload_of, success_of, failure_of}
+use Rattle.payload.specs.Payloads.{success_of, failure_of}
 use Rattle.payload.proofs.Laws.{length-success}
 use Rattle.report.proofs.Counts.{length-codes}
 use Rattle.tilt.specs.Tilts.{tilt_octets}
@@ -185,7 +186,7 @@ module _ (p : Plate) (n : Antenna) (told : Alarms) (sub : Bool) (m : List ℕ) w
 
   -- every payload fits: 74 octets at most
   pub carried-fits : length (success_of 0x05 (information_of p)) ≤ 74 → (payload_in (carried_of p n told sub m)).len ≤ 74
-  unfolding replies unanswered payload_of
+  unfolding replies unanswered laid
   carried-fits h =
       carried-cases (λ r. (payload_in r).len ≤ 74) (λ few. omega arith)
       (λ b. ⊎_elim (λ few. omega (arith, few)) (λ e. omega (arith, h, ap length e)))
