@@ -26,6 +26,7 @@ pub struct Identifier {
 }
 
 // A group of parameters. Where it has fewer identifiers, its last rows have a least above their most: none is right.
+// A shorter table would give the group, its parts and all that read them a const parameter, for one row.
 #[derive(Clone, Copy)]
 pub struct Group {
     pub octet: u8,
