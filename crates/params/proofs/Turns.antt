@@ -4,42 +4,18 @@ use mathlib.Core.Bool.{true, false}
 use mathlib.Core.List.{List, [], ◌∷◌}
 use mathlib.Core.Logic.{⊎_elim}
 use mathlib.Core.Option.{Option, none, some}
-use Prim.Native.Nat.{ℕ, zero, suc, ◌+◌, ◌-◌, ◌<◌, ◌≤◌}
+use Prim.Native.Nat.{ℕ, zero, suc, ◌+◌, ◌<◌, ◌≤◌}
 use native.Mathlib.Nat.{not-suc-le-zero, le_of_suc-le-suc}
 use native.Mathlib.Omega.{arith}
-use borrow.Author.Tests.{le-leb, eq-eqb}
-use lib.Dec.{eqb}
 use lib.ListN.{length, get_or, set, take, drop, drop_of_length-le, length-drop}
-use lib.Seq.{take_all, take-nil, drop-drop, length-take-le}
-use Rattle.octets.proofs.Takes.{take_rest}
+use lib.Seq.{drop-drop, length-take-le}
 use Rattle.octets.proofs.Rest.{rest}
 use Rattle.reader.specs.Read.{end, broken, triple}
 use Rattle.reader.proofs.Steps.{Means, next-two}
-use Rattle.params.specs.Field.{Param, ◌is◌, before, triples_after, triples_of, opened, format}
+use Rattle.params.specs.Field.{Param, ◌is◌, before, triples_after, triples_of}
 use Rattle.params.specs.Walk.{place_in, Part, part, Found, unformed}
 use Rattle.params.specs.declared.Identifier.{Identifier}
 use Rattle.params.proofs.Kept.{fits, formed, kept, kept_from}
-
--- a part of a slice: past its end, as far as it goes, whole
-module _ (s : List ℕ) (from len : ℕ) where
-  pub part-past : length s ≤ from → take (length s - length s) (drop (length s) s) ≡ take len (drop from s)
-  part-past h =
-      let n : length s - length s ≡ 0 = omega arith in
-      rw (drop_of_length-le s h, n) (sym (take-nil len))
-
-  pub part-rest : length s - from < len → take (length s - from) (drop from s) ≡ take len (drop from s)
-  part-rest h =
-      take_rest from s
-      ∙ sym (take_all len (drop from s) (omega (arith, length-drop from s)))
-
-  pub part-whole : take (from + len - from) (drop from s) ≡ take len (drop from s)
-  part-whole = let n : from + len - from ≡ len = omega arith in rw n
-
-pub opens-right : (o : ℕ) (m : List ℕ) (x : ℕ) → 3 ≤ length m → get_or m 0 0 ≡ format → get_or m 1 0 ≡ o → x ≡ get_or m 2 0
-    → eqb x (length m - 3) ≡ opened o m
-unfolding opened
-opens-right o m x h a b e =
-    simp (le-leb 3 (length m) h, eq-eqb (get_or m 0 0) format a, eq-eqb (get_or m 1 0) o b, sym e)
 
 -- the octets of a value passed over: they are there, or they are not
 pub skip : (k : ℕ) (xs : List ℕ) → k ≤ length xs → triples_after k xs ≡ triples_of (drop k xs)

@@ -7,9 +7,8 @@ ghost use Rattle.std.specs.Prelude.{◌≡◌, cond, ◌&&◌, leb, ltb, length,
 ghost use Rattle.params.specs.Field.{right_length, opened, triples_of, checked};
 ghost use Rattle.params.specs.Walk.{place_in, part_in, found_from, found_in};
 
-use reader::Reader;
-
 pub use reader::Malformed;
+use reader::Reader;
 
 // The most identifiers that a group has.
 pub const ROWS: usize = 5;
@@ -26,6 +25,7 @@ pub struct Identifier {
 }
 
 // A group of parameters. Where it has fewer identifiers, its last rows have a least above their most: none is right.
+// A shorter table would give the group, its parts and all that read them a const parameter, for one row.
 #[derive(Clone, Copy)]
 pub struct Group {
     pub octet: u8,

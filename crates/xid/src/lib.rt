@@ -49,6 +49,7 @@ struct Parts {
 }
 
 // What a payload means: nothing to answer; a scan that is answered; an assignment that is taken.
+// Silence is one of 01's answers, so it has its own name beside the other two, and is no `None`.
 #[derive(Clone, Copy)]
 pub enum Xid {
     Silence,
