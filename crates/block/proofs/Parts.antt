@@ -6,9 +6,7 @@ use Prim.Native.Nat.{ℕ, ◌-◌}
 use native.Mathlib.Omega.{arith}
 use borrow.Rule.Slice.PartMut.{put_mid}
 use lib.ListN.{length, take, drop, drop_of_length-le, length-append, length-drop, take-append-drop}
-use lib.Seq.{sets, take-append_seam, drop-append_seam}
-use Rattle.octets.specs.Octets.{◌at_start_of◌}
-use Rattle.octets.proofs.Stores.{sets-start}
+use lib.Seq.{take-append_seam, drop-append_seam}
 use Rattle.octets.proofs.Takes.{take_rest}
 use Rattle.refusal.specs.Answer.{Answer, gives, refuses}
 use Rattle.refusal.specs.declared.Refusal.{Refusal}
@@ -18,14 +16,6 @@ use Rattle.receiver.specs.declared.Received.{Received}
 use Rattle.receiver.specs.Held.{Held, held_of, places}
 use Rattle.receiver.specs.Call.{Took, heard_of, told_by, held_by, Receives}
 use Rattle.block.specs.Block.{block_size, marks_in, marks_octets, held_in, block_after, Blocks}
-
--- as many octets as there are places
-pub sets-whole : (b o : List ℕ) → length b ≡ length o → sets o 0 b ≡ b
-unfolding ◌at_start_of◌
-sets-whole b o e =
-    sets-start b o (omega arith)
-    ∙ ap (λ (l : List ℕ). b ++ l) (drop_of_length-le o {i = length b} (omega arith))
-    ∙ append-nil b
 
 -- the record that the block holds, as the code lends its parts
 pub held-parts : (b : List ℕ) {r : Receiver} → r ≡ marks_in (take (length b - places) (drop places b))

@@ -5,7 +5,7 @@
 
 ghost use Rattle.std.specs.Prelude.{◌≡◌, length};
 ghost use Rattle.receiver.specs.Call.{received};
-ghost use Rattle.block.specs.Block.{marks_size, block_size, yes_octet, marks_in, marks_octets, held_in, Blocks};
+ghost use Rattle.block.specs.Block.{marks_size, block_size, marks_in, marks_octets, held_in, Blocks};
 
 use receiver::{PLACES, Received, Receiver};
 use refusal::Refusal;
@@ -16,12 +16,13 @@ const MARKS: usize = 7;
 pub const BLOCK: usize = PLACES + MARKS;
 
 // The record that the octets behind the store stand for.
+#[tactic(auto, unfolding(crate::specs::Block::marks_in))]
 fn marks(t: &[u8]) -> Receiver
     requires { length t.now ≡ marks_size }
     ensures { result ≡ marks_in t.now }
 {
     Receiver {
-        count: octets::pair(t[0], t[1]) as usize,
+        count: usize::from(octets::pair(t[0], t[1])),
         more: t[2] != 0,
         escaping: t[3] != 0,
         last: t[4] != 0,
@@ -30,25 +31,22 @@ fn marks(t: &[u8]) -> Receiver
     }
 }
 
-// The octet of a yes or a no.
-fn yes_octet(b: bool) -> u8
-    ensures { result ≡ yes_octet b }
-{
-    if b { 1 } else { 0 }
-}
-
 // Writes a record there.
+#[tactic(auto, unfolding(crate::specs::Block::marks_octets))]
 fn put_marks(receiver: Receiver, t: &mut [u8])
     requires { length t.old ≡ marks_size }
     ensures { t.new ≡ marks_octets receiver }
 {
-    t[0] = (receiver.count % 256) as u8;
-    t[1] = (receiver.count / 256 % 256) as u8;
-    t[2] = yes_octet(receiver.more);
-    t[3] = yes_octet(receiver.escaping);
-    t[4] = yes_octet(receiver.last);
-    t[5] = yes_octet(receiver.any);
-    t[6] = yes_octet(receiver.seen);
+    let [low, high, ..] = receiver.count.to_le_bytes();
+    t.copy_from_slice(&[
+        low,
+        high,
+        u8::from(receiver.more),
+        u8::from(receiver.escaping),
+        u8::from(receiver.last),
+        u8::from(receiver.any),
+        u8::from(receiver.seen),
+    ]);
 }
 
 // The call, with the block as a slice, of which parts can be lent.

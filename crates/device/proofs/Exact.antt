@@ -1,6 +1,7 @@
 -- Demand 1 for the device: each number is given exactly when 01 and 02 (iv) say, in 01's order, and any octets get a
 -- number, silence or a frame. A number leaves the device and the buffer as they were, silence the buffer. Octets from the
 -- line get the decoder's numbers with the link's frame limit first, at once. Assumes nothing.
+use Rattle.std.proofs.Common.{Ok, Err, Some, None}
 use mathlib.Core.Path.{◌≡◌, refl, sym, ap, ◌∙◌}
 use mathlib.Core.Bool.{true, false, not}
 use mathlib.Core.List.{List, [], ◌∷◌}
@@ -23,9 +24,7 @@ use Rattle.frame.proofs.Exact.{Sized, decode-6, decode-4, decode-1, decode-2, de
 use Rattle.record.specs.declared.Device.{Device}
 use Rattle.record.specs.Allowed.{limit_of, allowed_device}
 use Rattle.link.specs.Link.{judged_frame}
-use Rattle.device.specs.declared.Said.TheVariants.{Silence, Frame, Refused}
-use Rattle.device.specs.declared.Judged.{Judged}
-use Rattle.device.specs.Judge.{Reaction, reaction_of, judge_rows, judged, heard, said_of, size_of, told_of}
+use Rattle.device.specs.Judge.{Reaction, reaction_of, judge_rows, judged, heard, Said, said_of, size_of, told_of}
 use Rattle.device.specs.Judge.{device_after, frame_at, buffer_after, Judges}
 use Rattle.device.proofs.Only.{none-not-some, some_same}
 use Rattle.device.proofs.Hearing.{Readable, hear-own-room, holds-six, heard-at-once, heard-readable}
@@ -137,17 +136,17 @@ module _ (d : Device) (line : List ℕ) (room : ℕ) where
 
 -- ---- what a number and silence leave
 
-module _ {d : Device} {o o' : List ℕ} {r : Judged} where
+module _ {d d' : Device} {o o' : List ℕ} {r : Said} where
   -- a number is the paper's, and leaves the device and every octet of the buffer as they were
-  pub refused-keeps : (x : Answer Reaction) (k : Refusal) → r.said ≡ Refused k → Judges x d o r o'
-      → (x ≡ refuses (number_of k)) × (r.device ≡ d) × (o' ≡ o)
+  pub refused-keeps : (x : Answer Reaction) (k : Refusal) → r ≡ Err k → Judges x d o r d' o'
+      → (x ≡ refuses (number_of k)) × (d' ≡ d) × (o' ≡ o)
   unfolding said_of told_of device_after buffer_after
   refused-keeps (gives x) k e w = absurd (gives-not-refuses (sym w.said ∙ ap said_of e))
   refused-keeps (refuses j) k e w =
       (ap refuses (refuses-same (sym w.said ∙ ap said_of e)), w.device, w.buffer)
 
   -- silence leaves every octet of the buffer as it was
-  pub silence-keeps : (x : Answer Reaction) → r.said ≡ Silence → Judges x d o r o' → o' ≡ o
+  pub silence-keeps : (x : Answer Reaction) → r ≡ Ok None → Judges x d o r d' o' → o' ≡ o
   unfolding said_of told_of buffer_after size_of frame_at
   silence-keeps (gives x) e w = go x.frame (gives_same (sym w.said ∙ ap said_of e)) w.buffer
     where
@@ -157,27 +156,27 @@ module _ {d : Device} {o o' : List ℕ} {r : Judged} where
   silence-keeps (refuses k) e w = w.buffer
 
   -- silence is an answer without a frame
-  pub silence-tells : (x : Answer Reaction) → r.said ≡ Silence → Judges x d o r o'
-      → (y : Reaction) × (x ≡ gives y) × (y.frame ≡ none) × (r.device ≡ y.device) × (o' ≡ o)
+  pub silence-tells : (x : Answer Reaction) → r ≡ Ok None → Judges x d o r d' o'
+      → (y : Reaction) × (x ≡ gives y) × (y.frame ≡ none) × (d' ≡ y.device) × (o' ≡ o)
   unfolding said_of told_of buffer_after size_of frame_at device_after
   silence-tells (gives y) e w = go y.frame refl (gives_same (sym (ap said_of e) ∙ w.said)) w.buffer
     where
       go : (f : Option (List ℕ)) → y.frame ≡ f → none ≡ size_of f → o' ≡ frame_at f o
-          → (z : Reaction) × (gives y ≡ gives z) × (z.frame ≡ none) × (r.device ≡ z.device) × (o' ≡ o)
+          → (z : Reaction) × (gives y ≡ gives z) × (z.frame ≡ none) × (d' ≡ z.device) × (o' ≡ o)
       go none q h b = (y, refl, q, w.device, b)
       go (some g) q h b = absurd (none-not-some h)
   silence-tells (refuses k) e w = absurd (gives-not-refuses (sym (ap said_of e) ∙ w.said))
 
   -- octets that are told stand at the start of the buffer, and are the frame that the answer gives
-  pub frame-tells : (x : Answer Reaction) (n : ℕ) → r.said ≡ Frame n → Judges x d o r o'
-      → (y : Reaction) × (g : List ℕ) × (x ≡ gives y) × (y.frame ≡ some g) × (n ≡ length g) × (r.device ≡ y.device)
+  pub frame-tells : (x : Answer Reaction) (n : ℕ) → r ≡ Ok (Some n) → Judges x d o r d' o'
+      → (y : Reaction) × (g : List ℕ) × (x ≡ gives y) × (y.frame ≡ some g) × (n ≡ length g) × (d' ≡ y.device)
       × (o' ≡ g at_start_of o)
   unfolding said_of told_of buffer_after size_of frame_at device_after
   frame-tells (gives y) n e w = go y.frame refl (gives_same (sym (ap said_of e) ∙ w.said)) w.buffer
     where
       go : (f : Option (List ℕ)) → y.frame ≡ f → some n ≡ size_of f → o' ≡ frame_at f o
           → (z : Reaction) × (g : List ℕ) × (gives y ≡ gives z) × (z.frame ≡ some g) × (n ≡ length g)
-          × (r.device ≡ z.device) × (o' ≡ g at_start_of o)
+          × (d' ≡ z.device) × (o' ≡ g at_start_of o)
       go none q h b = absurd (none-not-some (sym h))
       go (some g) q h b = (y, g, refl, q, some_same h, w.device, b)
   frame-tells (refuses k) n e w = absurd (gives-not-refuses (sym (ap said_of e) ∙ w.said))

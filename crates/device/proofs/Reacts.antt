@@ -1,5 +1,5 @@
 -- The ways out of judging and hearing: a number, silence, or a frame at the start of the buffer. Assumes nothing.
-use Rattle.std.proofs.Common.{Result, Ok, Err}
+use Rattle.std.proofs.Common.{Result, Ok, Err, Some, None}
 use mathlib.Core.Path.{◌≡◌, refl, sym, ap, ◌∙◌}
 use mathlib.Core.Bool.{Bool, true, false}
 use mathlib.Core.List.{List, ◌∷◌}
@@ -22,18 +22,16 @@ use Rattle.link.specs.Link.{judged_frame}
 use Rattle.speech.specs.declared.Spoken.{Spoken}
 use Rattle.speech.specs.Speech.{is_silent, control_by, payload_by, frame_by, spoken_most, spoken_of}
 use Rattle.limits.specs.Limits.{frame_most}
-use Rattle.device.specs.declared.Said.TheVariants.{Silence, Frame, Refused}
-use Rattle.device.specs.declared.Judged.{Judged}
-use Rattle.device.specs.Judge.{Reaction, reacts, reaction_of, judge_rows, judged, heard_by, decoded_here, heard, refusal_in}
-use Rattle.device.specs.Judge.{said_of, size_of, told_of, device_after, frame_at, buffer_after, Judges}
+use Rattle.device.specs.Judge.{Reaction, reacts, reaction_of, judge_rows, judged, heard_by, decoded_here, heard}
+use Rattle.device.specs.Judge.{Said, said_of, size_of, told_of, device_after, frame_at, buffer_after, Judges}
 
-pub judges-is : {x y : Answer Reaction} {d : Device} {o o' : List ℕ} {r : Judged} → x ≡ y → Judges x d o r o'
-    → Judges y d o r o'
+pub judges-is : {x y : Answer Reaction} {d d' : Device} {o o' : List ℕ} {r : Said} → x ≡ y → Judges x d o r d' o'
+    → Judges y d o r d' o'
 judges-is e w = record { said = rw (← e) w.said; device = rw (← e) w.device; buffer = rw (← e) w.buffer }
 
 -- the number alone: the device and the buffer as they were
 pub refused : (x : Answer Reaction) (d : Device) (o : List ℕ) (k : Refusal) → x ≡ refuses (number_of k)
-    → Judges x d o (record { said = Refused k; device = d }) o
+    → Judges x d o (Err k) d o
 unfolding said_of told_of device_after buffer_after
 refused x d o k e =
     record {
@@ -45,11 +43,11 @@ refused x d o k e =
 -- ---- what is said
 
 module _ (d : Device) (x : Say) (o : List ℕ) {r : Spoken} (e : r ≡ spoken_of (frame_by d x)) where
-  pub silent : r.len ≡ 0 → Judges (gives (reacts d x)) d o (record { said = Silence; device = d }) o
+  pub silent : r.len ≡ 0 → Judges (gives (reacts d x)) d o (Ok None) d o
   unfolding frame_by spoken_of said_of told_of size_of device_after buffer_after frame_at reacts
   silent z = go (is_silent x) refl
     where
-      go : (b : Bool) → is_silent x ≡ b → Judges (gives (reacts d x)) d o (record { said = Silence; device = d }) o
+      go : (b : Bool) → is_silent x ≡ b → Judges (gives (reacts d x)) d o (Ok None) d o
       go true q = record { said = rw q; device = refl; buffer = rw q }
       go false q =
           let f : List ℕ = d.station.desk.address ∷ control_by x ∷ payload_by d x in
@@ -58,12 +56,12 @@ module _ (d : Device) (x : Say) (o : List ℕ) {r : Spoken} (e : r ≡ spoken_of
 
   pub framed : (r.len ≡ 0 → ⊥) → r.len ≤ spoken_most → spoken_most ≤ length o → {o' : List ℕ}
       → o' ≡ sets o 0 (take r.len r.octets)
-      → Judges (gives (reacts d x)) d o (record { said = Frame r.len; device = d }) o'
+      → Judges (gives (reacts d x)) d o (Ok (Some r.len)) d o'
   unfolding frame_by spoken_of said_of told_of size_of device_after buffer_after frame_at reacts
   framed heard most room {o'} s = go (is_silent x) refl
     where
       go : (b : Bool) → is_silent x ≡ b
-          → Judges (gives (reacts d x)) d o (record { said = Frame r.len; device = d }) o'
+          → Judges (gives (reacts d x)) d o (Ok (Some r.len)) d o'
       go true q = absurd (heard (ap (λ (y : Spoken). y.len) e ∙ rw q))
       go false q =
           let f : List ℕ = d.station.desk.address ∷ control_by x ∷ payload_by d x in
@@ -97,9 +95,9 @@ module _ (d : Device) (f o : List ℕ) where
   roomy e h = omega (arith, (limited d e).0, h)
 
   -- the turn's device and what it says
-  pub turned : allowed_device d ≡ true → frame_most (limit_of d) ≤ length o → {t : Turn} {r : Judged} {o' : List ℕ}
+  pub turned : allowed_device d ≡ true → frame_most (limit_of d) ≤ length o → {t : Turn} {r : Said} {o' : List ℕ}
       → t ≡ judged_frame d f
-      → Judges (gives (reacts t.device t.say)) t.device o r o' → Judges (judged d f (length o)) d o r o'
+      → Judges (gives (reacts t.device t.say)) t.device o r t.device o' → Judges (judged d f (length o)) d o r t.device o'
   unfolding device_after
   turned e h {t} {r} {o'} q w =
       let k : gives (reacts t.device t.say) ≡ judged d f (length o) =
@@ -109,13 +107,12 @@ module _ (d : Device) (f o : List ℕ) where
 -- ---- a line heard
 
 module _ (d : Device) (line o store store' : List ℕ) where
-  pub heard-refused : {h : Result ℕ Refusal} (k q : Refusal) → Hands (decoded_here d line) store h store'
-      → h ≡ Err k → q ≡ refusal_in h
-      → Judges (heard d line (length o)) d o (record { said = Refused q; device = d }) o
+  pub heard-refused : {h : Result ℕ Refusal} (k : Refusal) → Hands (decoded_here d line) store h store' → h ≡ Err k
+      → Judges (heard d line (length o)) d o (Err k) d o
   unfolding heard heard_by
-  heard-refused k q w e u =
+  heard-refused k w e =
       let t = refusal-told (decoded_here d line) {k = k} (rw e at w) in
-      refused (heard d line (length o)) d o q (rw (t.0, u, e))
+      refused (heard d line (length o)) d o k (rw t.0)
 
   pub heard-judged : (n : ℕ) → {h : Result ℕ Refusal} → Hands (decoded_here d line) store h store' → h ≡ Ok n
       → judged d (take n store') (length o) ≡ heard d line (length o)

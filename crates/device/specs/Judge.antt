@@ -4,15 +4,15 @@
 --   judged d f room   == the decoded frame f, judged by the device d, with an answer buffer of so many octets
 --   decoded_here d line == the octets between two flags, decoded by the device d
 --   heard d line room == the octets between two flags, decoded and then judged
+--   Said              == what the code answers: how many octets, none for silence, or the number
 --   said_of x         == the number, silence, or how many octets, for each case of the code's answer
---   Judges x d o r o' == the code's result r, and the buffer o' that was o, are the answer x of the device d
+--   Judges x d o r d' o' == the code's result r, the device d' that was d and the buffer o' that was o are the answer x
 -- Assumes nothing.
-use Rattle.std.specs.Prelude.{Result, Ok, Err}
+use Rattle.std.specs.Prelude.{Result, Ok, Err, Some, None, Option as Optional}
 use Rattle.std.specs.Prelude.{◌≡◌, not, List, [], ◌∷◌, ℕ, ltb, length}
 use Rattle.std.proofs.Math.Option.{Option, none, some}
 use Rattle.octets.specs.Octets.{◌at_start_of◌}
 use Rattle.refusal.specs.declared.Refusal.{Refusal}
-use Rattle.refusal.specs.declared.Refusal.TheVariants.{NoRoom}
 use Rattle.refusal.specs.Numbers.{number_of}
 use Rattle.refusal.specs.Answer.{Answer, gives, refuses, TestRow, ◌when◌, answered}
 use Rattle.limits.specs.Limits.{limit_most, frame_most}
@@ -23,9 +23,6 @@ use Rattle.station.specs.declared.Say.{Say}
 use Rattle.station.specs.declared.Turn.{Turn}
 use Rattle.link.specs.Link.{judged_frame}
 use Rattle.speech.specs.Speech.{frame_by}
-use Rattle.device.specs.declared.Said.{Said}
-use Rattle.device.specs.declared.Said.TheVariants.{Silence, Frame, Refused}
-use Rattle.device.specs.declared.Judged.{Judged}
 
 pub record Reaction : Type 0 where
   pub device : Device
@@ -59,15 +56,13 @@ heard d line room = heard_by d room (decoded_here d line)
 
 -- ---- the code's answers
 
--- the number of a refused decoding; one that gave octets does not come here
-abbrev pub refusal_in : Result ℕ Refusal → Refusal
-refusal_in (Ok n) = NoRoom
-refusal_in (Err r) = r
+abbrev pub Said : Type 0
+Said = Result (Optional ℕ) Refusal
 
 unfoldable pub said_of : Said → Answer (Option ℕ)
-said_of Silence = gives none
-said_of (Frame n) = gives (some n)
-said_of (Refused r) = refuses (number_of r)
+said_of (Ok None) = gives none
+said_of (Ok (Some n)) = gives (some n)
+said_of (Err r) = refuses (number_of r)
 
 unfoldable pub size_of : Option (List ℕ) → Option ℕ
 size_of none = none
@@ -91,7 +86,7 @@ unfoldable pub buffer_after : Answer Reaction → List ℕ → List ℕ
 buffer_after (gives x) o = frame_at x.frame o
 buffer_after (refuses k) o = o
 
-pub record Judges (right : Answer Reaction) (d : Device) (o : List ℕ) (r : Judged) (o' : List ℕ) : Type 0 where
-  pub said : said_of r.said ≡ told_of right
-  pub device : r.device ≡ device_after right d
+pub record Judges (right : Answer Reaction) (d : Device) (o : List ℕ) (r : Said) (d' : Device) (o' : List ℕ) : Type 0 where
+  pub said : said_of r ≡ told_of right
+  pub device : d' ≡ device_after right d
   pub buffer : o' ≡ buffer_after right o

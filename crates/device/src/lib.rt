@@ -3,108 +3,52 @@
 // buffer (proofs/Exact.antt). Assumes nothing of its caller: a record that no run ever made may be handed in.
 #![tactic(auto)]
 
-ghost use Rattle.std.specs.Prelude.{◌≡◌, ◌≤◌, length, take};
-ghost use Rattle.std.proofs.lemmas.List.Edits.{sets};
+ghost use Rattle.std.specs.Prelude.{Ok, ◌≤◌, length};
 ghost use Rattle.refusal.specs.Answer.{gives};
 ghost use Rattle.speech.specs.Speech.{spoken_most};
-ghost use Rattle.device.specs.Judge.{Judges, reacts, judged, heard, refusal_in};
+ghost use Rattle.device.specs.Judge.{Judges, reacts, judged, heard};
 
 use limits::LONGEST_FRAME;
 use record::Device;
 use refusal::Refusal;
-use speech::SPOKEN_MOST;
 use station::Say;
 
-// Nothing is said; so many octets stand at the start of the answer buffer; or the number for "no".
-#[derive(Clone, Copy)]
-pub enum Said {
-    Silence,
-    Frame(usize),
-    Refused(Refusal),
-}
-
-#[derive(Clone, Copy)]
-pub struct Judged {
-    pub said: Said,
-    pub device: Device,
-}
-
-fn hand_over(octets: [u8; SPOKEN_MOST], len: usize, answer: &mut [u8])
-    requires { len ≤ spoken_most }
-    ensures { answer.new ≡ sets answer.old 0 (take len octets) }
-{
-    octets::put_all(answer, 0, &octets[..len]);
-}
-
-// What is said goes to the start of the answer buffer.
-fn utter(device: Device, say: Say, answer: &mut [u8]) -> Judged
+// What is said goes to the start of the answer buffer: how many octets, or none where nothing is said.
+fn utter(device: Device, say: Say, answer: &mut [u8]) -> Option<usize>
     requires { spoken_most ≤ length answer.old }
-    ensures { Judges (gives (reacts device say)) device answer.old result answer.new }
+    ensures { Judges (gives (reacts device say)) device answer.old (Ok result) device answer.new }
 {
     let spoken = speech::speak(device, say);
-    let octets = spoken.octets;
     if spoken.len == 0 {
-        return Judged {
-            said: Said::Silence,
-            device,
-        };
+        return None;
     }
-    hand_over(octets, spoken.len, answer);
-    Judged {
-        said: Said::Frame(spoken.len),
-        device,
-    }
+    octets::put_all(answer, 0, &spoken.octets[..spoken.len]);
+    Some(spoken.len)
 }
 
-// A decoded frame, judged: the device after it, and its answer at the start of the buffer.
-pub fn judge(device: Device, frame: &[u8], answer: &mut [u8]) -> Judged
-    ensures { Judges (judged device frame.now (length answer.old)) device
-        answer.old result answer.new }
+// A decoded frame, judged: the device after it, and its answer at the start of the buffer: how many octets, or none for
+// silence. A number for "no" leaves the device and the buffer as they were.
+pub fn judge(device: &mut Device, frame: &[u8], answer: &mut [u8]) -> Result<Option<usize>, Refusal>
+    ensures { Judges (judged device.old frame.now (length answer.old)) device.old answer.old
+        result device.new answer.new }
 {
-    let station = device.station;
-    let desk = station.desk;
-    if record::allowed(device) {
-        if answer.len() < limits::frame_most(desk.limit) {
-            return Judged {
-                said: Said::Refused(Refusal::NoRoom),
-                device,
-            };
-        }
-        let turn = link::judge_frame(device, frame);
-        let next = turn.device;
-        let say = turn.say;
-        return utter(next, say, answer);
+    if !record::allowed(*device) {
+        return Err(Refusal::NotAllowed);
     }
-    Judged {
-        said: Said::Refused(Refusal::NotAllowed),
-        device,
+    if answer.len() < limits::frame_most(device.station.desk.limit) {
+        return Err(Refusal::NoRoom);
     }
-}
-
-// The decoder's number for "no".
-fn refusal_in(handed: Result<usize, Refusal>) -> Refusal
-    ensures { result ≡ refusal_in handed }
-{
-    match handed {
-        Ok(_) => Refusal::NoRoom,
-        Err(refusal) => refusal,
-    }
+    let turn = link::judge_frame(*device, frame);
+    *device = turn.device;
+    Ok(utter(turn.device, turn.say, answer))
 }
 
 // What lies between two flags, heard: decoded with the link's frame limit into a buffer of its own, then judged.
-pub fn hear(device: Device, line: &[u8], answer: &mut [u8]) -> Judged
-    ensures { Judges (heard device line.now (length answer.old)) device
-        answer.old result answer.new }
+pub fn hear(device: &mut Device, line: &[u8], answer: &mut [u8]) -> Result<Option<usize>, Refusal>
+    ensures { Judges (heard device.old line.now (length answer.old)) device.old answer.old
+        result device.new answer.new }
 {
-    let station = device.station;
-    let desk = station.desk;
     let mut store = [0u8; LONGEST_FRAME];
-    let handed = frame::decode(desk.limit, line, &mut store);
-    let Ok(n) = handed else {
-        return Judged {
-            said: Said::Refused(refusal_in(handed)),
-            device,
-        };
-    };
+    let n = frame::decode(device.station.desk.limit, line, &mut store)?;
     judge(device, &store[..n], answer)
 }

@@ -1,4 +1,4 @@
--- The promise of this crate allows one result, and one content of the lent output. Assumes nothing.
+-- The promise of this crate allows one answer, one row after it and one content of the lent output. Assumes nothing.
 use Rattle.std.proofs.Common.{Result}
 use Rattle.refusal.specs.declared.Refusal.{Refusal}
 use mathlib.Core.Path.{◌≡◌, refl, sym, ap, ap₂, ◌∙◌}
@@ -7,13 +7,11 @@ use Prim.Native.Nat.{ℕ}
 use Rattle.octets.proofs.Only.{only}
 use Rattle.refusal.specs.Answer.{outcome_of}
 use Rattle.refusal.proofs.Only.{outcome-apart}
-use Rattle.device.specs.declared.Said.{Said}
-use Rattle.device.specs.Judge.{said_of}
+use Rattle.device.specs.Judge.{Said, said_of}
 use Rattle.device.proofs.Only.{said-apart}
 use Rattle.bus.specs.declared.Row.{Row}
 use Rattle.drives.specs.declared.Response as the-response
 use Rattle.drives.specs.declared.Response.TheVariants as code
-use Rattle.drives.specs.declared.Obeyed.{Obeyed}
 use Rattle.drives.specs.Drives.{ScriptAnswer, no_command, no_device, full, device, outcome, answer, state, limit}
 use Rattle.drives.specs.Drives.{After, reply_of, Obeys, Came}
 use Rattle.octets.proofs.Only.{AsksNothing, SettlesAll}
@@ -56,18 +54,18 @@ means-one (limit n) e f = e ∙ sym f
 pub reply-apart : (x z : the-response.Response) → reply_of x ≡ reply_of z → x ≡ z
 reply-apart x z e = means-one (reply_of z) (rw e at (means-it x)) (means-it z)
 
--- every promise by `Obeys` allows one result and one output
-obeys-only : {right : Came} {r s : Obeyed} {p q : List ℕ} → Obeys right r p → Obeys right s q → (r ≡ s) × (p ≡ q)
+-- every promise by `Obeys` allows one row, one answer and one output
+obeys-only : {right : Came} {x y : Row} {r s : the-response.Response} {p q : List ℕ}
+    → Obeys right x r p → Obeys right y s q → (r ≡ s) × ((x ≡ y) × (p ≡ q))
 obeys-only {r = r} {s = s} a b =
     let both = only a.after b.after in (
-      ap₂ (λ (w : Row) (x : the-response.Response). record { row = w; answer = x })
-          (ap (λ (x : After). x.row) both)
-          (reply-apart r.answer s.answer (ap (λ (x : After). x.reply) both)),
-      only a.lent b.lent,
+      reply-apart r s (ap (λ (x : After). x.reply) both),
+      (ap (λ (x : After). x.row) both, only a.lent b.lent),
     )
 
-pub obey-only : SettlesAll obey-reads.Learnt (λ κs s. s.1.1.1.1.0.now)
-obey-only κs a r q s t = obeys-only
+pub obey-only : SettlesAll {O = Row × List ℕ} obey-reads.Learnt (λ κs s. (s.0.now, s.1.1.1.1.0.now))
+obey-only κs a r q s t x y =
+    let e = obeys-only x y in (e.0, ap₂ (λ (w : Row) (o : List ℕ). (w, o)) e.1.0 e.1.1)
 
 pub obey-asks : AsksNothing obey-reads.Asked
 obey-asks κs a = tt

@@ -17,19 +17,17 @@ use Rattle.record.specs.declared.Device.{Device}
 use Rattle.record.specs.Fresh.{fresh_of, blank_device}
 use Rattle.record.specs.Allowed.{allowed_device, limit_of}
 use Rattle.record.specs.Changes.{event_rows, happened}
-use Rattle.device.specs.declared.Judged.{Judged}
-use Rattle.device.specs.Judge.{Reaction, judged, heard, Judges}
+use Rattle.device.specs.Judge.{Said, judged, heard, Judges}
 use Rattle.bus.specs.declared.Row.{Row}
 use Rattle.bus.specs.Cable.{row_most}
 use Rattle.octets.specs.Octets.{part_of}
 use Rattle.script.specs.Commands as command
 use Rattle.drives.specs.declared.Response.TheVariants as code
-use Rattle.drives.specs.declared.Obeyed.{Obeyed}
+use Rattle.drives.specs.declared.Response as the-response
 use Rattle.drives.specs.Drives.{After, Came, Obeys, no_device, device, outcome, answer, state, limit}
 use Rattle.drives.specs.Drives.{◌saying◌, ◌leaving◌, reply_of, after_of, is_device, device_at, with_device, value}
 use Rattle.drives.specs.Drives.{tilt_of, listens, tells, is_value, event_of, happens, befalls, are_tilts, fresh_with}
 use Rattle.drives.specs.Drives.{fresh_by, added, adds, tells_limit, drives, to_device, for_device, obeyed}
-use Rattle.drives.specs.Steps.{put_back}
 
 -- ---- a place
 
@@ -50,53 +48,42 @@ device-place n k e t =
 
 -- ---- frames and events
 
-module _ (c : ℕ) (d : Device) (os : List ℕ) (n : ℕ) {o o' : List ℕ} {j : Judged} where
-  pub listens-frame : c ≡ command.frame → Judges (judged d os n) d o j o' → Judges (listens c d os n) d o j o'
+module _ (c : ℕ) (d : Device) (os : List ℕ) (n : ℕ) {d' : Device} {o o' : List ℕ} {j : Said} where
+  pub listens-frame : c ≡ command.frame → Judges (judged d os n) d o j d' o' → Judges (listens c d os n) d o j d' o'
   unfolding listens
   listens-frame e h = rw (eq-eqb c command.frame e) h
 
-  pub listens-line : (c ≡ command.frame → ⊥) → Judges (heard d os n) d o j o' → Judges (listens c d os n) d o j o'
+  pub listens-line : (c ≡ command.frame → ⊥) → Judges (heard d os n) d o j d' o'
+      → Judges (listens c d os n) d o j d' o'
   unfolding listens
   listens-line e h = rw (ne_eqb c command.frame e) h
 
-pub tells_is : (row : Row) (place : ℕ) (x : Answer Reaction) {o o' : List ℕ} {j : Judged} {r : Obeyed}
-    → Judges x (device_at row place) o j o' → r ≡ put_back row place j.device (code.Said j.said)
-    → Obeys (tells row place x o) r o'
-unfolding tells reply_of
-tells_is row place x h e =
+-- what comes of the device that stood at the place, d, which is d' afterwards
+pub tells_at : (row : Row) (place c : ℕ) (os : List ℕ) (n : ℕ) {d d' : Device} {o o' : List ℕ} {j : Said}
+    → d ≡ device_at row place → Judges (listens c d os n) d o j d' o'
+    → Obeys (tells row place (listens c (device_at row place) os n) o)
+    (record { devices = set row.devices place d'; count = row.count }) (code.Said j) o'
+unfolding tells reply_of with_device
+tells_at row place c os n {d' = d'} {o} {o'} {j} e h =
+    let w : Judges (listens c (device_at row place) os n) (device_at row place) o j d' o' = rw e at h in
     record {
-      after =
-          ap after_of e
-          ∙ ap₂ (λ (d : Device) (a : Answer _). record { row = with_device row place d; reply = answer a })
-          h.device h.said;
-      lent = h.buffer;
+      after = ap₂ (λ (d : Device) (a : Answer _). record { row = with_device row place d; reply = answer a }) w.device w.said;
+      lent = w.buffer;
     }
 
-pub befalls-is : (row : Row) (place : ℕ) (x : Answer Device) {u : Result (Unit {0}) Refusal} {d : Device} {r : Obeyed}
-    → Changes x (device_at row place) u d → r ≡ put_back row place d (code.Outcome u)
-    → after_of r ≡ befalls row place x
-unfolding befalls reply_of
-befalls-is row place x h e =
-    ap after_of e
-    ∙ ap₂ (λ (d : Device) (a : Answer _). record { row = with_device row place d; reply = outcome a })
-    h.state h.outcome
+pub befalls-at : (row : Row) (place c v : ℕ) {d d' : Device} {u : Result (Unit {0}) Refusal}
+    → d ≡ device_at row place → Changes (happens d c v) d u d'
+    → after_of (record { devices = set row.devices place d'; count = row.count }) (code.Outcome u)
+    ≡ befalls row place (happens (device_at row place) c v)
+unfolding befalls reply_of with_device
+befalls-at row place c v {d' = d'} {u} e h =
+    let w : Changes (happens (device_at row place) c v) (device_at row place) u d' = rw e at h in
+    ap₂ (λ (d : Device) (a : Answer _). record { row = with_device row place d; reply = outcome a }) w.state w.outcome
 
--- the same of the device that stood at the place
-pub tells_at : (row : Row) (place c : ℕ) (os : List ℕ) (n : ℕ) {d : Device} {o o' : List ℕ} {j : Judged} {r : Obeyed}
-    → d ≡ device_at row place → Judges (listens c d os n) d o j o'
-    → r ≡ put_back row place j.device (code.Said j.said)
-    → Obeys (tells row place (listens c (device_at row place) os n) o) r o'
-tells_at row place c os n e h p = tells_is row place (listens c (device_at row place) os n) (rw e at h) p
-
-pub befalls-at : (row : Row) (place c v : ℕ) {d d' : Device} {u : Result (Unit {0}) Refusal} {r : Obeyed}
-    → d ≡ device_at row place → Changes (happens d c v) d u d' → r ≡ put_back row place d' (code.Outcome u)
-    → after_of r ≡ befalls row place (happens (device_at row place) c v)
-befalls-at row place c v e h p = befalls-is row place (happens (device_at row place) c v) (rw e at h) p
-
-pub limit-at : (row : Row) (place : ℕ) {d : Device} {n : ℕ} → d ≡ device_at row place → n ≡ limit_of d
-    → row saying limit n ≡ tells_limit row place
+pub limit-at : (row : Row) (place : ℕ) {d : Device} → d ≡ device_at row place
+    → row saying limit (limit_of d) ≡ tells_limit row place
 unfolding tells_limit
-limit-at row place e f = ap (λ (n : ℕ). row saying limit n) (f ∙ ap limit_of e)
+limit-at row place e = ap (λ (d : Device). row saying limit (limit_of d)) e
 
 -- an alarm that is a value is an octet
 pub alarm-octet : (c v : ℕ) → is_value c v ≡ true → (c ≡ command.stopped → ⊥) → v < 256
@@ -163,7 +150,8 @@ module _ (row : Row) where
 
 -- ---- which way
 
-pub obeys-by : {x y : Came} {r : Obeyed} {o' : List ℕ} → x ≡ y → Obeys x r o' → Obeys y r o'
+pub obeys-by : {x y : Came} {w : Row} {r : the-response.Response} {o' : List ℕ} → x ≡ y → Obeys x w r o'
+    → Obeys y w r o'
 obeys-by e h = record { after = h.after ∙ ap after e; lent = h.lent ∙ ap lent e }
   where
     after : Came → After
@@ -188,8 +176,8 @@ module _ (c : ℕ) (row : Row) (os o : List ℕ) where
     drives-limit h =
         rw (lt-leb c command.hear (omega arith), ne_eqb c command.show (λ e. omega arith), eq-eqb c command.limit h)
 
-    pub limit-obeys : {r : Obeyed} → c ≡ command.limit → after_of r ≡ tells_limit row place
-        → Obeys (drives c row place v os o) r o
+    pub limit-obeys : {r : the-response.Response} → c ≡ command.limit → after_of row r ≡ tells_limit row place
+        → Obeys (drives c row place v os o) row r o
     limit-obeys h a = obeys-by (drives-limit h) (record { after = a; lent = refl })
 
     module _ (h : command.hear < c) (n : c ≡ command.show → ⊥) (m : c ≡ command.limit → ⊥) where
@@ -197,8 +185,9 @@ module _ (c : ℕ) (row : Row) (os o : List ℕ) where
       unfolding drives
       drives-event = rw (lt-leb c command.hear h, ne_eqb c command.show n, ne_eqb c command.limit m)
 
-      pub event-obeys : {r : Obeyed} → after_of r ≡ befalls row place (happens (device_at row place) c v)
-          → Obeys (drives c row place v os o) r o
+      pub event-obeys : {w : Row} {r : the-response.Response}
+          → after_of w r ≡ befalls row place (happens (device_at row place) c v)
+          → Obeys (drives c row place v os o) w r o
       event-obeys a = obeys-by drives-event (record { after = a; lent = refl })
 
   module _ (k v : ℕ) {b : Bool} (e : b ≡ is_device row.count k) where
@@ -221,7 +210,7 @@ module _ (c : ℕ) (row : Row) (os o : List ℕ) where
       obeyed-adds h = let y : for_device c ≡ false = sym e ∙ t in rw (y, eq-eqb c command.device h)
 
       pub obeys-none : (c ≡ command.device → ⊥)
-          → Obeys (obeyed c row v os o) (record { row = row; answer = code.NoCommand }) o
+          → Obeys (obeyed c row v os o) row code.NoCommand o
       unfolding obeyed reply_of
       obeys-none n =
           let y : for_device c ≡ false = sym e ∙ t in

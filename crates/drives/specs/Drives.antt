@@ -14,7 +14,8 @@
 --   for_device c        == the command c is for one device
 --   obeyed c row v os o == the command c with the values v and the octets os, and the lent output o
 --   reply_of x          == the answer that the code's answer x is
---   Obeys right r o'    == the code's result r, and the lent output o' after it, are what is right
+--   after_of row' r     == the row row' after a command, and the code's answer r
+--   Obeys right row' r o' == the row row' after it, the code's answer r and the lent output o' are what is right
 -- Assumes nothing.
 use Rattle.std.specs.Prelude.{◌≡◌, Bool, cond, not, ◌&&◌, ◌||◌, List, [], ◌∷◌, ℕ, ◌+◌, ◌-◌, ltb, leb, eqb, length, get_or, set}
 use Rattle.std.proofs.Math.Option.{Option}
@@ -35,7 +36,6 @@ use Rattle.octets.specs.Octets.{part_of}
 use Rattle.script.specs.Commands as command
 use Rattle.drives.specs.declared.Response as the-response
 use Rattle.drives.specs.declared.Response.TheVariants as code
-use Rattle.drives.specs.declared.Obeyed.{Obeyed}
 
 infix 40 ◌saying◌ ◌leaving◌
 -- ---- answers
@@ -188,9 +188,9 @@ reply_of (code.Said x) = answer (said_of x)
 reply_of (code.State place) = state place
 reply_of (code.Limit n) = limit n
 
-abbrev pub after_of : Obeyed → After
-after_of r = r.row saying reply_of r.answer
+abbrev pub after_of : Row → the-response.Response → After
+after_of row' r = row' saying reply_of r
 
-pub record Obeys (right : Came) (r : Obeyed) (o' : List ℕ) : Type 0 where
-  pub after : after_of r ≡ right.after
+pub record Obeys (right : Came) (row' : Row) (r : the-response.Response) (o' : List ℕ) : Type 0 where
+  pub after : after_of row' r ≡ right.after
   pub lent : o' ≡ right.lent

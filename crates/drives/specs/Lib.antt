@@ -1,3 +1,2 @@
 -- What a command to the bench's row of drives does.
 pub mod Drives
-pub mod Steps

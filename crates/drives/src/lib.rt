@@ -4,20 +4,17 @@
 // caller: a number that is no device, no command, no tilt or no alarm has its answer.
 #![tactic(auto)]
 
-ghost use Rattle.std.specs.Prelude.{◌≡◌, true, ◌<◌, length, get_or};
+ghost use Rattle.std.specs.Prelude.{◌≡◌, true, ◌<◌, length};
 ghost use Rattle.refusal.specs.Answer.{Changes};
-ghost use Rattle.record.specs.Allowed.{limit_of};
 ghost use Rattle.record.specs.Fresh.{blank_device};
 ghost use Rattle.device.specs.Judge.{Judges};
 ghost use Rattle.bus.specs.Cable.{row_most};
 ghost use Rattle.drives.specs.Drives.{Obeys, after_of, is_tilt, tilt_of, are_tilts, fresh_with, added, adds};
 ghost use Rattle.drives.specs.Drives.{is_device, device_at, listens, tells, is_value, event_of, happens, befalls};
 ghost use Rattle.drives.specs.Drives.{tells_limit, to_device, for_device, obeyed};
-ghost use Rattle.drives.specs.Steps.{put_back};
 
 use antenna::Angle;
 use bus::{MOST, Row};
-use device::{Judged, Said};
 use record::{Changed, Device, Event, Span};
 use refusal::Refusal;
 
@@ -33,16 +30,9 @@ pub enum Response {
     Full,
     Device(usize),
     Outcome(Result<(), Refusal>),
-    Said(Said),
+    Said(Result<Option<usize>, Refusal>),
     State(usize),
     Limit(usize),
-}
-
-// The row after a command, and the answer to it.
-#[derive(Clone, Copy)]
-pub struct Obeyed {
-    pub row: Row,
-    pub answer: Response,
 }
 
 // ---- words
@@ -94,46 +84,31 @@ fn are_tilts(values: Values) -> bool
 }
 
 // A refused device takes no number.
-fn make(row: Row, values: Values, octets: &[u8]) -> Obeyed
-    requires { row.count < row_most }
-    ensures { after_of result ≡ added row (fresh_with values octets.now) }
+fn make(row: &mut Row, values: Values, octets: &[u8]) -> Response
+    requires { row.old.count < row_most }
+    ensures { after_of row.new result ≡ added row.old (fresh_with values octets.now) }
 {
-    let count = row.count;
     let made = fresh(values, octets);
     let outcome = made.outcome;
     if let Err(_) = outcome {
-        return Obeyed {
-            row,
-            answer: Response::Outcome(outcome),
-        };
+        return Response::Outcome(outcome);
     }
-    let device = made.device;
-    let mut next = row;
-    next.devices[count] = device;
-    next.count = count + 1;
-    Obeyed {
-        row: next,
-        answer: Response::Device(count + 1),
-    }
+    row.devices[row.count] = made.device;
+    row.count += 1;
+    Response::Device(row.count)
 }
 
 // A 33rd device is not looked at.
-fn add(row: Row, values: Values, octets: &[u8]) -> Obeyed
-    ensures { after_of result ≡ adds row values octets.now }
+fn add(row: &mut Row, values: Values, octets: &[u8]) -> Response
+    ensures { after_of row.new result ≡ adds row.old values octets.now }
 {
     if MOST <= row.count {
-        return Obeyed {
-            row,
-            answer: Response::Full,
-        };
+        return Response::Full;
     }
     if are_tilts(values) {
         return make(row, values, octets);
     }
-    Obeyed {
-        row,
-        answer: Response::Outcome(Err(Refusal::NotAllowed)),
-    }
+    Response::Outcome(Err(Refusal::NotAllowed))
 }
 
 // ---- the commands to a device
@@ -151,27 +126,15 @@ fn is_device(count: usize, k: usize) -> bool
     k <= count
 }
 
-fn device_at(devices: [Device; MOST], place: usize) -> Device
-    requires { place < row_most }
-    ensures { result ≡ get_or devices place blank_device }
-{
-    devices[place]
-}
-
-// The device goes back to its place.
-fn put_back(row: Row, place: usize, device: Device, answer: Response) -> Obeyed
-    requires { place < row_most }
-    ensures { result ≡ put_back row place device answer }
-{
-    let mut next = row;
-    next.devices[place] = device;
-    Obeyed { row: next, answer }
-}
-
 // `frame`: decoded octets; else `hear`: octets as they come from the line.
-fn listen(device: Device, command: usize, octets: &[u8], lent: &mut [u8]) -> Judged
-    ensures { Judges (listens command device octets.now (length lent.old)) device
-        lent.old result lent.new }
+fn listen(
+    device: &mut Device,
+    command: usize,
+    octets: &[u8],
+    lent: &mut [u8],
+) -> Result<Option<usize>, Refusal>
+    ensures { Judges (listens command device.old octets.now (length lent.old)) device.old lent.old
+        result device.new lent.new }
 {
     if command == script::FRAME {
         return device::judge(device, octets, lent);
@@ -179,16 +142,12 @@ fn listen(device: Device, command: usize, octets: &[u8], lent: &mut [u8]) -> Jud
     device::hear(device, octets, lent)
 }
 
-fn deliver(row: Row, place: usize, command: usize, octets: &[u8], lent: &mut [u8]) -> Obeyed
+fn deliver(row: &mut Row, place: usize, command: usize, octets: &[u8], lent: &mut [u8]) -> Response
     requires { place < row_most }
-    ensures { Obeys (tells row place (listens command (device_at row place) octets.now
-        (length lent.old)) lent.old) result lent.new }
+    ensures { Obeys (tells row.old place (listens command (device_at row.old place) octets.now
+        (length lent.old)) lent.old) row.new result lent.new }
 {
-    let devices = row.devices;
-    let judged = listen(device_at(devices, place), command, octets, lent);
-    let said = judged.said;
-    let device = judged.device;
-    put_back(row, place, device, Response::Said(said))
+    Response::Said(listen(&mut row.devices[place], command, octets, lent))
 }
 
 // Whether an event has such a value: `stopped` a tilt, `raise` and `clear` an alarm.
@@ -215,87 +174,58 @@ fn event_of(command: usize, value: usize) -> Event
 }
 
 // An event of a value that is none can't be.
-fn happen(device: Device, command: usize, value: usize) -> Changed
-    ensures { Changes (happens device command value) device result.outcome result.device }
+fn happen(device: &mut Device, command: usize, value: usize) -> Result<(), Refusal>
+    ensures { Changes (happens device.old command value) device.old result device.new }
 {
     if is_value(command, value) {
         return event::happen(device, event_of(command, value));
     }
-    if record::allowed(device) {
-        return Changed {
-            outcome: Err(Refusal::CannotBe),
-            device,
-        };
+    if record::allowed(*device) {
+        return Err(Refusal::CannotBe);
     }
-    Changed {
-        outcome: Err(Refusal::NotAllowed),
-        device,
-    }
+    Err(Refusal::NotAllowed)
 }
 
-fn befall(row: Row, place: usize, command: usize, value: usize) -> Obeyed
+fn befall(row: &mut Row, place: usize, command: usize, value: usize) -> Response
     requires { place < row_most }
-    ensures { after_of result ≡ befalls row place (happens (device_at row place) command value) }
+    ensures { after_of row.new result ≡ befalls row.old place (happens (device_at row.old place) command value) }
 {
-    let devices = row.devices;
-    let changed = happen(device_at(devices, place), command, value);
-    let outcome = changed.outcome;
-    let device = changed.device;
-    put_back(row, place, device, Response::Outcome(outcome))
-}
-
-fn limit_of(device: Device) -> usize
-    ensures { result ≡ limit_of device }
-{
-    let station = device.station;
-    let desk = station.desk;
-    desk.limit
+    Response::Outcome(happen(&mut row.devices[place], command, value))
 }
 
 // `limit`: the device stays as it is, and so does the row.
-fn tell_limit(row: Row, place: usize) -> Obeyed
+fn tell_limit(row: &Row, place: usize) -> Response
     requires { place < row_most }
-    ensures { after_of result ≡ tells_limit row place }
+    ensures { after_of row.now result ≡ tells_limit row.now place }
 {
-    let devices = row.devices;
-    let limit = limit_of(device_at(devices, place));
-    Obeyed {
-        row,
-        answer: Response::Limit(limit),
-    }
+    Response::Limit(row.devices[place].station.desk.limit)
 }
 
 // `frame` and `hear`, `show`, `limit`, else an event. The words of a command to a device: K, and the value of an event.
 fn to_device(
-    row: Row,
+    row: &mut Row,
     command: usize,
     k: usize,
     value: usize,
     octets: &[u8],
     lent: &mut [u8],
-) -> Obeyed
-    ensures { Obeys (to_device command row k value octets.now lent.old) result
-        lent.new }
+) -> Response
+    ensures { Obeys (to_device command row.old k value octets.now
+        lent.old) row.new result lent.new }
 {
-    if is_device(row.count, k) {
-        if command <= script::HEAR {
-            return deliver(row, k - 1, command, octets, lent);
-        }
-        if command == script::SHOW {
-            return Obeyed {
-                row,
-                answer: Response::State(k - 1),
-            };
-        }
-        if command == script::LIMIT {
-            return tell_limit(row, k - 1);
-        }
-        return befall(row, k - 1, command, value);
+    if !is_device(row.count, k) {
+        return Response::NoDevice;
     }
-    Obeyed {
-        row,
-        answer: Response::NoDevice,
+    if command <= script::HEAR {
+        return deliver(row, k - 1, command, octets, lent);
     }
+    if command == script::SHOW {
+        return Response::State(k - 1);
+    }
+    if command == script::LIMIT {
+        return tell_limit(row, k - 1);
+    }
+    befall(row, k - 1, command, value)
 }
 
 // The commands to a device stand first among the names, but for `limit`.
@@ -308,10 +238,16 @@ fn is_for_device(command: usize) -> bool
     command == script::LIMIT
 }
 
-// The commands to a device, and `device`; no other is for the row.
-pub fn obey(row: Row, command: usize, values: Values, octets: &[u8], lent: &mut [u8]) -> Obeyed
-    ensures { Obeys (obeyed command row values octets.now lent.old)
-        result lent.new }
+// The commands to a device, and `device`; no other is for the row. Where the answer is a "no", the row is as it was.
+pub fn obey(
+    row: &mut Row,
+    command: usize,
+    values: Values,
+    octets: &[u8],
+    lent: &mut [u8],
+) -> Response
+    ensures { Obeys (obeyed command row.old values octets.now lent.old)
+        row.new result lent.new }
 {
     if is_for_device(command) {
         return to_device(row, command, values[1], values[2], octets, lent);
@@ -319,8 +255,5 @@ pub fn obey(row: Row, command: usize, values: Values, octets: &[u8], lent: &mut 
     if command == script::DEVICE {
         return add(row, values, octets);
     }
-    Obeyed {
-        row,
-        answer: Response::NoCommand,
-    }
+    Response::NoCommand
 }

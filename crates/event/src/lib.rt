@@ -7,21 +7,13 @@
 
 ghost use Rattle.std.specs.Prelude.{◌≡◌};
 ghost use Rattle.refusal.specs.Answer.{Changes};
-ghost use Rattle.antenna.specs.Angles.{same_as};
 ghost use Rattle.antenna.specs.Motions.{runs};
 ghost use Rattle.antenna.specs.Events.{rested_of, stopped_at, alarmed_of};
 ghost use Rattle.record.specs.Changes.{antenna_happened, happened};
 
 use antenna::{Angle, Antenna, Motion};
-use record::{Changed, Device, Event};
+use record::{Device, Event};
 use refusal::Refusal;
-
-// An antenna after an event.
-#[derive(Clone, Copy)]
-struct Befallen {
-    outcome: Result<(), Refusal>,
-    antenna: Antenna,
-}
 
 // ---- the motor
 
@@ -37,18 +29,7 @@ fn is_running(motion: Motion) -> bool
     }
 }
 
-// "Success exactly if t is the tilt asked": each is at most the other.
-fn same(a: Angle, b: Angle) -> bool
-    ensures { result ≡ same_as a b }
-{
-    if aim::at_most(a, b) {
-        aim::at_most(b, a)
-    } else {
-        false
-    }
-}
-
-// The motion after a stop at `t`.
+// The motion after a stop at `t`: success exactly if t is the tilt asked.
 fn rested(motion: Motion, t: Angle) -> Motion
     ensures { result ≡ rested_of motion t }
 {
@@ -56,66 +37,42 @@ fn rested(motion: Motion, t: Angle) -> Motion
         Motion::Still => Motion::Still,
         Motion::Moving => Motion::Still,
         Motion::Owing { asked } => Motion::Stopped {
-            reached: same(asked, t),
+            reached: asked.tenths == t.tenths,
         },
         Motion::Stopped { reached } => Motion::Stopped { reached },
     }
 }
 
 // The motor stopped at `t`.
-fn stopped(antenna: Antenna, t: Angle) -> Befallen
-    ensures { Changes (stopped_at antenna t) antenna result.outcome result.antenna }
+fn stopped(antenna: &mut Antenna, t: Angle) -> Result<(), Refusal>
+    ensures { Changes (stopped_at antenna.old t) antenna.old result antenna.new }
 {
-    let motion = antenna.motion;
-    if is_running(motion) {
-        if aim::in_range(antenna, t) {
-            let mut drive = antenna.drive;
-            drive.tilt = t;
-            let antenna = Antenna {
-                motion: rested(motion, t),
-                drive,
-            };
-            return Befallen {
-                outcome: Ok(()),
-                antenna,
-            };
-        }
+    if !is_running(antenna.motion) || !aim::in_range(*antenna, t) {
+        return Err(Refusal::CannotBe);
     }
-    Befallen {
-        outcome: Err(Refusal::CannotBe),
-        antenna,
-    }
+    antenna.motion = rested(antenna.motion, t);
+    antenna.drive.tilt = t;
+    Ok(())
 }
 
 // ---- an alarm
 
 // An alarm rises (`on`) or falls.
-fn alarmed(antenna: Antenna, code: u8, on: bool) -> Befallen
-    ensures { Changes (alarmed_of antenna code on) antenna result.outcome result.antenna }
+fn alarmed(antenna: &mut Antenna, code: u8, on: bool) -> Result<(), Refusal>
+    ensures { Changes (alarmed_of antenna.old code on) antenna.old result antenna.new }
 {
-    let codes = antenna::CODES;
-    let place = octets::find(code, &codes);
-    if place < 6 {
-        let motion = antenna.motion;
-        let mut drive = antenna.drive;
-        let mut raised = drive.raised;
-        raised.flags[place] = on;
-        drive.raised = raised;
-        return Befallen {
-            outcome: Ok(()),
-            antenna: Antenna { motion, drive },
-        };
+    let place = octets::find(code, &antenna::CODES);
+    if 6 <= place {
+        return Err(Refusal::CannotBe);
     }
-    Befallen {
-        outcome: Err(Refusal::CannotBe),
-        antenna,
-    }
+    antenna.drive.raised.flags[place] = on;
+    Ok(())
 }
 
 // ---- any of them
 
-fn antenna_after(antenna: Antenna, event: Event) -> Befallen
-    ensures { Changes (antenna_happened antenna event) antenna result.outcome result.antenna }
+fn antenna_after(antenna: &mut Antenna, event: Event) -> Result<(), Refusal>
+    ensures { Changes (antenna_happened antenna.old event) antenna.old result antenna.new }
 {
     match event {
         Event::Stopped(t) => stopped(antenna, t),
@@ -124,28 +81,12 @@ fn antenna_after(antenna: Antenna, event: Event) -> Befallen
     }
 }
 
-// An event happens to a device.
-pub fn happen(device: Device, event: Event) -> Changed
-    ensures { Changes (happened device event) device result.outcome result.device }
+// An event happens to a device; where it is refused, the device is as it was.
+pub fn happen(device: &mut Device, event: Event) -> Result<(), Refusal>
+    ensures { Changes (happened device.old event) device.old result device.new }
 {
-    if record::allowed(device) {
-        let plate = device.plate;
-        let station = device.station;
-        let antenna = device.antenna;
-        let changed = antenna_after(antenna, event);
-        let outcome = changed.outcome;
-        let antenna = changed.antenna;
-        return Changed {
-            outcome,
-            device: Device {
-                plate,
-                station,
-                antenna,
-            },
-        };
+    if !record::allowed(*device) {
+        return Err(Refusal::NotAllowed);
     }
-    Changed {
-        outcome: Err(Refusal::NotAllowed),
-        device,
-    }
+    antenna_after(&mut device.antenna, event)
 }

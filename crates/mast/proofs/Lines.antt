@@ -1,9 +1,10 @@
 -- One line: the octets of the next probe as they are handed out, what lies between the flags, and what a device that
 -- hears it says. Assumes nothing.
-use Rattle.std.proofs.Common.{Result, Ok, Err}
+use Rattle.std.proofs.Common.{Result, Ok, Err, Some, None}
+use Rattle.std.specs.Result.{result_unwrap_or}
 use Rattle.refusal.specs.declared.Refusal.{Refusal}
 use mathlib.Core.Path.{◌≡◌, refl, sym, ap, ◌∙◌}
-use mathlib.Core.Bool.{Bool, true, false, ◌||◌}
+use mathlib.Core.Bool.{Bool, true, false}
 use mathlib.Core.List.{List, [], ◌∷◌, append-nil}
 use mathlib.Core.Option.{Option, none, some}
 use Prim.Native.Nat.{ℕ, zero, suc, ◌-◌, ◌≤◌, ◌<◌, min}
@@ -17,40 +18,41 @@ use Rattle.limits.specs.Limits.{limit_least, limit_most, frame_most, line_most}
 use Rattle.frame.specs.Line.{inside}
 use Rattle.frame.specs.Write.{written}
 use Rattle.record.specs.declared.Device.{Device}
-use Rattle.device.specs.declared.Said.{Said}
-use Rattle.device.specs.declared.Judged.{Judged}
-use Rattle.device.specs.Judge.{Reaction, heard, said_of, size_of, told_of, device_after, Judges}
+use Rattle.device.specs.Judge.{Reaction, heard, Said, said_of, size_of, told_of, device_after, Judges}
 use Rattle.device.proofs.Only.{none-not-some}
 use Rattle.scan.specs.declared.Scan.{Scan}
 use Rattle.scan.specs.Record.{beginning_of}
 use Rattle.scan.specs.Scan.{probe_length, probe_of, over, probed}
 use Rattle.scan.proofs.Probes.{length-probe, probed-over, probed-open}
 use Rattle.bus.specs.Cable.{octets_given, line_with, line_for, hears, is_frame, with_frame}
-use Rattle.mast.specs.Steps.{line_in, size_in, given_in, frame_in, is_handed_out, Probing, Listens}
+use Rattle.mast.specs.Steps.{line_in, frame_in, is_handed_out, Probing, Listens}
 use Rattle.mast.specs.declared.Written.{Written}
 
 -- ---- the line of the probe that is next
 
 module _ {o o' : List ℕ} where
   -- so many octets of the output are what was given; none where it was refused
-  handed-line : (x : Answer (List ℕ)) (r : Result ℕ Refusal) → Hands x o r o' → take (size_in r) o' ≡ octets_given x
+  handed-line : (x : Answer (List ℕ)) (r : Result ℕ Refusal) → Hands x o r o' → take (result_unwrap_or r 0) o' ≡ octets_given x
   unfolding octets_given answer_of counted
   handed-line (gives b) (Ok n) h = gives_same (sym (octets-told (gives b) h).0)
   handed-line (gives b) (Err k) h = absurd (gives-not-refuses (sym h.answer))
   handed-line (refuses j) (Ok n) h = absurd (gives-not-refuses h.answer)
   handed-line (refuses j) (Err k) h = refl
 
-  handed-given : (x : Answer (List ℕ)) (r : Result ℕ Refusal) → Hands x o r o' → given_in r ≡ is_handed_out x
+  handed-given : (x : Answer (List ℕ)) {n : ℕ} → Hands x o (Ok n) o' → true ≡ is_handed_out x
   unfolding is_handed_out answer_of counted
-  handed-given (gives b) (Ok n) h = refl
-  handed-given (gives b) (Err k) h = absurd (gives-not-refuses (sym h.answer))
-  handed-given (refuses j) (Ok n) h = absurd (gives-not-refuses h.answer)
-  handed-given (refuses j) (Err k) h = refl
+  handed-given (gives b) h = refl
+  handed-given (refuses j) h = absurd (gives-not-refuses h.answer)
+
+  handed-none : (x : Answer (List ℕ)) {k : Refusal} → Hands x o (Err k) o' → false ≡ is_handed_out x
+  unfolding is_handed_out answer_of counted
+  handed-none (gives b) h = absurd (gives-not-refuses (sym h.answer))
+  handed-none (refuses j) h = refl
 
 -- a probe is written from its first octet, its second and the rest
 pub probe-line : (f : List ℕ) (m : ℕ) {o o' : List ℕ} {r : Result ℕ Refusal} {n : ℕ} → length f ≤ m
     → Hands (written limit_least (get_or f 0 0) (get_or f 1 0) (take (m - 2) (drop 2 f)) (line_most limit_least)) o r o'
-    → n ≡ size_in r
+    → n ≡ result_unwrap_or r 0
     → take n o' ≡ line_for f
 unfolding line_with
 probe-line f m {o' = o'} {r = r} long h e =
@@ -80,14 +82,21 @@ given-fills s f {o} n h e =
     h.octets ∙ ap (λ (x : Answer (List ℕ)). out_after x o) e
     ∙ rw (drop_of_length-le o {i = length f} (omega arith), append-nil f)
 
-pub asks-is : (s : Scan) {o o' : List ℕ} {r : Result ℕ Refusal} {w : Written} {b : Bool} → length o ≡ probe_length
-    → Hands (probed s probe_length) o r o' → line_in w ≡ line_for o' → b ≡ given_in r
-    → Probing (probed s probe_length) (record { asks = b; line = w })
-asks-is s {r = r} n h l e =
+pub asks-line : (s : Scan) {o o' : List ℕ} {r : Result ℕ Refusal} {n : ℕ} {w : Written} → length o ≡ probe_length
+    → Hands (probed s probe_length) o r o' → r ≡ Ok n → line_in w ≡ line_for o'
+    → Probing (probed s probe_length) (Some w)
+asks-line s {r = r} {n} {w} size h e l =
     record {
-      asks = e ∙ handed-given (probed s probe_length) r h;
-      line = λ f g. l ∙ ap line_for (given-fills s f n h g);
+      asks = handed-given (probed s probe_length) {n = n} (rw e at h);
+      line = λ f v g q.
+          let same : v ≡ w = cc in
+          rw same (l ∙ ap line_for (given-fills s f size h g));
     }
+
+pub asks-none : (s : Scan) {o o' : List ℕ} {r : Result ℕ Refusal} {k : Refusal} → Hands (probed s probe_length) o r o'
+    → r ≡ Err k → Probing (probed s probe_length) None
+asks-none s {k = k} h e =
+    record { asks = handed-none (probed s probe_length) {k = k} (rw e at h); line = λ f w g q. absurd (cc) }
 
 -- ---- what lies between the flags
 
@@ -111,28 +120,26 @@ module _ (s : List ℕ) (n : ℕ) where
 
 said-frame : (x : Answer Reaction) (s : Said) → said_of s ≡ told_of x → frame_in s ≡ with_frame x
 unfolding said_of told_of with_frame size_of is_frame
-said-frame (refuses j) Said.Silence e = refl
-said-frame (refuses j) (Said.Frame n) e = absurd (gives-not-refuses e)
-said-frame (refuses j) (Said.Refused k) e = refl
+said-frame (refuses j) (Ok None) e = refl
+said-frame (refuses j) (Ok (Some n)) e = absurd (gives-not-refuses e)
+said-frame (refuses j) (Err k) e = refl
 said-frame (gives x) s e = go x.frame s e
   where
     go : (f : Option (List ℕ)) (s : Said) → said_of s ≡ gives (size_of f) → frame_in s ≡ is_frame f
-    go none Said.Silence e = refl
-    go none (Said.Frame n) e = absurd (none-not-some (sym (gives_same e)))
-    go none (Said.Refused k) e = absurd (gives-not-refuses (sym e))
-    go (some f) Said.Silence e = absurd (none-not-some (gives_same e))
-    go (some f) (Said.Frame n) e = refl
-    go (some f) (Said.Refused k) e = absurd (gives-not-refuses (sym e))
+    go none (Ok None) e = refl
+    go none (Ok (Some n)) e = absurd (none-not-some (sym (gives_same e)))
+    go none (Err k) e = absurd (gives-not-refuses (sym e))
+    go (some f) (Ok None) e = absurd (none-not-some (gives_same e))
+    go (some f) (Ok (Some n)) e = refl
+    go (some f) (Err k) e = absurd (gives-not-refuses (sym e))
 
-pub listens-is : (d : Device) (l : List ℕ) {x o o' : List ℕ} {j : Judged} {before b : Bool}
-    → Judges (heard d x (frame_most limit_most)) d o j o' → x ≡ inside l → b ≡ (frame_in j.said || before)
-    → Listens d l before (record { heard = b; device = j.device })
+pub listens-is : (d : Device) (l : List ℕ) {x o o' : List ℕ} {j : Said} {d' : Device} {b : Bool}
+    → Judges (heard d x (frame_most limit_most)) d o j d' o' → x ≡ inside l → b ≡ frame_in j
+    → Listens d l b d'
 unfolding hears
-listens-is d l {x} {j = j} {before = before} h e f =
+listens-is d l {x} {j = j} h e f =
     let same : heard d x (frame_most limit_most) ≡ hears d l = ap (λ (s : List ℕ). heard d s (frame_most limit_most)) e in
     record {
-      heard =
-          f ∙ ap (λ (t : Bool). t || before)
-          (said-frame (heard d x (frame_most limit_most)) j.said h.said ∙ ap with_frame same);
+      heard = f ∙ said-frame (heard d x (frame_most limit_most)) j h.said ∙ ap with_frame same;
       device = h.device ∙ ap (λ (a : Answer Reaction). device_after a d) same;
     }

@@ -1,4 +1,5 @@
 -- A line goes to every device on the cable, the last first; and one probe after the other. Assumes nothing.
+use Rattle.std.specs.Prelude.{Some, None, Option, is_some}
 use mathlib.Core.Path.{◌≡◌, refl, sym, ap, ap₂, ◌∙◌}
 use mathlib.Core.Bool.{Bool, true, false, ◌||◌, or-false, true≢false, false≢true}
 use mathlib.Core.List.{List, [], ◌∷◌, ◌++◌}
@@ -15,11 +16,9 @@ use Rattle.scan.specs.declared.Scan.{Scan}
 use Rattle.scan.specs.Scan.{probe_length, fresh, probed, reported}
 use Rattle.bus.specs.Cable.{row_most, line_for, replies_to, after_line, any_replies, all_after}
 use Rattle.bus.specs.Scanning.{Bus, one_probe_by, one_probe, probes_asked, scanned}
-use Rattle.mast.specs.Mast.{on_cable, with_devices, swept_by, swept}
+use Rattle.mast.specs.Mast.{on_cable, off_cable, with_devices, swept_by, swept}
 use Rattle.mast.specs.Steps.{line_in, is_handed_out, Probing, Listens, Sends}
-use Rattle.mast.specs.declared.Asked.{Asked}
-use Rattle.mast.specs.declared.Listened.{Listened}
-use Rattle.mast.specs.declared.Heard.{Heard}
+use Rattle.mast.specs.declared.Written.{Written}
 use Rattle.bus.specs.declared.Row.{Row}
 
 -- ---- a line goes to every device
@@ -90,22 +89,22 @@ module _ (l : List ℕ) (z : Device) where
       go false a c e f = f
 
   -- the last of those that are left hears the line
-  pub sending-one : {ds ds₀ : List Device} {j k n : ℕ} {b : Bool} {r : Listened} → j ≡ k + 1
-      → Sending l ds j b ds₀ n → Listens (get_or ds k z) l b r
-      → Sending l (set ds k r.device) k r.heard ds₀ n
-  sending-one {ds} {j = j} {k} {b = b} {r = r} e s h =
+  pub sending-one : {ds ds₀ : List Device} {j k n : ℕ} {b h b' : Bool} {d' : Device} → j ≡ k + 1
+      → Sending l ds j b ds₀ n → Listens (get_or ds k z) l h d' → b' ≡ (h || b)
+      → Sending l (set ds k d') k b' ds₀ n
+  sending-one {ds} {j = j} {k} {b = b} {h} {d' = d'} e s w q =
       let inside : k < length ds = omega (arith, s.size, s.most) in
       let m : j ≡ suc k = e ∙ add-one k in
       record {
-        size = length-set ds k r.device ∙ s.size;
+        size = length-set ds k d' ∙ s.size;
         most = omega (arith, s.most);
         heard =
-            ap (λ (t : Bool). any_replies (take k (set ds k r.device)) l || t) h.heard
-            ∙ one-heard k ds b r.device inside
+            ap (λ (t : Bool). any_replies (take k (set ds k d')) l || t) (q ∙ ap (λ (t : Bool). t || b) w.heard)
+            ∙ one-heard k ds b d' inside
             ∙ ap (λ (i : ℕ). any_replies (take i ds) l || b) (sym m)
             ∙ s.heard;
         devices =
-            ap (λ (x : Device). all_after (take k (set ds k x)) l ++ drop k (set ds k x)) h.device
+            ap (λ (x : Device). all_after (take k (set ds k x)) l ++ drop k (set ds k x)) w.device
             ∙ one-devices k ds inside
             ∙ ap (λ (i : ℕ). all_after (take i ds) l ++ drop i ds) (sym m)
             ∙ s.devices;
@@ -113,20 +112,21 @@ module _ (l : List ℕ) (z : Device) where
 
 -- none is left
 pub sending-none : (l : List ℕ) {ds ds₀ : List Device} {k n : ℕ} {b : Bool} → k ≡ 0 → Sending l ds k b ds₀ n
-    → Sends ds₀ n l (record { heard = b; devices = ds })
+    → Sends ds₀ n l b ds
 unfolding any_replies all_after
 sending-none l e s = record { heard = rw e at s.heard; devices = rw e at s.devices }
 
 -- ---- one probe after the other
 
--- the bus of the scan s, and the devices ds in the places of the row
-abbrev now : Row → Scan → List Device → Bus
-now row s ds = record { scan = s; devices = take row.count ds }
+-- the bus of the scan s, and the devices on the cable of the row
+abbrev now : Row → Scan → Bus
+now row s = record { scan = s; devices = on_cable row }
 
--- n probes are left, with the scan s and the devices ds; with the row, the limit's number of them was
-pub record Sweeping (n : ℕ) (s : Scan) (ds : List Device) (row : Row) (limit : ℕ) : Type 0 where
-  pub ahead : probes_asked n (now row s ds) ≡ scanned limit (on_cable row)
-  pub behind : drop row.count ds ≡ drop row.count row.devices
+-- n probes are left, with the scan s and the row r; with the first row, the limit's number of them was
+pub record Sweeping (n : ℕ) (s : Scan) (r row : Row) (limit : ℕ) : Type 0 where
+  pub count : r.count ≡ row.count
+  pub ahead : probes_asked n (now r s) ≡ scanned limit (on_cable row)
+  pub behind : off_cable r ≡ off_cable row
 
 -- what is on the cable after a line, and what is behind it
 cable-after : (n : ℕ) (ds : List Device) (l : List ℕ)
@@ -138,9 +138,10 @@ cable-after (suc n) [] l = (refl, refl)
 cable-after (suc n) (d ∷ ds) l =
     let (t, u) = cable-after n ds l in (ap (λ (es : List Device). after_line d l ∷ es) t, u)
 
-pub sweeping-all : (row : Row) (limit : ℕ) {s : Scan} → s ≡ fresh limit → Sweeping limit s row.devices row limit
+pub sweeping-all : (row : Row) (limit : ℕ) {n : ℕ} {s : Scan} → n ≡ limit → s ≡ fresh limit
+    → Sweeping n s row row limit
 unfolding scanned
-sweeping-all row limit e = record { ahead = rw e; behind = refl }
+sweeping-all row limit e f = record { count = refl; ahead = rw (e, f); behind = refl }
 
 -- a scan that asks no more stays
 stays : (n : ℕ) (b : Bus) → is_handed_out (probed b.scan probe_length) ≡ false → probes_asked n b ≡ b
@@ -152,56 +153,61 @@ stays (suc n) b e = ap (probes_asked n) (one (probed b.scan probe_length) refl e
     one (gives f) g e = absurd (true≢false e)
     one (refuses k) g e = ap (one_probe_by b) g
 
-module _ (row : Row) (limit : ℕ) {s : Scan} {ds : List Device} where
+module _ (row : Row) (limit : ℕ) {s : Scan} {r : Row} where
   -- a probe is asked, heard and reported
-  pub sweeping-one : {m n : ℕ} {a : Asked} {h : Heard} {t : Scan} → m ≡ n + 1 → Sweeping m s ds row limit
-      → Probing (probed s probe_length) a → a.asks ≡ true → Sends ds row.count (line_in a.line) h
-      → t ≡ state_after (reported s h.heard) s → Sweeping n t h.devices row limit
+  pub sweeping-one : {m n : ℕ} {a : Option Written} {w : Written} {b : Bool} {es : List Device} {t : Scan} → m ≡ n + 1
+      → Sweeping m s r row limit → Probing (probed s probe_length) a → a ≡ Some w
+      → Sends r.devices r.count (line_in w) b es → t ≡ state_after (reported s b) s
+      → Sweeping n t (record { devices = es; count = r.count }) row limit
   unfolding probes_asked one_probe one_probe_by is_handed_out
-  sweeping-one {m} {n} {a} {h} {t} e w asked asks sent told =
-      go (probed s probe_length) refl (sym asked.asks ∙ asks)
+  sweeping-one {m} {n} {a} {w} {b} {es} {t} e left asked asks sent told =
+      go (probed s probe_length) refl (sym asked.asks ∙ ap is_some asks)
     where
       k : ℕ
-      k = row.count
+      k = r.count
+
+      ds : List Device
+      ds = r.devices
 
       one : (f : List ℕ) → probed s probe_length ≡ gives f
-          → record { scan = t; devices = take k h.devices } ≡ one_probe_by (now row s ds) (gives f)
+          → record { scan = t; devices = take k es } ≡ one_probe_by (now r s) (gives f)
       one f g =
-          let l : line_in a.line ≡ line_for f = asked.line f g in
+          let l : line_in w ≡ line_for f = asked.line f w g asks in
           let x : t ≡ state_after (reported s (any_replies (take k ds) (line_for f))) s =
           told ∙ ap (λ (y : Bool). state_after (reported s y) s) (sent.heard ∙ ap (any_replies (take k ds)) l) in
-          let y : take k h.devices ≡ all_after (take k ds) (line_for f) =
-          ap (take k) sent.devices ∙ (cable-after k ds (line_in a.line)).0 ∙ ap (all_after (take k ds)) l in
-          ap₂ (λ (u : Scan) (es : List Device). record { scan = u; devices = es }) x y
+          let y : take k es ≡ all_after (take k ds) (line_for f) =
+          ap (take k) sent.devices ∙ (cable-after k ds (line_in w)).0 ∙ ap (all_after (take k ds)) l in
+          ap₂ (λ (u : Scan) (vs : List Device). record { scan = u; devices = vs }) x y
 
-      go : (x : Answer (List ℕ)) → probed s probe_length ≡ x → is_handed_out x ≡ true → Sweeping n t h.devices row limit
+      go : (x : Answer (List ℕ)) → probed s probe_length ≡ x → is_handed_out x ≡ true
+          → Sweeping n t (record { devices = es; count = k }) row limit
       go (refuses j) g i = absurd (false≢true i)
       go (gives f) g i =
           record {
+            count = left.count;
             ahead =
-                ap (probes_asked n) (one f g ∙ sym (ap (one_probe_by (now row s ds)) g))
-                ∙ sym (ap (λ (j : ℕ). probes_asked j (now row s ds)) (e ∙ add-one n))
-                ∙ w.ahead;
-            behind = ap (drop k) sent.devices ∙ (cable-after k ds (line_in a.line)).1 ∙ w.behind;
+                ap (probes_asked n) (one f g ∙ sym (ap (one_probe_by (now r s)) g))
+                ∙ sym (ap (λ (j : ℕ). probes_asked j (now r s)) (e ∙ add-one n))
+                ∙ left.ahead;
+            behind = ap (drop k) sent.devices ∙ (cable-after k ds (line_in w)).1 ∙ left.behind;
           }
 
   -- nothing is left to ask
-  sweeping-end : now row s ds ≡ scanned limit (on_cable row) → drop row.count ds ≡ drop row.count row.devices
-      → record { scan = s; row = record { devices = ds; count = row.count } } ≡ swept row limit
+  sweeping-end : {n : ℕ} → Sweeping n s r row limit → now r s ≡ scanned limit (on_cable row)
+      → record { scan = s; row = r } ≡ swept row limit
   unfolding swept swept_by with_devices
-  sweeping-end e f =
-      let all : ds ≡ take row.count ds ++ drop row.count row.devices =
-      sym (take-append-drop row.count ds) ∙ ap (λ (es : List Device). take row.count ds ++ es) f in
-      ap (λ (es : List Device). record { scan = s; row = record { devices = es; count = row.count } }) all
+  sweeping-end w e =
+      let all : r.devices ≡ on_cable r ++ off_cable row =
+      sym (take-append-drop r.count r.devices) ∙ ap (λ (es : List Device). on_cable r ++ es) w.behind in
+      ap₂ (λ (es : List Device) (k : ℕ). record { scan = s; row = record { devices = es; count = k } }) all w.count
       ∙ ap (swept_by row) e
 
   -- no probe is left, or the scan gives none
-  pub sweeping-none : {n : ℕ} → n ≡ 0 → Sweeping n s ds row limit
-      → record { scan = s; row = record { devices = ds; count = row.count } } ≡ swept row limit
+  pub sweeping-none : {n : ℕ} → n ≡ 0 → Sweeping n s r row limit → record { scan = s; row = r } ≡ swept row limit
   unfolding probes_asked
-  sweeping-none e w = sweeping-end (rw e at w.ahead) w.behind
+  sweeping-none e w = sweeping-end w (rw e at w.ahead)
 
-  pub sweeping-over : {n : ℕ} {a : Asked} → Sweeping n s ds row limit → Probing (probed s probe_length) a → a.asks ≡ false
-      → record { scan = s; row = record { devices = ds; count = row.count } } ≡ swept row limit
+  pub sweeping-over : {n : ℕ} {a : Option Written} → Sweeping n s r row limit → Probing (probed s probe_length) a
+      → a ≡ None → record { scan = s; row = r } ≡ swept row limit
   sweeping-over {n} w asked over =
-      sweeping-end (sym (stays n (now row s ds) (sym asked.asks ∙ over)) ∙ w.ahead) w.behind
+      sweeping-end w (sym (stays n (now r s) (sym asked.asks ∙ ap is_some over)) ∙ w.ahead)

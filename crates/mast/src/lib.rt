@@ -3,19 +3,16 @@
 // it is demand 3's scan (proofs/Demand.antt). Assumes nothing of its caller.
 #![tactic(auto)]
 
-ghost use Rattle.std.specs.Prelude.{◌≡◌, ◌||◌, take};
-ghost use Rattle.refusal.specs.Answer.{state_after};
+ghost use Rattle.std.specs.Prelude.{◌≡◌, take};
 ghost use Rattle.frame.specs.Line.{inside};
-ghost use Rattle.scan.specs.Scan.{probe_length, probed, reported};
+ghost use Rattle.scan.specs.Scan.{probe_length, probed};
 ghost use Rattle.bus.specs.Cable.{line_for};
 ghost use Rattle.mast.specs.Mast.{swept};
-ghost use Rattle.mast.specs.Steps.{size_in, given_in, frame_in, line_in, Probing, Listens, Sends};
+ghost use Rattle.mast.specs.Steps.{line_in, Probing, Listens, Sends};
 
 use bus::{MOST, Row};
-use device::Said;
 use limits::{LIMIT_LEAST, LINE_MOST, LONGEST_FRAME};
 use record::Device;
-use refusal::Refusal;
 use scan::{PROBE, Scan};
 
 // A scan that was run to its end, and the row after it.
@@ -34,33 +31,6 @@ struct Written {
     len: usize,
 }
 
-// Whether the scan asks, and the line of its probe.
-#[derive(Clone, Copy)]
-struct Asked {
-    asks: bool,
-    line: Written,
-}
-
-// How many octets were handed out.
-fn size_in(handed: Result<usize, Refusal>) -> usize
-    ensures { result ≡ size_in handed }
-{
-    match handed {
-        Ok(len) => len,
-        Err(_) => 0,
-    }
-}
-
-// Whether octets were handed out.
-fn given_in(handed: Result<usize, Refusal>) -> bool
-    ensures { result ≡ given_in handed }
-{
-    match handed {
-        Ok(_) => true,
-        Err(_) => false,
-    }
-}
-
 fn line_of(probe: [u8; PROBE]) -> Written
     ensures { line_in result ≡ line_for probe }
 {
@@ -68,37 +38,22 @@ fn line_of(probe: [u8; PROBE]) -> Written
     let handed = writer::write(LIMIT_LEAST, probe[0], probe[1], &probe[2..], &mut octets);
     Written {
         octets,
-        len: size_in(handed),
+        len: handed.unwrap_or(0),
     }
 }
 
-fn ask(scan: Scan) -> Asked
+// The line of the probe that is next; none where the scan asks no more.
+fn ask(scan: Scan) -> Option<Written>
     ensures { Probing (probed scan probe_length) result }
 {
     let mut probe = [0u8; PROBE];
-    let handed = scan::probe(scan, &mut probe);
-    let line = line_of(probe);
-    Asked {
-        asks: given_in(handed),
-        line,
+    match scan::probe(scan, &mut probe) {
+        Ok(_) => Some(line_of(probe)),
+        Err(_) => None,
     }
 }
 
 // ---- the line goes to every device
-
-// A device after the line, and whether it or one before answered.
-#[derive(Clone, Copy)]
-struct Listened {
-    heard: bool,
-    device: Device,
-}
-
-// Whether some device answered, and the devices after it.
-#[derive(Clone, Copy)]
-struct Heard {
-    heard: bool,
-    devices: [Device; MOST],
-}
 
 // What lies between the flags of the line that is the first `len` octets.
 fn inner(octets: &[u8], len: usize) -> &[u8]
@@ -111,81 +66,46 @@ fn inner(octets: &[u8], len: usize) -> &[u8]
     &octets[1..end - 1]
 }
 
-// Whether there is an answer with a frame, now or before.
-fn is_heard(said: Said, before: bool) -> bool
-    ensures { result ≡ (frame_in said || before) }
-{
-    match said {
-        Said::Silence => before,
-        Said::Frame(_) => true,
-        Said::Refused(_) => before,
-    }
-}
-
-fn listen(device: Device, line: Written, before: bool) -> Listened
-    ensures { Listens device (line_in line) before result }
+// A device hears the line: whether it answers with a frame.
+fn listen(device: &mut Device, line: Written) -> bool
+    ensures { Listens device.old (line_in line) result device.new }
 {
     let mut answer = [0u8; LONGEST_FRAME];
-    let octets = line.octets;
-    let judged = device::hear(device, inner(&octets, line.len), &mut answer);
-    let said = judged.said;
-    let device = judged.device;
-    Listened {
-        heard: is_heard(said, before),
-        device,
+    match device::hear(device, inner(&line.octets, line.len), &mut answer) {
+        Ok(Some(_)) => true,
+        Ok(None) => false,
+        Err(_) => false,
     }
 }
 
-// To each device on the cable, the last first: none hears another.
-fn send(devices: [Device; MOST], count: usize, line: Written) -> Heard
-    ensures { Sends devices count (line_in line) result }
+// To each device on the cable, the last first, as none hears another: whether some device answers.
+fn send(devices: &mut [Device; MOST], count: usize, line: Written) -> bool
+    ensures { Sends devices.old count (line_in line) result devices.new }
 {
-    let mut devices = devices;
     let mut heard = false;
-    let mut left = octets::fewer(count, MOST);
-    while 0 < left {
-        left -= 1;
-        let listened = listen(devices[left], line, heard);
-        let device = listened.device;
-        devices[left] = device;
-        heard = listened.heard;
+    for place in (0..octets::fewer(count, MOST)).rev() {
+        if listen(&mut devices[place], line) {
+            heard = true;
+        }
     }
-    Heard { heard, devices }
+    heard
 }
 
 // ---- the scan
-
-fn told(scan: Scan, heard: bool) -> Scan
-    ensures { result ≡ state_after (reported scan heard) scan }
-{
-    let reported = scanner::report(scan, heard);
-    reported.scan
-}
 
 // A scan of the row with this limit of probes, from its start to its end.
 pub fn sweep(row: Row, limit: u16) -> Swept
     ensures { result ≡ swept row limit }
 {
-    let count = row.count;
-    let mut devices = row.devices;
+    let mut row = row;
     let mut scan = scanner::new(limit);
-    let mut probes = limit;
-    while 0 < probes {
-        probes -= 1;
-        let asked = ask(scan);
-        if !asked.asks {
-            return Swept {
-                scan,
-                row: Row { devices, count },
-            };
-        }
-        let line = asked.line;
-        let answered = send(devices, count, line);
-        devices = answered.devices;
-        scan = told(scan, answered.heard);
+    for _ in 0..limit {
+        let Some(line) = ask(scan) else {
+            return Swept { scan, row };
+        };
+        let heard = send(&mut row.devices, row.count, line);
+        // A scan that gave a probe takes its answer.
+        let _ = scanner::report(&mut scan, heard);
     }
-    Swept {
-        scan,
-        row: Row { devices, count },
-    }
+    Swept { scan, row }
 }

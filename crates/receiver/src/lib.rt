@@ -69,7 +69,7 @@ fn opened() -> Receiver
 fn opens(escaping: bool, b: u8) -> bool
     ensures { result ≡ (not escaping && eqb b escape) }
 {
-    if escaping { false } else { b == ESCAPE }
+    !escaping && b == ESCAPE
 }
 
 // Copies octets of `s` into `store` from `at` on, up to a flag or an escape, of which the first is neither, and tells how many.
@@ -77,20 +77,15 @@ fn copy(s: &[u8], store: &mut [u8], at: usize) -> usize
     requires { (0 < length s.now) × (at < length store.old) × Plain (take 1 s.now) }
     ensures { Copies s.now store.old at result store.new }
 {
-    let most = octets::fewer(s.len(), store.len() - at);
-    let mut i = 0;
-    while i < most {
+    let most = s.len().min(store.len() - at);
+    for i in 0..most {
         let b = s[i];
-        if b == FLAG {
-            return i;
-        }
-        if b == ESCAPE {
+        if b == FLAG || b == ESCAPE {
             return i;
         }
         store[at + i] = b;
-        i += 1;
     }
-    i
+    most
 }
 
 // What is handed out where a flag closes the stretch.
@@ -113,7 +108,7 @@ fn close(limit: usize, receiver: Receiver, store: &[u8], out: &mut [u8]) -> Resu
 fn closing(receiver: Receiver) -> bool
     ensures { result ≡ stretched receiver }
 {
-    if receiver.seen { receiver.any } else { false }
+    receiver.seen && receiver.any
 }
 
 // Works through the run: up to and with the first flag that hands something out, or to its end. Most octets stand for

@@ -1,5 +1,5 @@
-// The master's scanner: a new scan, and an answer reported to one. The record goes in by value and comes back; any
-// record of the type may be handed in. Assumes nothing of its caller.
+// The master's scanner: a new scan, and an answer reported to one. Any record of the type may be handed in.
+// Assumes nothing of its caller.
 #![tactic(auto)]
 
 ghost use Rattle.std.specs.Prelude.{◌≡◌, ◌||◌, ◌*◌, ◌≤◌, ◌<◌, length, take};
@@ -15,13 +15,6 @@ use identity::{BITS, OCTETS};
 use refusal::Refusal;
 use scan::{LIST, LIST_MOST, Scan, State};
 
-// What an answer comes to, and the scan after it; where it is refused, the scan as it was.
-#[derive(Clone, Copy)]
-pub struct Reported {
-    pub outcome: Result<(), Refusal>,
-    pub scan: Scan,
-}
-
 // ---- one step: the record after an answer to the beginning that is asked
 
 // How many bits of the beginning are left once its trailing ones are dropped.
@@ -31,14 +24,12 @@ fn climb(beginning: [bool; BITS], bits: usize) -> usize
     ensures after { next (take bits beginning) ≡ next_at beginning result }
     ensures sized { length beginning ≡ depth }
 {
-    let mut n = bits;
-    while 0 < n {
-        if !beginning[n - 1] {
-            return n;
+    for n in (0..bits).rev() {
+        if !beginning[n] {
+            return n + 1;
         }
-        n -= 1;
     }
-    n
+    0
 }
 
 // Whether the beginning is a 0 half.
@@ -46,23 +37,11 @@ fn zero_half(beginning: [bool; BITS], bits: usize) -> bool
     requires { bits ≤ depth }
     ensures { result ≡ zero_half (take bits beginning) }
 {
-    if bits == 0 {
-        return false;
-    }
-    !beginning[bits - 1]
-}
-
-// Whether one of the two holds.
-fn either(a: bool, b: bool) -> bool
-    ensures { result ≡ (a || b) }
-{
-    if a {
-        return true;
-    }
-    b
+    0 < bits && !beginning[bits - 1]
 }
 
 // Asking where probes are left, at the limit where not.
+#[tactic(auto, unfolding(scan::specs::Steps::state_at))]
 fn standing(count: u16, limit: u16, quiet: bool, doubt: bool) -> State
     ensures { result ≡ state_at count limit quiet doubt }
 {
@@ -73,6 +52,7 @@ fn standing(count: u16, limit: u16, quiet: bool, doubt: bool) -> State
 }
 
 // Where no probe remains.
+#[tactic(auto, unfolding(scan::specs::Steps::finished_by))]
 fn finished(doubt: bool) -> State
     ensures { result ≡ finished_by doubt }
 {
@@ -86,17 +66,7 @@ fn finished(doubt: bool) -> State
 fn in_state(scan: Scan, state: State) -> Scan
     ensures { result ≡ in_state scan state }
 {
-    let list = scan.list;
-    let beginning = scan.beginning;
-    Scan {
-        limit: scan.limit,
-        count: scan.count,
-        listed: scan.listed,
-        list,
-        bits: scan.bits,
-        beginning,
-        state,
-    }
+    Scan { state, ..scan }
 }
 
 // The scan goes on where it stands.
@@ -136,26 +106,26 @@ fn note(scan: Scan, quiet: bool, doubt: bool, heard: bool) -> Scan
     requires { (scan.count < scan.limit) × (scan.listed ≤ list_most) × (scan.bits ≤ depth) }
     ensures { result ≡ noted_in scan quiet doubt heard }
 {
-    let bits = scan.bits;
     let beginning = scan.beginning;
-    let listed = scan.listed;
     // What is next once all below the beginning is done: its first n bits, the last made a one.
-    let n = climb(beginning, bits);
+    let n = climb(beginning, scan.bits);
     let mut s = scan;
-    s.count = scan.count + 1;
+    s.count += 1;
     if !heard {
-        return move_on(s, n, zero_half(beginning, bits), either(doubt, quiet));
+        return move_on(s, n, zero_half(beginning, scan.bits), doubt || quiet);
     }
-    if bits < BITS {
-        s.beginning[bits] = false;
-        s.bits = bits + 1;
+    if scan.bits < BITS {
+        s.beginning[scan.bits] = false;
+        s.bits += 1;
         return keep_going(s, false, doubt);
     }
-    if listed < LIST_MOST {
-        let old = scan.list;
-        let list = store(old, listed, identity::octets_of(beginning, bits));
-        s.list = list;
-        s.listed = listed + 1;
+    if scan.listed < LIST_MOST {
+        s.list = store(
+            scan.list,
+            scan.listed,
+            identity::octets_of(beginning, scan.bits),
+        );
+        s.listed += 1;
         return move_on(s, n, false, doubt);
     }
     in_state(s, State::Full)
@@ -167,7 +137,6 @@ fn note(scan: Scan, quiet: bool, doubt: bool, heard: bool) -> Scan
 pub fn new(limit: u16) -> Scan
     ensures { result ≡ fresh limit }
 {
-    let state = standing(0, limit, false, false);
     Scan {
         limit,
         count: 0,
@@ -175,30 +144,21 @@ pub fn new(limit: u16) -> Scan
         list: [0u8; LIST],
         bits: 0,
         beginning: [false; BITS],
-        state,
+        state: standing(0, limit, false, false),
     }
 }
 
-// An answer to the probe that is next: a reply was heard, garbled or whole, or none.
-pub fn report(scan: Scan, heard: bool) -> Reported
-    ensures { Changes (reported scan heard) scan result.outcome result.scan }
+// An answer to the probe that is next: a reply was heard, garbled or whole, or none. Where it is refused, the scan is
+// as it was.
+pub fn report(scan: &mut Scan, heard: bool) -> Result<(), Refusal>
+    ensures { Changes (reported scan.old heard) scan.old result scan.new }
 {
-    let state = scan.state;
-    if scan::is_over(scan) {
-        return Reported {
-            outcome: Err(Refusal::ScanOver),
-            scan,
-        };
-    }
-    let State::Asking { quiet, doubt } = state else {
-        return Reported {
-            outcome: Err(Refusal::ScanOver),
-            scan,
-        };
+    let State::Asking { quiet, doubt } = scan.state else {
+        return Err(Refusal::ScanOver);
     };
-    let next = note(scan, quiet, doubt, heard);
-    Reported {
-        outcome: Ok(()),
-        scan: next,
+    if scan::is_over(*scan) {
+        return Err(Refusal::ScanOver);
     }
+    *scan = note(*scan, quiet, doubt, heard);
+    Ok(())
 }

@@ -11,4 +11,4 @@ pub returns : goal.returns
 returns c =
     let a = c.args in
     let spoken = c.speak-spoken.ensures in
-    framed a.device a.say _ spoken.0 c.if-spoken-eq0.false spoken.1 c.requires c.hand_over.ensures
+    framed a.device a.say _ spoken.0 c.if-spoken-eq0.false spoken.1 c.requires c.put_all.ensures

@@ -15,10 +15,10 @@ pub returns-then-are_tilts : goal.returns-then-are_tilts
 returns-then-are_tilts c =
     let a = c.args in
     c.make.ensures
-    ∙ adds-open a.row a.values a.octets.now (omega arith) c.are_tilts.ensures c.if-are_tilts.true
+    ∙ adds-open a.row.now a.values a.octets.now (omega arith) c.are_tilts.ensures c.if-are_tilts.true
 
 pub returns : goal.returns
 unfolding reply_of outcome_of
 returns c =
     let a = c.args in
-    adds-shut a.row a.values a.octets.now (omega arith) c.are_tilts.ensures c.if-are_tilts.false
+    adds-shut a.row.now a.values a.octets.now (omega arith) c.are_tilts.ensures c.if-are_tilts.false

@@ -13,8 +13,8 @@ pub returns-then-is_value : goal.returns-then-is_value
 returns-then-is_value c =
     let a = c.args in
     changes-is
-    (ap (happened a.device) c.event_of.ensures
-    ∙ happens-event a.device a.command a.value
+    (ap (happened a.device.now) c.event_of.ensures
+    ∙ happens-event a.device.now a.command a.value
     (sym c.is_value.ensures ∙ c.if-is_value.true))
     c.happen.ensures
 
@@ -22,7 +22,7 @@ pub returns-then-allowed : goal.returns-then-allowed
 returns-then-allowed c =
     let a = c.args in
     unchanged CannotBe
-    (happens-never a.device a.command a.value
+    (happens-never a.device.now a.command a.value
     (sym c.is_value.ensures ∙ c.if-is_value.false)
     (sym c.allowed.ensures ∙ c.if-allowed.true))
 
@@ -30,4 +30,4 @@ pub returns : goal.returns
 returns c =
     let a = c.args in
     unchanged NotAllowed
-    (happens-not a.device a.command a.value (sym c.allowed.ensures ∙ c.if-allowed.false))
+    (happens-not a.device.now a.command a.value (sym c.allowed.ensures ∙ c.if-allowed.false))

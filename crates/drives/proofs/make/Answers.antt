@@ -3,15 +3,15 @@ use Rattle.drives.specs.Drives.{reply_of, fresh_with}
 use Rattle.drives.proofs.Ways.{added-refused, added-done}
 use Rattle.drives.proofs.make.Goals as goal
 
-pub returns-in-Refused : goal.returns-in-Refused
+pub returns-in-Err : goal.returns-in-Err
 unfolding reply_of
-returns-in-Refused c =
+returns-in-Err c =
     let a = c.args in
-    added-refused a.row (fresh_with a.values a.octets.now) c.fresh-made.ensures c.in-Refused.is
+    added-refused a.row.now (fresh_with a.values a.octets.now) c.fresh-made.ensures c.in-Err.is
 
 pub returns : goal.returns
 unfolding reply_of
 returns c =
     let a = c.args in
-    added-done a.row (fresh_with a.values a.octets.now) c.fresh-made.ensures
+    added-done a.row.now (fresh_with a.values a.octets.now) c.fresh-made.ensures
     c.in_default.is

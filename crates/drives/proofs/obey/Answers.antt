@@ -9,7 +9,7 @@ returns-then-is_for_device c =
     let at = c in
     let a = at.args in
     let obeys = obeys-by
-    (obeyed-device a.command a.row a.octets.now a.lent.now a.values at.is_for_device.ensures
+    (obeyed-device a.command a.row.now a.octets.now a.lent.now a.values at.is_for_device.ensures
     c.if-is_for_device.true)
     c.to_device.ensures in
     search rules
@@ -19,7 +19,7 @@ returns-then-command-eq-DEVICE c =
     let at = c in
     let a = at.args in
     let obeys = obeys-by
-    (obeyed-adds a.command a.row a.octets.now a.lent.now a.values at.is_for_device.ensures
+    (obeyed-adds a.command a.row.now a.octets.now a.lent.now a.values at.is_for_device.ensures
     c.if-is_for_device.false c.if-command-eq-DEVICE.true)
     (record { after = c.add.ensures; lent = refl }) in
     search rules
@@ -28,6 +28,6 @@ pub returns : goal.returns
 returns c =
     let at = c in
     let a = at.args in
-    let obeys = obeys-none a.command a.row a.octets.now a.lent.now a.values at.is_for_device.ensures
+    let obeys = obeys-none a.command a.row.now a.octets.now a.lent.now a.values at.is_for_device.ensures
     c.if-is_for_device.false c.if-command-eq-DEVICE.false in
     search rules

@@ -5,11 +5,9 @@ use Rattle.refusal.proofs.Answers.{unchanged}
 use Rattle.record.proofs.Happened.{not-allowed, device-happened}
 use Rattle.event.proofs.happen.Goals as goal
 
-pub returns-then-allowed : goal.returns-then-allowed
-returns-then-allowed c =
-    device-happened _ _
-    (sym c.allowed.ensures
-    ∙ c.if-allowed.true) c.antenna_after-changed.ensures
+pub returns-then-not-allowed : goal.returns-then-not-allowed
+returns-then-not-allowed c =
+    unchanged NotAllowed (not-allowed _ _ (sym c.allowed.ensures ∙ c.if-not-allowed.true))
 
 pub returns : goal.returns
-returns c = unchanged NotAllowed (not-allowed _ _ (sym c.allowed.ensures ∙ c.if-allowed.false))
+returns c = device-happened _ _ (sym c.allowed.ensures ∙ c.if-not-allowed.false) c.antenna_after.ensures

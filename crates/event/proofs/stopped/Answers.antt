@@ -4,16 +4,20 @@ use Rattle.refusal.specs.declared.Refusal.TheVariants.{CannotBe}
 use Rattle.refusal.proofs.Answers.{unchanged, changed}
 use Rattle.antenna.proofs.Happenings.{stops, no-movement, outside}
 use Rattle.event.proofs.stopped.Goals as goal
+use Rattle.event.proofs.stopped.Goals.{then-not-is_running-via-then-not-is_running}
+use Rattle.event.proofs.stopped.Goals.{then-not-is_running-via-else-not-is_running+then-not-in_range}
 
-pub returns-then-in_range : goal.returns-then-in_range
-returns-then-in_range c =
-    let moves = sym c.is_running.ensures
-    ∙ c.if-is_running.true in
-    let inside = sym c.in_range.ensures ∙ c.if-in_range.true in
-    changed (stops _ _ moves inside c.rested.ensures)
+pub returns-then-not-is_running : goal.returns-then-not-is_running
+returns-then-not-is_running c =
+    elim c.then-not-is_running.branch [
+      | then-not-is_running-via-then-not-is_running w ↦
+          unchanged CannotBe (no-movement _ _ (sym c.is_running.ensures ∙ w.if-not-is_running.true))
+      | then-not-is_running-via-else-not-is_running+then-not-in_range w ↦
+          unchanged CannotBe (outside _ _ (sym w.in_range.ensures ∙ w.if-not-in_range.true))
+    ]
 
-pub returns-else-in_range : goal.returns-else-in_range
-returns-else-in_range c = unchanged CannotBe (outside _ _ (sym c.in_range.ensures ∙ c.if-in_range.false))
-
-pub returns-else-is_running : goal.returns-else-is_running
-returns-else-is_running c = unchanged CannotBe (no-movement _ _ (sym c.is_running.ensures ∙ c.if-is_running.false))
+pub returns : goal.returns
+returns c =
+    let moves = sym c.is_running.ensures ∙ c.if-not-is_running.false in
+    let inside = sym c.in_range.ensures ∙ c.if-not-in_range.false in
+    changed (stops _ _ moves inside c.rested-antenna.ensures)

@@ -5,6 +5,4 @@ use Rattle.mast.proofs.Lines.{probe-line}
 use Rattle.mast.proofs.line_of.Goals as goal
 
 pub returns : goal.returns
-returns c =
-    let a = c.args in
-    probe-line a.probe probe_length (omega arith) c.write-handed.ensures c.size_in.ensures
+returns c = probe-line c.args.probe probe_length (omega arith) c.write-handed.ensures c.unwrap_or.ensures

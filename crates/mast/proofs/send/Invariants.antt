@@ -3,8 +3,5 @@ use Rattle.mast.specs.Steps.{line_in}
 use Rattle.mast.proofs.Rounds.{Sending}
 use Rattle.mast.proofs.send.Given as goal
 
-abbrev pub invariant-loop-left : goal.invariant-loop-left
-invariant-loop-left l = Sending (line_in l.line) l.devices l.left l.heard l.initial.devices l.count
-
-abbrev pub decreases-loop-left : goal.decreases-loop-left
-decreases-loop-left l = l.left
+abbrev pub invariant-loop-place : goal.invariant-loop-place
+invariant-loop-place l = Sending (line_in l.line) l.devices l.place l.heard l.initial.devices l.count

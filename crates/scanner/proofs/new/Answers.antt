@@ -4,4 +4,4 @@ use Rattle.scanner.proofs.new.Goals as goal
 
 pub returns : goal.returns
 unfolding fresh
-returns c = rw c.standing-state.ensures
+returns c = rw c.standing.ensures

@@ -5,23 +5,23 @@ use Rattle.scan.proofs.Reports.{report-over, report-taken}
 use Rattle.scan.proofs.Moves.{noted_step}
 use Rattle.scanner.proofs.report.Goals as goal
 
-pub returns-then-is_over : goal.returns-then-is_over
-returns-then-is_over c =
-    let s = c.args in
-    report-over s.scan s.heard (sym c.if-is_over.true ∙ c.is_over.ensures)
-
 pub returns-in_default : goal.returns-in_default
 returns-in_default c =
     let s = c.args in
-    report-over s.scan s.heard (over-ended s.scan (ended-not_asking _ c.in_default.not-Asking))
+    report-over s.scan.now s.heard (over-ended s.scan.now (ended-not_asking _ c.in_default.not-Asking))
 
-pub note-next-requires : goal.note-next-requires
-note-next-requires c =
+pub returns-then-is_over : goal.returns-then-is_over
+returns-then-is_over c =
+    let s = c.args in
+    report-over s.scan.now s.heard (sym c.if-is_over.true ∙ c.is_over.ensures)
+
+pub note-requires : goal.note-requires
+note-requires c =
     let parts = open-parts _ (sym c.is_over.ensures ∙ c.if-is_over.false) in
     (parts.counts, parts.lists, parts.begins)
 
 pub returns : goal.returns
 returns c =
     let s = c.args in
-    report-taken s.scan s.heard (sym c.is_over.ensures ∙ c.if-is_over.false)
-    (c.note-next.ensures ∙ noted_step s.scan s.heard c.in-Asking.is)
+    report-taken s.scan.now s.heard (sym c.is_over.ensures ∙ c.if-is_over.false)
+    (c.note.ensures ∙ noted_step s.scan.now s.heard c.in-Asking.is)
