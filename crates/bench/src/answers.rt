@@ -6,7 +6,6 @@ ghost use Rattle.bench.specs.Written.{digit_of, hex_row};
 
 use crate::rows;
 use antenna::Angle;
-use device::Said;
 use refusal::Refusal;
 use std::io::{Result, Stdout};
 use terms::Term;
@@ -99,7 +98,7 @@ pub fn say_refusal(out: Stdout, refusal: Refusal) -> Result<()> {
     say_number(out, b' ', refusal::number(refusal) as usize)
 }
 
-pub fn say_outcome(out: Stdout, outcome: Result<(), Refusal>) -> Result<()> {
+pub fn say_outcome(out: Stdout, outcome: std::result::Result<(), Refusal>) -> Result<()> {
     if let Err(refusal) = outcome {
         return say_refusal(out, refusal);
     }
@@ -107,7 +106,7 @@ pub fn say_outcome(out: Stdout, outcome: Result<(), Refusal>) -> Result<()> {
 }
 
 // Octets that were handed out, or why not.
-pub fn say_handed(out: Stdout, handed: Result<usize, Refusal>) -> Result<()> {
+pub fn say_handed(out: Stdout, handed: std::result::Result<usize, Refusal>) -> Result<()> {
     match handed {
         Ok(n) => say_number(out, b' ', n),
         Err(refusal) => say_refusal(out, refusal),
@@ -120,11 +119,16 @@ pub fn say_buffer(out: Stdout, lent: [u8; ROOM], room: usize) -> Result<()> {
 }
 
 // A device's answer.
-pub fn say_said(out: Stdout, said: Said, lent: [u8; ROOM], room: usize) -> Result<()> {
+pub fn say_said(
+    out: Stdout,
+    said: std::result::Result<Option<usize>, Refusal>,
+    lent: [u8; ROOM],
+    room: usize,
+) -> Result<()> {
     match said {
-        Said::Silence => {}
-        Said::Frame(n) => say_number(out, b' ', n)?,
-        Said::Refused(refusal) => say_refusal(out, refusal)?,
+        Ok(None) => {}
+        Ok(Some(n)) => say_number(out, b' ', n)?,
+        Err(refusal) => say_refusal(out, refusal)?,
     }
     say_buffer(out, lent, room)
 }

@@ -6,10 +6,10 @@ use Rattle.octets.proofs.Rules.{tests}
 use mathlib.Core.Path.{sym}
 use Rattle.terms.proofs.handed_word.Goals as goal
 
-pub returns-in-Octets : goal.returns-in-Octets
+pub returns-in-Ok : goal.returns-in-Ok
 unfolding name_of handed_word spelled ◌at_start_of◌
-returns-in-Octets c = search (tests, sym c.given_word.ensures, c.in-Octets.is)
+returns-in-Ok c = search (tests, sym c.given_word.ensures, c.in-Ok.is)
 
-pub returns-in-Refused : goal.returns-in-Refused
+pub returns-in-Err : goal.returns-in-Err
 unfolding name_of handed_word spelled ◌at_start_of◌
-returns-in-Refused c = search (tests, c.in-Refused.is)
+returns-in-Err c = search (tests, c.in-Err.is)

@@ -5,10 +5,10 @@ use Rattle.script.specs.Words.{spelled}
 use Rattle.octets.proofs.Rules.{tests}
 use Rattle.terms.proofs.outcome_word.Goals as goal
 
-pub returns-in-Done : goal.returns-in-Done
+pub returns-in-Ok : goal.returns-in-Ok
 unfolding name_of outcome_word spelled ◌at_start_of◌
-returns-in-Done c = search (tests, c.in-Done.is)
+returns-in-Ok c = search (tests, c.in-Ok.is)
 
-pub returns-in-Refused : goal.returns-in-Refused
+pub returns-in-Err : goal.returns-in-Err
 unfolding name_of outcome_word spelled ◌at_start_of◌
-returns-in-Refused c = search (tests, c.in-Refused.is)
+returns-in-Err c = search (tests, c.in-Err.is)
