@@ -77,7 +77,7 @@ new-allowed : (limit : ℕ) → NewAllows limit (fresh limit)
 new-allowed limit = ((limit, tt), refl)
 
 -- a lent scan, wherever it lies
-lent : Scan → MutBor Scan
+abbrev lent : Scan → MutBor Scan
 lent s = record { ref_ptr = (0, 0); ghost_name = 0; now = s }
 
 report-allowed : (s : Scan) (a : Bool) → (r : Result (Unit {0}) Refusal) × (t : Scan) × ReportAllows s a r t
