@@ -10,44 +10,38 @@ ghost use Rattle.acknowledge.specs.Acknowledge.{acknowledged};
 use antenna::Alarms;
 use record::{Desk, Device, Link, Pending, Session, Station};
 
-fn emptied_session(s: Session) -> Session
+#[tactic(auto, unfolding(crate::specs::Acknowledge::emptied))]
+fn emptied_session(mut s: Session) -> Session
     ensures { result ≡ emptied s }
 {
-    Session {
-        r: s.r,
-        s: control::next(s.s),
-        pending: Pending::Nothing,
-    }
+    s.s = control::next(s.s);
+    s.pending = Pending::Nothing;
+    s
 }
 
+#[tactic(auto, unfolding(crate::specs::Acknowledge::told_after))]
 fn told_after(desk: Desk, pending: Pending) -> Alarms
     ensures { result ≡ told_after desk pending }
 {
     match pending {
-        Pending::Nothing => desk.told,
-        Pending::Answer => desk.told,
+        Pending::Nothing | Pending::Answer => desk.told,
         Pending::Indication => desk.said,
     }
 }
 
 // The station once the pending answer of its session is acknowledged.
-fn relieve(station: Station, s: Session) -> Station
+#[tactic(auto, unfolding(crate::specs::Acknowledge::relieved))]
+fn relieve(mut station: Station, s: Session) -> Station
     ensures { result ≡ relieved station s }
 {
-    let pending = s.pending;
-    let mut desk = station.desk;
-    let told = told_after(desk, pending);
-    let said = antenna::CALM;
-    let reply = record::NO_REPLY;
-    desk.told = told;
-    desk.said = said;
-    desk.reply = reply;
-    Station {
-        link: Link::Connected(emptied_session(s)),
-        desk,
-    }
+    station.desk.told = told_after(station.desk, s.pending);
+    station.desk.said = antenna::CALM;
+    station.desk.reply = record::NO_REPLY;
+    station.link = Link::Connected(emptied_session(s));
+    station
 }
 
+#[tactic(auto, unfolding(crate::specs::Acknowledge::station_after))]
 fn station_after(station: Station, s: Session, nr: u8) -> Station
     ensures { result ≡ station_after station s nr }
 {
@@ -58,6 +52,7 @@ fn station_after(station: Station, s: Session, nr: u8) -> Station
 }
 
 // The session after a good N(R).
+#[tactic(auto, unfolding(crate::specs::Acknowledge::session_after))]
 pub fn session_after(s: Session, nr: u8) -> Session
     ensures { result ≡ session_after s nr }
 {
@@ -68,15 +63,10 @@ pub fn session_after(s: Session, nr: u8) -> Session
 }
 
 // The device after a good N(R).
-pub fn device_after(device: Device, s: Session, nr: u8) -> Device
+#[tactic(auto, unfolding(crate::specs::Acknowledge::acknowledged, record::specs::Changes::device_of))]
+pub fn device_after(mut device: Device, s: Session, nr: u8) -> Device
     ensures { result ≡ acknowledged device s nr }
 {
-    let plate = device.plate;
-    let station = device.station;
-    let antenna = device.antenna;
-    Device {
-        plate,
-        station: station_after(station, s, nr),
-        antenna,
-    }
+    device.station = station_after(device.station, s, nr);
+    device
 }

@@ -8,53 +8,34 @@ ghost use Rattle.std.specs.Prelude.{◌≡◌};
 ghost use Rattle.antenna.specs.Angles.{at_most};
 ghost use Rattle.antenna.specs.Motions.{in_range, aimed_at, Aims};
 
-use antenna::{Aim, Aimed, Angle, Antenna, Motion};
+use antenna::{Angle, Antenna, Motion, Unaimed};
 
 // Whether a tilt is no larger than another.
+#[tactic(auto, using(antenna::proofs::Angles::order_at_most))]
 pub fn at_most(a: Angle, b: Angle) -> bool
     ensures { result ≡ at_most a b }
 {
-    a.tenths <= b.tenths
+    a <= b
 }
 
 // Whether a tilt is in the antenna's range.
+#[tactic(auto, unfolding(antenna::specs::Motions::in_range))]
 pub fn in_range(antenna: Antenna, t: Angle) -> bool
     ensures { result ≡ in_range antenna t }
 {
-    let drive = antenna.drive;
-    let lowest = drive.lowest;
-    let highest = drive.highest;
-    if at_most(lowest, t) {
-        at_most(t, highest)
-    } else {
-        false
-    }
+    at_most(antenna.drive.lowest, t) && at_most(t, antenna.drive.highest)
 }
 
-// A tilt is asked: busy comes before the range.
-pub fn aim_at(antenna: Antenna, t: Angle) -> Aimed
-    ensures { Aims (aimed_at antenna t) antenna result }
+// A tilt is asked: busy comes before the range. Where no movement starts, the antenna is as it was.
+pub fn aim_at(antenna: &mut Antenna, t: Angle) -> Result<(), Unaimed>
+    ensures { Aims (aimed_at antenna.old t) antenna.old result antenna.new }
 {
-    let motion = antenna.motion;
-    if antenna::busy(motion) {
-        return Aimed {
-            aim: Aim::Busy,
-            antenna,
-        };
+    if antenna::busy(antenna.motion) {
+        return Err(Unaimed::Busy);
     }
-    if in_range(antenna, t) {
-        let drive = antenna.drive;
-        let antenna = Antenna {
-            motion: Motion::Owing { asked: t },
-            drive,
-        };
-        return Aimed {
-            aim: Aim::Started,
-            antenna,
-        };
+    if !in_range(*antenna, t) {
+        return Err(Unaimed::Outside);
     }
-    Aimed {
-        aim: Aim::Outside,
-        antenna,
-    }
+    antenna.motion = Motion::Owing { asked: t };
+    Ok(())
 }

@@ -1,14 +1,17 @@
--- Tilts that are the same: each at most the other exactly if they are equal; and the range. Assumes nothing.
+-- Tilts that are the same: each at most the other exactly if they are equal; the order that is derived; and the range.
+-- Assumes nothing.
 use mathlib.Core.Path.{◌≡◌, refl, sym, ap}
-use mathlib.Core.Bool.{Bool, true, false, ◌&&◌}
+use mathlib.Core.Bool.{Bool, true, false, cond, ◌&&◌}
 use mathlib.Core.Logic.Iff
 use mathlib.Core.Logic.{◌↔◌}
 use Prim.Native.Nat.{ℕ}
 use native.Mathlib.Omega.{arith}
-use borrow.Author.Tests.{leb-true, le-leb}
-use lib.Dec.{T, leb}
+use borrow.Author.Tests.{ltb-true, ltb-false, leb-true, le-leb, lt-leb}
+use lib.Dec.{T, ltb, leb}
 use lib.IntN.{ℤ, pos, negsuc}
 use lib.Signed.{le_z, ◌≤ℤ◌}
+use Rattle.std.specs.Ordering.{is_le, int_cmp}
+use Rattle.std.specs.declared.cmp.Ordering.TheVariants.{Less, Equal, Greater}
 use Rattle.octets.proofs.Words.{true-not-false, and_parts}
 use Rattle.antenna.specs.declared.Angle.{Angle}
 use Rattle.antenna.specs.declared.Antenna.{Antenna}
@@ -29,6 +32,25 @@ each-at-most-ℤ (negsuc m) (negsuc n) e = ap negsuc (sym (each-at-most n m e))
 at-most-itself : (a : ℤ) → le_z a a ≡ true
 at-most-itself (pos m) = le-leb m m (omega arith)
 at-most-itself (negsuc m) = le-leb m m (omega arith)
+
+-- the derived test is the order of the integers, and so the definition's
+compared : (m n : ℕ) → is_le (cond (ltb m n) Less (cond (ltb n m) Greater Equal)) ≡ leb m n
+compared m n = go (ltb m n) refl (ltb n m) refl
+  where
+    go : (a : Bool) → ltb m n ≡ a → (b : Bool) → ltb n m ≡ b → is_le (cond a Less (cond b Greater Equal)) ≡ leb m n
+    go true e b f = sym (le-leb m n (omega (arith, ltb-true m n e)))
+    go false e true f = sym (lt-leb m n (ltb-true n m f))
+    go false e false f = sym (le-leb m n (ltb-false n m f))
+
+compared-ℤ : (a b : ℤ) → is_le (int_cmp a b) ≡ le_z a b
+compared-ℤ (pos m) (pos n) = compared m n
+compared-ℤ (pos m) (negsuc n) = refl
+compared-ℤ (negsuc m) (pos n) = refl
+compared-ℤ (negsuc m) (negsuc n) = compared n m
+
+pub order_at_most : (a b : Angle) → is_le (int_cmp a.tenths b.tenths) ≡ at_most a b
+unfolding at_most
+order_at_most a b = compared-ℤ a.tenths b.tenths
 
 -- "exactly if t is the tilt asked"
 pub same-exactly : (a b : Angle) → same_as a b ≡ true ↔ a ≡ b

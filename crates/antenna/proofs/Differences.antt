@@ -1,12 +1,24 @@
 -- Two rows of alarm flags differ somewhere exactly if they are not the same. Assumes nothing.
 use mathlib.Core.Path.{◌≡◌, refl, sym, ap, ◌∙◌}
-use mathlib.Core.Bool.{Bool, true, false}
+use mathlib.Core.Bool.{Bool, true, false, not, beq}
 use mathlib.Core.List.{List, [], ◌∷◌}
 use mathlib.Core.Logic.{◌↔◌}
 use native.Mathlib.Omega.{arith}
 use lib.ListN.{length}
+use lib.Pointwise.{pointwise}
 use Rattle.octets.proofs.Words.{true-not-false}
 use Rattle.antenna.specs.Alarms.{any_differ}
+
+-- the code's test
+pub apart_differ : (f g : List Bool) → length f ≡ length g → not (pointwise beq f g) ≡ any_differ f g
+unfolding any_differ
+apart_differ [] [] h = refl
+apart_differ [] (b ∷ gs) h = absurd (omega arith)
+apart_differ (a ∷ fs) [] h = absurd (omega arith)
+apart_differ (true ∷ fs) (true ∷ gs) h = apart_differ fs gs (omega arith)
+apart_differ (true ∷ fs) (false ∷ gs) h = refl
+apart_differ (false ∷ fs) (true ∷ gs) h = refl
+apart_differ (false ∷ fs) (false ∷ gs) h = apart_differ fs gs (omega arith)
 
 same_none : (f : List Bool) → any_differ f f ≡ false
 unfolding any_differ

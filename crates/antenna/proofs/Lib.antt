@@ -5,7 +5,6 @@ pub mod Awaits
 pub mod Differences
 pub mod Can
 pub mod Codes
-pub mod Flags
 pub mod Happenings
 pub mod Movements
 pub mod Only

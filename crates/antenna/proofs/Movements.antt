@@ -5,6 +5,7 @@ use mathlib.Core.Logic.Iff
 use mathlib.Core.Logic.{◌↔◌}
 use Prim.Native.Nat.{ℕ}
 use borrow.Author.Tests.{not-true, not-false}
+use Rattle.std.specs.Prelude.{None, Some, Ok}
 use Rattle.octets.specs.Octets.{holds}
 use Rattle.octets.proofs.Words.{true-not-false}
 use Rattle.refusal.specs.Answer.{gives, refuses, Clear, numbers_of}
@@ -13,8 +14,6 @@ use Rattle.antenna.specs.declared.Angle.{Angle}
 use Rattle.antenna.specs.declared.Antenna.{Antenna}
 use Rattle.antenna.specs.declared.Motion.{Motion}
 use Rattle.antenna.specs.declared.Motion.TheVariants.{Still, Moving, Owing, Stopped}
-use Rattle.antenna.specs.declared.Waits.TheVariants.{Nothing, Result}
-use Rattle.antenna.specs.declared.Aim.TheVariants.{Started}
 use Rattle.antenna.specs.Angles.{same_as}
 use Rattle.antenna.specs.Motions.{in_range, busy_of, owes_of, waiting_of, unowed_of, moves, drive_rows, aimed_at}
 use Rattle.antenna.specs.Motions.{started, runs}
@@ -44,22 +43,22 @@ module _ (n : Antenna) (t : Angle) where
       Iff.trans (exactly-given _ (moves n (Owing t)) m)
       (λ g. (g.0.0, not-false _ g.0.1.0, g.1), λ w. ((w.0, (ap not w.1, tt)), w.2))
 
-result-same : (a b : Bool) → Result a ≡ Result b → b ≡ a
+result-same : (a b : Bool) → Some a ≡ Some b → b ≡ a
 result-same a b e = cc
 
 -- a result waits after a stop exactly where one was owed for a running movement, or waited before; and it is success
 -- exactly if the stop is at the tilt asked
-pub stop-owing : (asked t : Angle) → waiting_of (rested_of (Owing asked) t) ≡ Result (same_as asked t)
+pub stop-owing : (asked t : Angle) → waiting_of (rested_of (Owing asked) t) ≡ Some (same_as asked t)
 unfolding rested_of waiting_of
 stop-owing asked t = refl
 
-pub stop-reached : (asked t : Angle) → waiting_of (rested_of (Owing asked) t) ≡ Result true ↔ asked ≡ t
+pub stop-reached : (asked t : Angle) → waiting_of (rested_of (Owing asked) t) ≡ Some true ↔ asked ≡ t
 stop-reached asked t = (
   λ e. (same-exactly asked t).0 (result-same true (same_as asked t) (sym e ∙ stop-owing asked t)),
-  λ e. stop-owing asked t ∙ ap Result ((same-exactly asked t).1 e),
+  λ e. stop-owing asked t ∙ ap Some ((same-exactly asked t).1 e),
 )
 
-pub stop-moving : (t : Angle) → waiting_of (rested_of Moving t) ≡ Nothing
+pub stop-moving : (t : Angle) → waiting_of (rested_of Moving t) ≡ None
 unfolding rested_of waiting_of
 stop-moving t = refl
 
@@ -95,16 +94,16 @@ idle Moving e = absurd (true-not-false e)
 idle (Owing asked) e = absurd (true-not-false e)
 idle (Stopped reached) e = absurd (true-not-false e)
 
-nothing-not-result : (r : Bool) → Nothing ≡ Result r → ⊥
+nothing-not-result : (r : Bool) → None ≡ Some r → ⊥
 nothing-not-result r e = true-not-false (cc)
 
 -- a movement that starts makes no result that waits
-pub starts-no-result : (n : Antenna) (t : Angle) (r : Bool) → waiting_of (started n t Started).motion ≡ Result r → ⊥
+pub starts-no-result : (n : Antenna) (t : Angle) (r : Bool) → waiting_of (started n t (Ok tt)).motion ≡ Some r → ⊥
 unfolding started moves waiting_of
 starts-no-result n t r e = nothing-not-result r e
 
 -- a result waits after a stop exactly where the movement owed one: success exactly if the stop is at the tilt asked
-pub stop-result : (m : Motion) (t : Angle) (r : Bool) → runs m ≡ true → waiting_of (rested_of m t) ≡ Result r
+pub stop-result : (m : Motion) (t : Angle) (r : Bool) → runs m ≡ true → waiting_of (rested_of m t) ≡ Some r
     → (asked : Angle) × (m ≡ Owing asked) × (r ≡ same_as asked t)
 unfolding rested_of waiting_of
 stop-result Still t r h e = absurd (true-not-false (sym h))
@@ -117,7 +116,7 @@ pub alarm-no-result : (n : Antenna) (k : ℕ) (on : Bool) → waiting_of (with_a
 unfolding with_alarm
 alarm-no-result n k on = refl
 
-pub end-no-result : (m : Motion) → waiting_of (unowed_of m) ≡ Nothing
+pub end-no-result : (m : Motion) → waiting_of (unowed_of m) ≡ None
 unfolding waiting_of
 end-no-result Still = refl
 end-no-result Moving = refl

@@ -4,11 +4,11 @@
 #![tactic(auto)]
 
 ghost use Rattle.std.specs.Prelude.{◌≡◌};
-ghost use Rattle.antenna.specs.Alarms.{differs, any_differ};
+ghost use Rattle.antenna.specs.Alarms.{any_differ};
 ghost use Rattle.antenna.specs.Motions.{busy_of};
 
 // Tenths of a degree.
-#[derive(Clone, Copy)]
+#[derive(Clone, Copy, PartialEq, Eq, PartialOrd, Ord)]
 pub struct Angle {
     pub tenths: i16,
 }
@@ -48,56 +48,24 @@ pub struct Antenna {
     pub drive: Drive,
 }
 
-// What becomes of a tilt that is asked.
-#[derive(Clone, Copy)]
-pub enum Aim {
+// Why a tilt that is asked starts no movement.
+#[derive(Clone, Copy, PartialEq, Eq)]
+pub enum Unaimed {
     Busy,
     Outside,
-    Started,
-}
-
-// A result that waits: whether the tilt asked was reached.
-#[derive(Clone, Copy)]
-pub enum Waits {
-    Nothing,
-    Result { reached: bool },
-}
-
-// An antenna after a tilt was asked.
-#[derive(Clone, Copy)]
-pub struct Aimed {
-    pub aim: Aim,
-    pub antenna: Antenna,
 }
 
 // Whether something moves or waits.
 pub fn busy(motion: Motion) -> bool
     ensures { result ≡ busy_of motion }
 {
-    match motion {
-        Motion::Still => false,
-        Motion::Moving => true,
-        Motion::Owing { asked: _ } => true,
-        Motion::Stopped { reached: _ } => true,
-    }
-}
-
-fn differs(a: bool, b: bool) -> bool
-    ensures { result ≡ differs a b }
-{
-    if a { !b } else { b }
+    !matches!(motion, Motion::Still)
 }
 
 // Whether two rows of alarm flags differ somewhere.
+#[tactic(auto, using(crate::proofs::Differences::apart_differ))]
 pub fn differ(a: [bool; 6], b: [bool; 6]) -> bool
     ensures { result ≡ any_differ a b }
 {
-    let mut i = 0;
-    while i < 6 {
-        if differs(a[i], b[i]) {
-            return true;
-        }
-        i += 1;
-    }
-    false
+    a != b
 }

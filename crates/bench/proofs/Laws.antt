@@ -21,7 +21,7 @@ use Rattle.limits.specs.Limits.{limit_least}
 use Rattle.frame.specs.Decode.{decoded}
 use Rattle.frame.specs.Write.{written}
 use Rattle.receiver.specs.declared.Received.{Received}
-use Rattle.receiver.specs.Held.{Held, held_of}
+use Rattle.receiver.specs.Held.{Held}
 use Rattle.receiver.specs.Call.{received, held_by, Receives}
 use Rattle.identity.specs.Identity.{allowed_identity}
 use Rattle.record.specs.declared.Device.{Device}
@@ -236,8 +236,8 @@ unfolding lent_of
 lent-room room h = omega (arith, h, length-take {A = ℕ} room (replicate 600 0xA5))
 
 -- "the octets are lent to the receiver, with .. an output of ROOM octets"
-pub ear-held : (h : Held) (a : Asked) {os o o' m : List ℕ} {r : Received} → os ≡ hex_in a → o ≡ lent_of (value_in a 3)
-    → Receives (received (value_in a 1) h os (length o)) h o r m o' → held_of r.receiver m ≡ held_by (ear_call h a) h
+pub ear-held : (h : Held) (a : Asked) {os o o' : List ℕ} {g : Held} {r : Result Received Refusal} → os ≡ hex_in a → o ≡ lent_of (value_in a 3)
+    → Receives (received (value_in a 1) h os (length o)) h o r g o' → g ≡ held_by (ear_call h a) h
 unfolding ear_call
 ear-held h a e f t =
     t.held ∙ ap₂ (λ (os o : List ℕ). held_by (received (value_in a 1) h os (length o)) h) e f

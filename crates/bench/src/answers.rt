@@ -7,7 +7,7 @@ ghost use Rattle.bench.specs.Written.{digit_of, hex_row};
 use crate::rows;
 use antenna::Angle;
 use refusal::Refusal;
-use std::io::{Result, Stdout};
+use std::io::{self, Stdout};
 use terms::Term;
 
 // The longest lent output, and the octet that it is filled with.
@@ -20,7 +20,7 @@ const LONGEST: usize = 1201;
 
 // ---- words, numbers, octets
 
-pub fn say_octets(out: Stdout, s: &[u8]) -> Result<()> {
+pub fn say_octets(out: Stdout, s: &[u8]) -> io::Result<()> {
     out.write_all(s)
 }
 
@@ -31,18 +31,18 @@ fn letters(name: &[u8]) -> &[u8]
     octets::part(name, 0, octets::find(b'.', name))
 }
 
-pub fn say(out: Stdout, term: Term) -> Result<()> {
+pub fn say(out: Stdout, term: Term) -> io::Result<()> {
     let name = terms::word(term);
     say_octets(out, letters(&name))
 }
 
-pub fn say_number(out: Stdout, mark: u8, number: usize) -> Result<()> {
+pub fn say_number(out: Stdout, mark: u8, number: usize) -> io::Result<()> {
     say_octets(out, &[mark])?;
     out.print(number)
 }
 
 // A tilt's pattern of 16 bits stands in the answer to get tilt. One with the first bit set is negative.
-pub fn say_tilt(out: Stdout, mark: u8, tilt: Angle) -> Result<()> {
+pub fn say_tilt(out: Stdout, mark: u8, tilt: Angle) -> io::Result<()> {
     let told = tilt::tilt(tilt);
     let pattern = octets::pair(told.octets[4], told.octets[5]) as usize;
     if pattern < 32768 {
@@ -80,7 +80,7 @@ fn in_hex(mark: u8, s: &[u8]) -> [u8; LONGEST]
 }
 
 // Octets in HEX, `-` where there are none.
-pub fn say_hex(out: Stdout, mark: u8, s: &[u8]) -> Result<()> {
+pub fn say_hex(out: Stdout, mark: u8, s: &[u8]) -> io::Result<()> {
     let row = in_hex(mark, s);
     let n = s.len();
     if n == 0 {
@@ -94,11 +94,11 @@ pub fn say_hex(out: Stdout, mark: u8, s: &[u8]) -> Result<()> {
 
 // ---- what stands behind the word of several commands
 
-pub fn say_refusal(out: Stdout, refusal: Refusal) -> Result<()> {
+pub fn say_refusal(out: Stdout, refusal: Refusal) -> io::Result<()> {
     say_number(out, b' ', refusal::number(refusal) as usize)
 }
 
-pub fn say_outcome(out: Stdout, outcome: std::result::Result<(), Refusal>) -> Result<()> {
+pub fn say_outcome(out: Stdout, outcome: Result<(), Refusal>) -> io::Result<()> {
     if let Err(refusal) = outcome {
         return say_refusal(out, refusal);
     }
@@ -106,7 +106,7 @@ pub fn say_outcome(out: Stdout, outcome: std::result::Result<(), Refusal>) -> Re
 }
 
 // Octets that were handed out, or why not.
-pub fn say_handed(out: Stdout, handed: std::result::Result<usize, Refusal>) -> Result<()> {
+pub fn say_handed(out: Stdout, handed: Result<usize, Refusal>) -> io::Result<()> {
     match handed {
         Ok(n) => say_number(out, b' ', n),
         Err(refusal) => say_refusal(out, refusal),
@@ -114,17 +114,17 @@ pub fn say_handed(out: Stdout, handed: std::result::Result<usize, Refusal>) -> R
 }
 
 // The whole of a lent output.
-pub fn say_buffer(out: Stdout, lent: [u8; ROOM], room: usize) -> Result<()> {
+pub fn say_buffer(out: Stdout, lent: [u8; ROOM], room: usize) -> io::Result<()> {
     say_hex(out, b' ', octets::part(&lent, 0, room))
 }
 
 // A device's answer.
 pub fn say_said(
     out: Stdout,
-    said: std::result::Result<Option<usize>, Refusal>,
+    said: Result<Option<usize>, Refusal>,
     lent: [u8; ROOM],
     room: usize,
-) -> Result<()> {
+) -> io::Result<()> {
     match said {
         Ok(None) => {}
         Ok(Some(n)) => say_number(out, b' ', n)?,

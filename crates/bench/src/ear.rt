@@ -5,9 +5,10 @@ ghost use Rattle.bench.specs.Bench.{ear_of, fresh_ear, ear_call, ear_after};
 
 use crate::answers::{FILL, ROOM};
 use crate::{answers, rows};
-use receiver::{Heard, PLACES, Receiver};
+use receiver::{PLACES, Received, Receiver};
+use refusal::Refusal;
 use script::Asked;
-use std::io::{Result, Stdout};
+use std::io::{self, Stdout};
 use terms::Term;
 
 // The receiver's record, and the store that a call lends it.
@@ -28,25 +29,24 @@ pub fn fresh() -> Ear
 }
 
 // How many octets were taken stands in front of what was handed out.
-fn say_taken(out: Stdout, taken: usize) -> Result<()> {
+fn say_taken(out: Stdout, taken: usize) -> io::Result<()> {
     answers::say(out, Term::Took)?;
     answers::say_number(out, b' ', taken)?;
     answers::say_octets(out, b" ")
 }
 
 // What a call told; one that is refused took nothing.
-fn say_heard(out: Stdout, heard: Heard, taken: usize) -> Result<()> {
+fn say_heard(out: Stdout, heard: Result<Received, Refusal>) -> io::Result<()> {
     match heard {
-        Heard::Nothing => {
-            say_taken(out, taken)?;
-            answers::say(out, Term::Heard(heard))
-        }
-        Heard::HandedOut(handed) => {
-            say_taken(out, taken)?;
+        Ok(received) => {
+            say_taken(out, received.taken)?;
             answers::say(out, Term::Heard(heard))?;
-            answers::say_handed(out, handed)
+            match received.handed {
+                None => Ok(()),
+                Some(handed) => answers::say_handed(out, handed),
+            }
         }
-        Heard::Refused(refusal) => {
+        Err(refusal) => {
             answers::say(out, Term::Heard(heard))?;
             answers::say_refusal(out, refusal)
         }
@@ -54,31 +54,29 @@ fn say_heard(out: Stdout, heard: Heard, taken: usize) -> Result<()> {
 }
 
 // One call; octets that it did not take are forgotten.
-fn call(out: Stdout, ear: Ear, asked: Asked) -> Result<Ear>
+fn call(out: Stdout, ear: Ear, asked: Asked) -> io::Result<Ear>
     ensures { IfOk result (λ after. ear_of after ≡ held_by (ear_call (ear_of ear) asked) (ear_of ear)) }
 {
-    let receiver = ear.receiver;
+    let mut receiver = ear.receiver;
     let mut store = ear.store;
     let values = asked.values;
     let room = values[3];
     let mut lent = [FILL; ROOM];
     let run = octets::part(&asked.octets, 0, asked.len as usize);
-    let received = receiver::receive(
-        receiver,
+    let heard = receiver::receive(
+        &mut receiver,
         values[1],
         run,
         &mut store,
         rows::front(&mut lent, room),
     );
-    let heard = received.heard;
-    let receiver = received.receiver;
-    say_heard(out, heard, received.taken)?;
+    say_heard(out, heard)?;
     answers::say_buffer(out, lent, room)?;
     Ok(Ear { receiver, store })
 }
 
 // Any other command leaves the receiver alone.
-pub fn hear(out: Stdout, ear: Ear, command: usize, asked: Asked) -> Result<Ear>
+pub fn hear(out: Stdout, ear: Ear, command: usize, asked: Asked) -> io::Result<Ear>
     ensures { IfOk result (λ after. ear_of after ≡ ear_after command (ear_of ear) asked) }
 {
     if command == script::LISTEN {

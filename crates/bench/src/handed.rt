@@ -9,7 +9,7 @@ use crate::{answers, rows};
 use refusal::Refusal;
 use scan::Scan;
 use script::Asked;
-use std::io::{Result, Stdout};
+use std::io::{self, Stdout};
 use terms::Term;
 
 fn is_decode(command: usize) -> bool
@@ -73,7 +73,7 @@ fn handed_by(
 }
 
 // The word for what was handed out, and the whole of the lent output.
-fn hand_out(out: Stdout, scan: Scan, command: usize, asked: Asked, room: usize) -> Result<()> {
+fn hand_out(out: Stdout, scan: Scan, command: usize, asked: Asked, room: usize) -> io::Result<()> {
     let mut lent = [FILL; ROOM];
     let handed = handed_by(scan, command, asked, rows::front(&mut lent, room));
     answers::say(out, Term::Handed { command, handed })?;
@@ -96,7 +96,7 @@ fn room_at(command: usize) -> usize
 }
 
 // Any other command hands out nothing.
-pub fn obey(out: Stdout, scan: Scan, command: usize, asked: Asked) -> Result<()> {
+pub fn obey(out: Stdout, scan: Scan, command: usize, asked: Asked) -> io::Result<()> {
     let values = asked.values;
     let at = room_at(command);
     if at == 0 {

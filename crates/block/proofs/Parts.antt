@@ -1,30 +1,21 @@
 -- Octets that fill a part of the block, and what the parts make of the whole. Assumes nothing.
 use mathlib.Core.Path.{◌≡◌, sym, ap, ap₂, ◌∙◌}
-use mathlib.Core.Bool.{true, false}
+use Rattle.std.proofs.Common.{Ok, Err}
 use mathlib.Core.List.{List, ◌++◌, append-nil}
 use Prim.Native.Nat.{ℕ, ◌-◌}
 use native.Mathlib.Omega.{arith}
 use borrow.Rule.Slice.PartMut.{put_mid}
 use lib.ListN.{length, take, drop, drop_of_length-le, length-append, length-drop, take-append-drop}
-use lib.Seq.{sets, take-append_seam, drop-append_seam}
-use Rattle.octets.specs.Octets.{◌at_start_of◌}
-use Rattle.octets.proofs.Stores.{sets-start}
+use lib.Seq.{take-append_seam, drop-append_seam}
 use Rattle.octets.proofs.Takes.{take_rest}
-use Rattle.octets.proofs.Words.{true-not-false}
 use Rattle.refusal.specs.Answer.{Answer, gives, refuses}
+use Rattle.refusal.specs.declared.Refusal.{Refusal}
+use Rattle.refusal.proofs.Answers.{gives-not-refuses}
 use Rattle.receiver.specs.declared.Receiver.{Receiver}
 use Rattle.receiver.specs.declared.Received.{Received}
 use Rattle.receiver.specs.Held.{Held, held_of, places}
 use Rattle.receiver.specs.Call.{Took, heard_of, told_by, held_by, Receives}
-use Rattle.block.specs.Block.{block_size, marks_in, marks_octets, refused_call, held_in, block_after, Blocks}
-
--- as many octets as there are places
-pub sets-whole : (b o : List ℕ) → length b ≡ length o → sets o 0 b ≡ b
-unfolding ◌at_start_of◌
-sets-whole b o e =
-    sets-start b o (omega arith)
-    ∙ ap (λ (l : List ℕ). b ++ l) (drop_of_length-le o {i = length b} (omega arith))
-    ∙ append-nil b
+use Rattle.block.specs.Block.{block_size, marks_in, marks_octets, held_in, block_after, Blocks}
 
 -- the record that the block holds, as the code lends its parts
 pub held-parts : (b : List ℕ) {r : Receiver} → r ≡ marks_in (take (length b - places) (drop places b))
@@ -45,13 +36,13 @@ rest-filled m d t e =
     (drop_of_length-le d {i = length (m ++ d) - length m} (omega (arith, length-append m d)))
     ∙ ap (λ (l : List ℕ). m ++ l) (append-nil t))
 
-module _ (b : List ℕ) {o o' m : List ℕ} {r : Received} where
+module _ (b : List ℕ) {o o' m : List ℕ} {v : Receiver} where
   -- a refused call leaves the block as it was
-  pub block_refused : (x : Answer Took) → Receives x (held_in b) o r m o' → refused_call (heard_of r.heard) ≡ true
-      → Blocks x b o (record { taken = r.taken; heard = r.heard }) (m ++ drop places b) o'
-  unfolding told_by held_by block_after held_in
-  block_refused (gives t) w e = absurd (true-not-false (sym e ∙ ap refused_call w.answer))
-  block_refused (refuses k) w e =
+  pub block_refused : (x : Answer Took) {k : Refusal} → Receives x (held_in b) o (Err k) (held_of v m) o'
+      → Blocks x b o (Err k) (m ++ drop places b) o'
+  unfolding heard_of told_by held_by block_after held_in
+  block_refused (gives t) w = absurd (gives-not-refuses (sym w.answer))
+  block_refused (refuses k) w =
       record {
         answer = w.answer;
         count = w.count;
@@ -60,13 +51,13 @@ module _ (b : List ℕ) {o o' m : List ℕ} {r : Received} where
       }
 
   -- any other has its record there, octet by octet
-  pub block-taken : (x : Answer Took) → Receives x (held_in b) o r m o' → refused_call (heard_of r.heard) ≡ false
-      → length m ≡ places → {t : List ℕ} → t ≡ marks_octets r.receiver
-      → Blocks x b o (record { taken = r.taken; heard = r.heard })
+  pub block-taken : (x : Answer Took) {r : Received} → Receives x (held_in b) o (Ok r) (held_of v m) o'
+      → length m ≡ places → {t : List ℕ} → t ≡ marks_octets v
+      → Blocks x b o (Ok r)
       (put_mid places (length (m ++ drop places b) - places) (m ++ drop places b) t) o'
-  unfolding told_by held_by block_after
-  block-taken (refuses k) w e n {t} f = absurd (true-not-false (sym (ap refused_call w.answer) ∙ e))
-  block-taken (gives u) w e n {t} f =
+  unfolding heard_of told_by held_by block_after
+  block-taken (refuses k) w n {t} f = absurd (gives-not-refuses w.answer)
+  block-taken (gives u) w n {t} f =
       record {
         answer = w.answer;
         count = w.count;

@@ -4,19 +4,19 @@
 --   yes x            == such an octet is no exactly if 0; yes_octet b == the octet that is written
 --   marks_in t       == the record that the seven octets t behind the store stand for
 --   marks_octets r   == the seven octets that the record r is written as
---   refused_call a   == the answer a is a refusal
 --   held_in b        == the record with its store that the block b holds
 --   block_after x b  == the block after a call with the answer x that had the block b
 --   Blocks x b o r b' o' == the code's answer r, the block b' and the output o', of a call with the block b and the output o,
 --                       are the answer x
 -- Assumes nothing.
-use Rattle.std.specs.Prelude.{◌≡◌, Bool, true, false, cond, not, List, [], ◌∷◌, ◌++◌, ℕ, ◌+◌, eqb, get_or, take, drop}
+use Rattle.std.specs.Prelude.{Result, ◌≡◌, Bool, cond, not, List, [], ◌∷◌, ◌++◌, ℕ, ◌+◌, eqb, get_or, take, drop}
 use Rattle.octets.specs.Octets.{low_of, high_of, pair_of}
 use Rattle.refusal.specs.Answer.{Answer, gives, refuses}
+use Rattle.refusal.specs.declared.Refusal.{Refusal}
 use Rattle.receiver.specs.declared.Receiver.{Receiver}
+use Rattle.receiver.specs.declared.Received.{Received}
 use Rattle.receiver.specs.Held.{Held, held_of, places}
-use Rattle.receiver.specs.Call.{Took, heard_of, told_by, took_by, out_by}
-use Rattle.block.specs.declared.Returned.{Returned}
+use Rattle.receiver.specs.Call.{Took, heard_of, count_of, told_by, took_by, out_by}
 
 abbrev pub marks_size : ℕ
 marks_size = 7
@@ -52,10 +52,6 @@ marks_octets r =
     ∷ yes_octet r.seen
     ∷ []
 
-abbrev pub refused_call : {A : Type 0} → Answer A → Bool
-refused_call (gives a) = false
-refused_call (refuses k) = true
-
 unfoldable pub held_in : List ℕ → Held
 held_in b = held_of (marks_in (drop places b)) (take places b)
 
@@ -65,8 +61,8 @@ block_after (gives t) b = t.held.store ++ marks_octets t.held.marks
 block_after (refuses k) b = b
 
 -- as `Receives` of receiver/specs/Call, with the block for the record
-pub record Blocks (right : Answer Took) (b o : List ℕ) (r : Returned) (b' o' : List ℕ) : Type 0 where
-  pub answer : heard_of r.heard ≡ told_by right
-  pub count : r.taken ≡ took_by right
+pub record Blocks (right : Answer Took) (b o : List ℕ) (r : Result Received Refusal) (b' o' : List ℕ) : Type 0 where
+  pub answer : heard_of r ≡ told_by right
+  pub count : count_of r ≡ took_by right
   pub block : b' ≡ block_after right b
   pub octets : o' ≡ out_by right o

@@ -4,41 +4,25 @@
 #![tactic(auto)]
 
 ghost use Rattle.std.specs.Prelude.{◌≡◌, length};
-ghost use Rattle.receiver.specs.Call.{received, heard_of};
-ghost use Rattle.block.specs.Block.{marks_size, block_size, refused_call, yes_octet, marks_in, marks_octets, held_in, Blocks};
+ghost use Rattle.receiver.specs.Call.{received};
+ghost use Rattle.block.specs.Block.{marks_size, block_size, marks_in, marks_octets, held_in, Blocks};
 
-use receiver::{Heard, PLACES, Receiver};
+use receiver::{PLACES, Received, Receiver};
+use refusal::Refusal;
 
 // The octets behind the store, and those of a whole block.
 const MARKS: usize = 7;
 
 pub const BLOCK: usize = PLACES + MARKS;
 
-// A call's answer: how many octets were taken, and what was handed out.
-#[derive(Clone, Copy)]
-pub struct Returned {
-    pub taken: usize,
-    pub heard: Heard,
-}
-
-// Whether the call is refused.
-fn is_refused(heard: Heard) -> bool
-    ensures { result ≡ refused_call (heard_of heard) }
-{
-    match heard {
-        Heard::Nothing => false,
-        Heard::HandedOut(_) => false,
-        Heard::Refused(_) => true,
-    }
-}
-
 // The record that the octets behind the store stand for.
+#[tactic(auto, unfolding(crate::specs::Block::marks_in))]
 fn marks(t: &[u8]) -> Receiver
     requires { length t.now ≡ marks_size }
     ensures { result ≡ marks_in t.now }
 {
     Receiver {
-        count: octets::pair(t[0], t[1]) as usize,
+        count: usize::from(octets::pair(t[0], t[1])),
         more: t[2] != 0,
         escaping: t[3] != 0,
         last: t[4] != 0,
@@ -47,47 +31,49 @@ fn marks(t: &[u8]) -> Receiver
     }
 }
 
-// The octet of a yes or a no.
-fn yes_octet(b: bool) -> u8
-    ensures { result ≡ yes_octet b }
-{
-    if b { 1 } else { 0 }
-}
-
 // Writes a record there.
+#[tactic(auto, unfolding(crate::specs::Block::marks_octets))]
 fn put_marks(receiver: Receiver, t: &mut [u8])
     requires { length t.old ≡ marks_size }
     ensures { t.new ≡ marks_octets receiver }
 {
-    t[0] = (receiver.count % 256) as u8;
-    t[1] = (receiver.count / 256 % 256) as u8;
-    t[2] = yes_octet(receiver.more);
-    t[3] = yes_octet(receiver.escaping);
-    t[4] = yes_octet(receiver.last);
-    t[5] = yes_octet(receiver.any);
-    t[6] = yes_octet(receiver.seen);
+    let [low, high, ..] = receiver.count.to_le_bytes();
+    t.copy_from_slice(&[
+        low,
+        high,
+        u8::from(receiver.more),
+        u8::from(receiver.escaping),
+        u8::from(receiver.last),
+        u8::from(receiver.any),
+        u8::from(receiver.seen),
+    ]);
 }
 
 // The call, with the block as a slice, of which parts can be lent.
-fn receive_by(block: &mut [u8], limit: usize, run: &[u8], out: &mut [u8]) -> Returned
+fn receive_by(
+    block: &mut [u8],
+    limit: usize,
+    run: &[u8],
+    out: &mut [u8],
+) -> Result<Received, Refusal>
     requires { length block.old ≡ block_size }
     ensures { Blocks (received limit (held_in block.old) run.now (length out.old))
         block.old out.old result block.new out.new }
 {
     let at = PLACES;
-    let before = marks(&block[at..]);
-    let received = receiver::receive_in(before, limit, run, &mut block[..at], out);
-    let taken = received.taken;
-    let heard = received.heard;
-    if is_refused(heard) {
-        return Returned { taken, heard };
-    }
-    put_marks(received.receiver, &mut block[at..]);
-    Returned { taken, heard }
+    let mut held = marks(&block[at..]);
+    let received = receiver::receive_in(&mut held, limit, run, &mut block[..at], out)?;
+    put_marks(held, &mut block[at..]);
+    Ok(received)
 }
 
 // Octets received: as `receiver::receive`, with the record in `block`.
-pub fn receive(block: &mut [u8; BLOCK], limit: usize, run: &[u8], out: &mut [u8]) -> Returned
+pub fn receive(
+    block: &mut [u8; BLOCK],
+    limit: usize,
+    run: &[u8],
+    out: &mut [u8],
+) -> Result<Received, Refusal>
     ensures { Blocks (received limit (held_in block.old) run.now (length out.old))
         block.old out.old result block.new out.new }
 {

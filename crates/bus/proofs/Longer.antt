@@ -29,8 +29,7 @@ use Rattle.record.specs.Allowed.{limit_of, allowed_device}
 use Rattle.record.specs.Changes.{device_of, limited_to}
 use Rattle.record.proofs.Stays.{sound, limit-allowed, limited}
 use Rattle.params.specs.Field.{Param, WellFormed, given}
-use Rattle.negotiation.specs.declared.Offer.TheVariants.{Agreed}
-use Rattle.negotiation.specs.Negotiation.{negotiating, agreed_limit, asked_in, offer_of}
+use Rattle.negotiation.specs.Negotiation.{negotiating, agreed_limit, asked_in, agrees_on, offer_of}
 use Rattle.negotiation.proofs.Exactly.{agreed-least}
 use Rattle.xid_answer.proofs.Agreement.{answer-read}
 use Rattle.link.specs.Link.{has_address, is_own, judged_frame}
@@ -123,7 +122,7 @@ module _ (d : Device) (allowed : allowed_device d ≡ true) (has : has_address d
 
     -- and the master's, whatever M was, where it asked a length
     pub master-reads : (M : ℕ) → Lengthy ps
-        → offer_of M (drop 2 (negotiation_said d.station.desk.address ps agreed)) ≡ Agreed agreed (asked_in ps)
+        → offer_of M (drop 2 (negotiation_said d.station.desk.address ps agreed)) ≡ agrees_on agreed (asked_in ps)
     unfolding asked_in given
     master-reads M long =
         ap (λ (g : List ℕ). offer_of M (drop 2 g)) (sym (negotiation-is d.station.desk.address ps agreed))

@@ -1,6 +1,6 @@
 -- What a promise by `Crosses` is shown from, and what the number tells a caller in C: which answer it is, since no
 -- length reaches the refusals. Assumes nothing.
-use Rattle.std.proofs.Common.{Result, Err}
+use Rattle.std.proofs.Common.{Option, Some, None, Result, Ok, Err}
 use mathlib.Core.Path.{◌≡◌, refl, sym, ap, ◌∙◌}
 use mathlib.Core.List.{List}
 use Prim.Native.Nat.{ℕ, ◌+◌, ◌-◌, ◌<◌, ◌≤◌}
@@ -12,11 +12,9 @@ use Rattle.refusal.specs.Numbers.{number_of}
 use Rattle.refusal.specs.Answer.{Answer, gives, refuses, answer_of, counted, out_after, Hands}
 use Rattle.refusal.specs.declared.Refusal.{Refusal}
 use Rattle.refusal.proofs.Answers.{gives-not-refuses}
-use Rattle.receiver.specs.Call.{Took, heard_of, told_by, took_by}
-use Rattle.receiver.specs.declared.Heard.{Heard}
-use Rattle.receiver.specs.declared.Heard.TheVariants.{Nothing, HandedOut}
+use Rattle.receiver.specs.Call.{Took, handed_of, heard_of, count_of, told_by, took_by}
+use Rattle.receiver.specs.declared.Received.{Received}
 use Rattle.block.specs.Block.{Blocks}
-use Rattle.block.specs.declared.Returned.{Returned}
 use Rattle.capi.specs.Crossing.{refusals, crossed, Crosses, heard_crossed, taken_after, Hears}
 
 pub refusal-crosses : {h : Result ℕ Refusal} {k : Refusal} {n : ℕ}
@@ -48,43 +46,37 @@ module _ {o o' : List ℕ} {r : ℕ} where
   high-told (refuses k) short c h = let e = c.number in (ap refuses (omega arith), c.octets)
 
 -- the code's answer to a call of the receiver, by its cases: nothing was handed out, or something, or the call is refused
-module _ {b o b' o' : List ℕ} {w : Returned} {t : ℕ} where
-  pub hears-none : (x : Answer Took) → Blocks x b o w b' o' → w.heard ≡ Nothing → Hears x b o t 0 b' o' w.taken
-  unfolding heard_crossed heard_of told_by took_by taken_after
+module _ {b o b' o' : List ℕ} {t : ℕ} where
+  pub hears-none : (x : Answer Took) {w : Received} → Blocks x b o (Ok w) b' o' → w.handed ≡ None → Hears x b o t 0 b' o' w.taken
+  unfolding heard_crossed heard_of handed_of count_of told_by took_by taken_after
   hears-none (gives u) c e =
       record {
-        number = ap (λ (h : Heard). heard_crossed (heard_of h)) (sym e) ∙ ap heard_crossed c.answer;
+        number = ap (λ (h : Option (Result ℕ Refusal)). heard_crossed (gives (handed_of h))) (sym e) ∙ ap heard_crossed c.answer;
         block = c.block;
         octets = c.octets;
         taken = c.count;
       }
-  hears-none (refuses k) c e =
-      absurd (gives-not-refuses (ap heard_of (sym e) ∙ c.answer))
+  hears-none (refuses k) c e = absurd (gives-not-refuses c.answer)
 
-  pub hears-handed : (x : Answer Took) {a : Result ℕ Refusal} {r : ℕ} → Blocks x b o w b' o' → w.heard ≡ HandedOut a
+  pub hears-handed : (x : Answer Took) {w : Received} {a : Result ℕ Refusal} {r : ℕ} → Blocks x b o (Ok w) b' o' → w.handed ≡ Some a
       → r ≡ crossed (answer_of a) → Hears x b o t r b' o' w.taken
-  unfolding heard_crossed heard_of told_by took_by taken_after
+  unfolding heard_crossed heard_of handed_of count_of told_by took_by taken_after
   hears-handed (gives u) c e f =
       record {
-        number = f ∙ ap (λ (h : Heard). heard_crossed (heard_of h)) (sym e) ∙ ap heard_crossed c.answer;
+        number = f ∙ ap (λ (h : Option (Result ℕ Refusal)). heard_crossed (gives (handed_of h))) (sym e) ∙ ap heard_crossed c.answer;
         block = c.block;
         octets = c.octets;
         taken = c.count;
       }
-  hears-handed (refuses k) c e f =
-      absurd (gives-not-refuses (ap heard_of (sym e) ∙ c.answer))
+  hears-handed (refuses k) c e f = absurd (gives-not-refuses c.answer)
 
-  pub hears-refused : (x : Answer Took) {k : Refusal} {n : ℕ} → Blocks x b o w b' o' → w.heard ≡ Heard.Refused k
-      → n ≡ number_of k → Hears x b o t (refusals + n) b' o' t
-  unfolding heard_crossed heard_of told_by taken_after
-  hears-refused (gives u) c e f =
-      absurd (gives-not-refuses (sym (ap heard_of (sym e) ∙ c.answer)))
-  hears-refused (refuses k) c e f =
+  pub hears-refused : (x : Answer Took) {k : Refusal} {r : ℕ} → Blocks x b o (Err k) b' o'
+      → r ≡ crossed (answer_of (Err k)) → Hears x b o t r b' o' t
+  unfolding crossed answer_of heard_crossed heard_of told_by taken_after
+  hears-refused (gives u) c f = absurd (gives-not-refuses (sym c.answer))
+  hears-refused (refuses k) c f =
       record {
-        number =
-            ap (λ (m : ℕ). refusals + m) f
-            ∙ ap (λ (h : Heard). heard_crossed (heard_of h)) (sym e)
-            ∙ ap heard_crossed c.answer;
+        number = f ∙ ap heard_crossed c.answer;
         block = c.block;
         octets = c.octets;
         taken = refl;

@@ -18,7 +18,6 @@ ghost use Rattle.capi.specs.Crossing.{crossed, Crosses, Hears};
 
 use block::BLOCK;
 use limits::LIMIT_LEAST;
-use receiver::Heard;
 use refusal::Refusal;
 
 // What a refusal's number is added to.
@@ -96,17 +95,14 @@ pub fn gorittaem_receive(
         block.old out.old taken.old result
         block.new out.new taken.new }
 {
-    let told = block::receive(block, limit, run, out);
-    let heard = told.heard;
-    match heard {
-        Heard::Nothing => {
+    match block::receive(block, limit, run, out) {
+        Ok(told) => {
             *taken = told.taken;
-            0
+            match told.handed {
+                None => 0,
+                Some(answer) => crossing(answer),
+            }
         }
-        Heard::HandedOut(answer) => {
-            *taken = told.taken;
-            crossing(answer)
-        }
-        Heard::Refused(refusal) => REFUSED + refusal::number(refusal) as usize,
+        Err(refusal) => crossing(Err(refusal)),
     }
 }

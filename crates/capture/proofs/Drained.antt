@@ -6,6 +6,7 @@
 --   drained N c s   == what is made of all the octets s
 --   left_list d     == what one call lists
 -- Assumes nothing.
+use Rattle.std.proofs.Common.{Option, Some, None, Result, Ok, Err}
 use mathlib.Core.Path.{◌≡◌, refl, sym, ap, ◌∙◌}
 use mathlib.Core.Bool.{Bool, true, false, cond}
 use mathlib.Core.List.{List, [], ◌∷◌, ◌++◌, append_assoc, append-nil}
@@ -16,21 +17,21 @@ use lib.ListN.{length, take, drop, take-append-drop}
 use lib.Seq.{drop-append-le}
 use Rattle.octets.specs.Octets.{◌at_start_of◌}
 use Rattle.octets.proofs.Stores.{take-start}
+use Rattle.refusal.specs.declared.Refusal.{Refusal}
 use Rattle.refusal.specs.Answer.{Answer, gives, refuses}
 use Rattle.refusal.proofs.Answers.{gives-not-refuses, gives_same}
 use Rattle.frame.specs.Line.{flag}
 use Rattle.receiver.proofs.After.{by-test}
-use Rattle.salvage.specs.Holding.{Holding, holding_of, Workable, with_octet, verdict_of}
+use Rattle.salvage.specs.Holding.{Holding, Workable, with_octet, verdict_of}
 use Rattle.salvage.specs.Holding.{past_flag, behind_flag_in, closed_by, kept_octets}
 use Rattle.salvage.specs.Work.{Dropping, no_stretch, a_stretch, stretch_of, Progress, in_front, at_flag, works, salvaged}
-use Rattle.salvage.specs.Work.{listing_of, left_by, taken_by, wrote_by, holding_by, Salvages}
+use Rattle.salvage.specs.Work.{dropping_of, listing_of, taken_of, written_of, left_by, taken_by, wrote_by, holding_by, Salvages}
 use Rattle.salvage.specs.declared.Stretch.{Stretch}
 use Rattle.salvage.specs.declared.Verdict.{Verdict}
 use Rattle.salvage.specs.declared.Verdict.TheVariants.{Still, Empty, Kept, Dropped}
-use Rattle.salvage.specs.declared.Listing.{Listing}
-use Rattle.salvage.specs.declared.Listing.TheVariants.{Nothing, LeftOut, Refused}
+use Rattle.salvage.specs.declared.Salvaged.{Salvaged}
 use Rattle.salvage.proofs.Going.{verdict-over, octet-workable, past-workable, behind-workable}
-use Rattle.capture.specs.Turns.{Turn, read_listing, Sifted, with_sifted, sifted, Allowed}
+use Rattle.capture.specs.Turns.{Turn, out_listed, read_listing, Sifted, with_sifted, sifted, Allowed}
 use Rattle.capture.proofs.Numbers.{salvage-given}
 
 pub record Drained : Type 0 where
@@ -151,17 +152,20 @@ module _ (N : ℕ) where
       (λ e. (flag-count (verdict_of N c) c _ (length xs) (verdict-over N c) less).0) (λ e. omega arith)
 
 -- a caller reads what a call lists, and nothing where it is refused
-pub listing-given : (q : Listing) (d : Dropping) → listing_of q ≡ gives d → read_listing q ≡ left_list d
-unfolding listing_of read_listing left_list
-listing-given Nothing d e = rw (← gives_same e)
-listing-given (LeftOut s) d e = rw (← gives_same e)
-listing-given (Refused r) d e = absurd (gives-not-refuses (sym e))
+pub out-given : (q : Option Stretch) (d : Dropping) → dropping_of q ≡ d → out_listed q ≡ left_list d
+unfolding dropping_of out_listed left_list
+out-given None d e = rw (← e)
+out-given (Some s) d e = rw (← e)
 
-listing-refused : (q : Listing) (k : ℕ) → listing_of q ≡ refuses k → read_listing q ≡ []
+listing-given : (r : Result Salvaged Refusal) (d : Dropping) → listing_of r ≡ gives d → read_listing r ≡ left_list d
 unfolding listing_of read_listing
-listing-refused Nothing k e = absurd (gives-not-refuses e)
-listing-refused (LeftOut s) k e = absurd (gives-not-refuses e)
-listing-refused (Refused r) k e = refl
+listing-given (Ok r) d e = out-given r.left_out d (gives_same e)
+listing-given (Err k) d e = absurd (gives-not-refuses (sym e))
+
+listing-refused : (r : Result Salvaged Refusal) (k : ℕ) → listing_of r ≡ refuses k → read_listing r ≡ []
+unfolding listing_of read_listing
+listing-refused (Ok r) k e = absurd (gives-not-refuses e)
+listing-refused (Err j) k e = refl
 
 -- what a caller reads at the start of its output
 written_read : (b o after : List ℕ) (n : ℕ) → n ≡ length b → after ≡ b at_start_of o → take n after ≡ b
@@ -183,22 +187,22 @@ module _ (N : ℕ) where
   -- one turn: what is read of it, and the octets that it leaves
   turn-drained : (c : Holding) (s : List ℕ) (t : Turn) (x : Answer Progress)
       → salvaged N c (take t.octets s) (length t.output) ≡ x
-      → Salvages x c t.output t.answer t.store t.raw t.after
+      → Salvages x c t.output t.answer t.holding t.after
       → drained N c s
-      ≡ before (take t.answer.written t.after) (read_listing t.answer.listing)
-      (drained N (holding_of t.answer.salvage t.store t.raw) (drop t.answer.taken s))
+      ≡ before (take (written_of t.answer) t.after) (read_listing t.answer)
+      (drained N t.holding (drop (taken_of t.answer) s))
   unfolding left_by taken_by wrote_by holding_by before
   turn-drained c s t (gives u) e w =
       rw (
         written_read u.written t.output t.after _ w.written w.octets,
-        listing-given t.answer.listing u.left w.answer,
+        listing-given t.answer u.left w.answer,
         w.holding,
         w.count,
       ) (call-drained c s t.octets u (salvage-given N c (take t.octets s) (length t.output) e))
   turn-drained c s t (refuses k) e w =
       rw (
         written_read [] t.output t.after _ w.written w.octets,
-        listing-refused t.answer.listing k w.answer,
+        listing-refused t.answer k w.answer,
         w.holding,
         w.count,
       )
@@ -211,13 +215,12 @@ module _ (N : ℕ) where
   unfolding sifted Allowed with_sifted before
   sifted-drained c s [] all = refl
   sifted-drained c s (t ∷ ts) all =
-      let d : Holding = holding_of t.answer.salvage t.store t.raw in
-      let rest : List ℕ = drop t.answer.taken s in
-      let ws : List ℕ = take t.answer.written t.after in
-      let es : List Stretch = read_listing t.answer.listing in
+      let rest : List ℕ = drop (taken_of t.answer) s in
+      let ws : List ℕ = take (written_of t.answer) t.after in
+      let es : List Stretch = read_listing t.answer in
       turn-drained c s t (salvaged N c (take t.octets s) (length t.output)) refl all.0
-      ∙ ap (before ws es) (sifted-drained d rest ts all.1)
-      ∙ before-twice ws (sifted d rest ts).written es (sifted d rest ts).listed _
+      ∙ ap (before ws es) (sifted-drained t.holding rest ts all.1)
+      ∙ before-twice ws (sifted t.holding rest ts).written es (sifted t.holding rest ts).listed _
 
   -- turns that leave nothing: all octets, one by one
   pub all-drained : (c : Holding) (s : List ℕ) (ts : List Turn) → Allowed N c s ts → (sifted c s ts).left ≡ []

@@ -5,6 +5,7 @@
 --   Through N c s qs n == the octets s from the record c on, and the last call behind them, make of the pieces qs what the
 --                       definition says, and end at the place n
 -- Assumes nothing.
+use Rattle.std.proofs.Common.{Option, Result, Ok, Err}
 use mathlib.Core.Path.{◌≡◌, refl, sym, ap, ap₂, ◌∙◌}
 use mathlib.Core.Bool.{Bool, true, false, cond}
 use mathlib.Core.List.{List, [], ◌∷◌, ◌++◌, append_assoc, append-nil}
@@ -12,8 +13,9 @@ use Prim.Native.Nat.{ℕ, suc, ◌+◌, ◌^◌, ◌<◌, ◌≤◌}
 use native.Mathlib.Omega.{arith}
 use lib.Dec.{eqb}
 use lib.ListN.{length, take, length-append}
+use Rattle.refusal.specs.declared.Refusal.{Refusal}
 use Rattle.refusal.specs.Answer.{Answer, gives, refuses}
-use Rattle.refusal.proofs.Answers.{gives-not-refuses}
+use Rattle.refusal.proofs.Answers.{gives_same, gives-not-refuses}
 use Rattle.limits.specs.Limits.{is_limit, frame_most}
 use Rattle.frame.specs.Line.{flag}
 use Rattle.frame.specs.Decode.{decoded}
@@ -25,17 +27,16 @@ use Rattle.salvage.specs.Capture.{kept_pieces, entry, listed, flag_behind, good_
 use Rattle.salvage.specs.Holding.{Holding, receiver_in, raw_most, Workable, add64, with_octet, said_verdict, verdict_of}
 use Rattle.salvage.specs.Holding.{tallied, flag_counted, past_flag, kept_octets, first_flag, stretch_over, onward_from}
 use Rattle.salvage.specs.Work.{stretch_of, works, spare_most, salvaged, AtEnd, end_verdict, end_left, emptied, at_end}
-use Rattle.salvage.specs.Work.{finished, end_listing, end_salvage, Finishes}
+use Rattle.salvage.specs.Work.{Dropping, ending_of, finished, end_listing, end_salvage, Finishes}
 use Rattle.salvage.specs.declared.Totals.{Totals}
 use Rattle.salvage.specs.declared.Salvage.{Salvage}
 use Rattle.salvage.specs.declared.Stretch.{Stretch}
-use Rattle.salvage.specs.declared.Finished.{Finished}
 use Rattle.salvage.specs.declared.Verdict.{Verdict}
 use Rattle.salvage.specs.declared.Verdict.TheVariants.{Still, Empty, Kept, Dropped}
-use Rattle.capture.specs.Turns.{fresh_holding, Turn, read_listing, sifted, Allowed}
+use Rattle.capture.specs.Turns.{fresh_holding, Turn, end_listed, sifted, Allowed}
 use Rattle.capture.proofs.Numbers.{salvage-done, finish-done}
 use Rattle.capture.proofs.Drained.{Drained, kept_by, entries_by, before, drained, drained-flag, drained-other}
-use Rattle.capture.proofs.Drained.{drained-workable, left_list, works-within, works-some, listing-given}
+use Rattle.capture.proofs.Drained.{drained-workable, left_list, works-within, works-some, out-given}
 use Rattle.capture.proofs.Drained.{all-drained}
 use Rattle.capture.proofs.Opened.{add64-small, read_held, Opens, opens-more, all_held, verdict_for}
 use Rattle.capture.proofs.Opened.{verdict-never-still, begun_after, next, closed-next, opens-next, holds-next}
@@ -279,35 +280,40 @@ module _ (N : ℕ) (l : is_limit N ≡ true) where
       (record { long = refl; offset = refl; held = refl; octets = refl; raw = raw }) (omega arith) (omega arith))
 
 -- the last call: what a caller reads, and the record after it
-finish-read : (v : Salvage) (e : Finished) → v.receiver.count ≤ 260 → v.stretch.held ≤ raw_most
-    → Finishes (finished v) v e
-    → (read_listing e.listing ≡ left_list (at_end v).left) × (e.salvage ≡ (at_end v).salvage)
+ending-given : (r : Result (Option Stretch) Refusal) (d : Dropping) → ending_of r ≡ gives d → end_listed r ≡ left_list d
+unfolding ending_of end_listed
+ending-given (Ok q) d e = out-given q d (gives_same e)
+ending-given (Err k) d e = absurd (gives-not-refuses (sym e))
+
+finish-read : (v : Salvage) (e : Result (Option Stretch) Refusal) (u : Salvage) → v.receiver.count ≤ 260 → v.stretch.held ≤ raw_most
+    → Finishes (finished v) v e u
+    → (end_listed e ≡ left_list (at_end v).left) × (u ≡ (at_end v).salvage)
 unfolding end_listing end_salvage
-finish-read v e few held w =
+finish-read v e u few held w =
     let g = finish-done v few held in (
-      listing-given e.listing (at_end v).left (w.answer ∙ ap end_listing g),
+      ending-given e (at_end v).left (w.answer ∙ ap end_listing g),
       w.salvage ∙ ap (λ (x : Answer AtEnd). end_salvage x v) g,
     )
 
 -- whatever answers the promise allows, in whatever cuts, also with refused calls among them
 pub salvage-is : (N : ℕ) → is_limit N ≡ true → (m w s : List ℕ) → length m ≡ places → length w ≡ raw_most
     → length s < 2 ^ 64 → (ts : List Turn) → Allowed N (fresh_holding m w) s ts
-    → (sifted (fresh_holding m w) s ts).left ≡ [] → (e : Finished)
+    → (sifted (fresh_holding m w) s ts).left ≡ [] → (e : Result (Option Stretch) Refusal) (u : Salvage)
     → Finishes (finished (sifted (fresh_holding m w) s ts).holding.salvage)
-    (sifted (fresh_holding m w) s ts).holding.salvage e
+    (sifted (fresh_holding m w) s ts).holding.salvage e u
     → ((sifted (fresh_holding m w) s ts).written ≡ good_of (kept_pieces (pieces_in N s)))
-    × ((sifted (fresh_holding m w) s ts).listed ++ read_listing e.listing ≡ listed (pieces_in N s))
-    × (e.salvage.totals ≡ totals_of N s)
-    × (e.salvage.stretch.offset ≡ length s)
+    × ((sifted (fresh_holding m w) s ts).listed ++ end_listed e ≡ listed (pieces_in N s))
+    × (u.totals ≡ totals_of N s)
+    × (u.stretch.offset ≡ length s)
 unfolding good_from
-salvage-is N l m w s store raw small ts all none e ends =
+salvage-is N l m w s store raw small ts all none e u ends =
     let c : Holding = fresh_holding m w in
     let through = through-fresh N l m w s store raw small in
     let same = all-drained N c s ts all none in
     let held : Holding = (sifted c s ts).holding in
     let workable : Workable held =
     rw (ap (λ (d : Drained). d.holding) same) at (drained-workable N c s ((store, omega arith), raw, omega arith)) in
-    let last = finish-read held.salvage e workable.0.1 workable.2 ends in (
+    let last = finish-read held.salvage e u workable.0.1 workable.2 ends in (
       rw same at through.written,
       rw last.0 (rw same at through.list),
       rw last.1 ((rw same at through.totals) ∙ summed-all N s),

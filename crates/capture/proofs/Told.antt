@@ -1,4 +1,5 @@
 -- What one call tells a caller, for any record, any number for the frame limit and any run. Assumes nothing.
+use Rattle.std.proofs.Common.{Option, Some, None, Result, Ok, Err}
 use mathlib.Core.Path.{◌≡◌, refl, sym, ap, ◌∙◌}
 use mathlib.Core.Bool.{false}
 use mathlib.Core.List.{List, [], ◌∷◌}
@@ -10,24 +11,22 @@ use lib.ListN.{length, get_or}
 use Rattle.octets.specs.Octets.{holds, ◌at_start_of◌}
 use Rattle.octets.proofs.Words.{holds-head, holds-tail}
 use Rattle.octets.proofs.Stores.{take-start}
+use Rattle.refusal.specs.declared.Refusal.{Refusal}
 use Rattle.refusal.specs.Answer.{Answer, gives, refuses}
 use Rattle.refusal.proofs.Answers.{gives_same, gives-not-refuses, refuses-same}
 use Rattle.frame.specs.Line.{flag}
 use Rattle.receiver.proofs.After.{by-test}
-use Rattle.salvage.specs.Holding.{Holding, holding_of, raw_most, add64, with_octet, verdict_of, closed_by, behind_flag, behind_flag_in}
+use Rattle.salvage.specs.Holding.{Holding, raw_most, add64, with_octet, verdict_of, closed_by, behind_flag, behind_flag_in}
 use Rattle.salvage.specs.Holding.{stretch_over, onward_from, past_flag, tallied}
-use Rattle.salvage.specs.Work.{no_stretch, a_stretch, Progress, in_front, at_flag, works, salvaged, listing_of, left_by}
+use Rattle.salvage.specs.Work.{no_stretch, a_stretch, Progress, in_front, at_flag, works, salvaged, dropping_of, listing_of, taken_of, written_of, ending_of, left_by}
 use Rattle.salvage.specs.Work.{taken_by, wrote_by, holding_by, Salvages, Finishes, AtEnd, end_listing, end_salvage}
 use Rattle.salvage.specs.Work.{stretch_of, finished, at_end, end_verdict, end_left, emptied}
 use Rattle.salvage.proofs.Only.{none-not-one}
 use Rattle.salvage.specs.declared.Stretch.{Stretch}
 use Rattle.salvage.specs.declared.Salvage.{Salvage}
 use Rattle.salvage.specs.declared.Salvaged.{Salvaged}
-use Rattle.salvage.specs.declared.Finished.{Finished}
 use Rattle.salvage.specs.declared.Verdict.{Verdict}
 use Rattle.salvage.specs.declared.Verdict.TheVariants.{Still, Empty, Kept, Dropped}
-use Rattle.salvage.specs.declared.Listing.{Listing}
-use Rattle.salvage.specs.declared.Listing.TheVariants.{Nothing, LeftOut, Refused}
 use Rattle.capture.specs.Turns.{ListingTells, ReadTells, EndTells, FinishTells, Stops, Turn, Sifted, sifted, Allowed}
 use Rattle.capture.proofs.Numbers.{salvage-given, finish-given, finish-done}
 use Rattle.capture.proofs.Drained.{Drained, all-drained}
@@ -107,68 +106,54 @@ flagless-any-limit N M c (x ∷ xs) f =
     (ap (in_front 1 []) (flagless-any-limit N M (with_octet c x) xs (holds-tail flag x xs f)))
 
 -- a call, by what it lists
-module _ (N : ℕ) (c : Holding) (s o : List ℕ) (r : Salvaged) (m w o' : List ℕ) where
-  given-tells : (t : Progress) → works N c s ≡ t → (q : Listing) → listing_of q ≡ gives t.left → r.taken ≡ t.count
-      → r.written ≡ length t.written → holding_of r.salvage m w ≡ t.holding → o' ≡ t.written at_start_of o
-      → ListingTells q (gives t) c s o r m w o'
-  unfolding listing_of Halts
-  given-tells t e Nothing a count written holding octets =
-      let none : t.left ≡ no_stretch = sym (gives_same a) in (
-        t,
-        refl,
-        none,
-        count,
-        count ∙ ap (λ (u : Progress). u.count) (sym e) ∙ works-quiet N c s (ap (λ (u : Progress). u.left) e ∙ none),
-        (holding, rw (written, octets) (take-start t.written o), octets),
-      )
-  given-tells t e (LeftOut x) a count written holding octets =
-      let one : t.left ≡ a_stretch x = sym (gives_same a) in (
-        t,
-        refl,
-        one,
-        count,
-        (holding, rw (written, octets) (take-start t.written o), octets),
-        rw (count, ap (λ (h : Holding). h.salvage) holding)
-            (rw e at (works-halts N c s) x one),
-      )
-  given-tells t e (Refused k) a count written holding octets = absurd (gives-not-refuses (sym a))
+module _ (N : ℕ) (c : Holding) (s o : List ℕ) (d : Holding) (o' : List ℕ) where
+  given-tells : (t : Progress) → works N c s ≡ t → (q : Option Stretch) {k n : ℕ} → dropping_of q ≡ t.left → k ≡ t.count
+      → n ≡ length t.written → d ≡ t.holding → o' ≡ t.written at_start_of o → ListingTells q (gives t) s o k n d o'
+  unfolding dropping_of Halts
+  given-tells t e None a count written holding octets = (
+    t,
+    refl,
+    sym a,
+    count,
+    count ∙ ap (λ (u : Progress). u.count) (sym e) ∙ works-quiet N c s (ap (λ (u : Progress). u.left) e ∙ sym a),
+    (holding, rw (written, octets) (take-start t.written o), octets),
+  )
+  given-tells t e (Some x) a count written holding octets = (
+    t,
+    refl,
+    sym a,
+    count,
+    (holding, rw (written, octets) (take-start t.written o), octets),
+    rw (count, ap (λ (h : Holding). h.salvage) holding)
+        (rw e at (works-halts N c s) x (sym a)),
+  )
 
-  refused-tells : (k : ℕ) (q : Listing) → listing_of q ≡ refuses k → r.taken ≡ 0 → r.written ≡ 0
-      → holding_of r.salvage m w ≡ c → o' ≡ o → ListingTells q (refuses k) c s o r m w o'
-  unfolding listing_of
-  refused-tells k Nothing a count written holding octets = absurd (gives-not-refuses a)
-  refused-tells k (LeftOut x) a count written holding octets = absurd (gives-not-refuses a)
-  refused-tells k (Refused j) a count written holding octets =
-      (ap refuses (sym (refuses-same a)), count, written, holding, octets)
+  by_answer : (x : Answer Progress) (r : Result Salvaged Refusal) → salvaged N c s (length o) ≡ x → Salvages x c o r d o'
+      → ReadTells x c s o r d o'
+  unfolding listing_of taken_of written_of left_by taken_by wrote_by holding_by ◌at_start_of◌
+  by_answer (gives t) (Ok r) e a =
+      given-tells t (salvage-given N c s (length o) e) r.left_out (gives_same a.answer) a.count a.written a.holding a.octets
+  by_answer (gives t) (Err k) e a = absurd (gives-not-refuses (sym a.answer))
+  by_answer (refuses k) (Ok r) e a = absurd (gives-not-refuses a.answer)
+  by_answer (refuses k) (Err j) e a = (ap refuses (sym (refuses-same a.answer)), a.holding, a.octets)
 
-  by_answer : (x : Answer Progress) → salvaged N c s (length o) ≡ x → Salvages x c o r m w o' → ReadTells x c s o r m w o'
-  unfolding left_by taken_by wrote_by holding_by ◌at_start_of◌
-  by_answer (gives t) e a =
-      given-tells t (salvage-given N c s (length o) e) r.listing a.answer a.count a.written a.holding a.octets
-  by_answer (refuses k) e a = refused-tells k r.listing a.answer a.count a.written a.holding a.octets
-
-  pub read-tells : Salvages (salvaged N c s (length o)) c o r m w o' → ReadTells (salvaged N c s (length o)) c s o r m w o'
-  read-tells a = by_answer (salvaged N c s (length o)) refl a
+  pub read-tells : (r : Result Salvaged Refusal) → Salvages (salvaged N c s (length o)) c o r d o'
+      → ReadTells (salvaged N c s (length o)) c s o r d o'
+  read-tells r a = by_answer (salvaged N c s (length o)) r refl a
 
 -- the last call, by what it lists
-end-given : (v : Salvage) (r : Finished) (t : AtEnd) (q : Listing) → listing_of q ≡ gives t.left → r.salvage ≡ t.salvage
-    → EndTells q (gives t) v r
-unfolding listing_of
-end-given v r t Nothing a e = (t, refl, sym (gives_same a), e)
-end-given v r t (LeftOut x) a e = (t, refl, sym (gives_same a), e)
-end-given v r t (Refused k) a e = absurd (gives-not-refuses (sym a))
+end-given : (u : Salvage) (t : AtEnd) (q : Option Stretch) → dropping_of q ≡ t.left → u ≡ t.salvage → EndTells q (gives t) u
+unfolding dropping_of
+end-given u t None a e = (t, refl, sym a, e)
+end-given u t (Some x) a e = (t, refl, sym a, e)
 
-end_refused : (v : Salvage) (r : Finished) (k : ℕ) (q : Listing) → listing_of q ≡ refuses k → r.salvage ≡ v
-    → EndTells q (refuses k) v r
-unfolding listing_of
-end_refused v r k Nothing a e = absurd (gives-not-refuses a)
-end_refused v r k (LeftOut x) a e = absurd (gives-not-refuses a)
-end_refused v r k (Refused j) a e = (ap refuses (sym (refuses-same a)), e)
-
-pub finish-tells : (x : Answer AtEnd) (v : Salvage) (r : Finished) → Finishes x v r → FinishTells x v r
-unfolding end_listing end_salvage
-finish-tells (gives t) v r a = end-given v r t r.listing a.answer a.salvage
-finish-tells (refuses k) v r a = end_refused v r k r.listing a.answer a.salvage
+pub finish-tells : (x : Answer AtEnd) (v : Salvage) (r : Result (Option Stretch) Refusal) (u : Salvage) → Finishes x v r u
+    → FinishTells x v r u
+unfolding ending_of end_listing end_salvage
+finish-tells (gives t) v (Ok q) u a = end-given u t q (gives_same a.answer) a.salvage
+finish-tells (gives t) v (Err k) u a = absurd (gives-not-refuses (sym a.answer))
+finish-tells (refuses k) v (Ok q) u a = absurd (gives-not-refuses a.answer)
+finish-tells (refuses k) v (Err j) u a = (ap refuses (sym (refuses-same a.answer)), a.salvage)
 
 sifted-is : {c d : Holding} {s t v w : List ℕ} {es fs : List Stretch} → c ≡ d → s ≡ t → v ≡ w → es ≡ fs
     → ◌≡◌ {A = Sifted} (record { holding = c; left = s; written = v; listed = es })

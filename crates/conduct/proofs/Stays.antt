@@ -1,5 +1,6 @@
 -- An allowed record stays allowed under every frame: the device never makes a record that it would refuse.
 -- Assumes nothing.
+use Rattle.octets.specs.Text.{laid}
 use mathlib.Core.Path.{◌≡◌, refl, ap, ◌∙◌}
 use mathlib.Core.Bool.{Bool, true, false, ◌&&◌}
 use mathlib.Core.List.{List}
@@ -25,8 +26,7 @@ use Rattle.record.specs.Desk.{with_limit}
 use Rattle.record.specs.Changes.{unsaid_at, emptied_as, ended_as, limited_to}
 use Rattle.record.proofs.Stays.{sound, allowed-by, limit-allowed, emptied-stays, end_stays}
 use Rattle.control.specs.declared.AskedFor.{AskedFor}
-use Rattle.negotiation.specs.declared.Offer.TheVariants.{Agreed}
-use Rattle.negotiation.specs.Negotiation.{offer_of}
+use Rattle.negotiation.specs.Negotiation.{agrees_on, offer_of}
 use Rattle.negotiation.proofs.Exactly.{offer-exactly, agreed-least}
 use Rattle.session.specs.Session.{taken}
 use Rattle.session.proofs.Numbers.{accepts-exactly}
@@ -112,7 +112,7 @@ limited-stays d n allowed ok =
     })
 
 agreed-stays : (d : Device) (m : List ℕ) (n : ℕ) (a : AskedFor) → allowed_device d ≡ true
-    → offer_of (limit_of d) m ≡ Agreed n a → allowed_device (limited_to d n) ≡ true
+    → offer_of (limit_of d) m ≡ agrees_on n a → allowed_device (limited_to d n) ≡ true
 agreed-stays d m n a allowed e =
     let (ps, formed, is, asked, one) = (offer-exactly (limit_of d) m n a).0 e in
     limited-stays d n allowed (ap is_limit is ∙ agreed-least (limit_of d) ps (limit-allowed d allowed))
@@ -126,7 +126,7 @@ renewed-stays d allowed has = begun-stays (released d) (released-stays d allowed
 -- ---- in a session, the acknowledged answer being removed
 
 result_fits : (b : Bool) → leb (payload_of (result_of b)).len reply_most ≡ true
-unfolding result_of success_of message_of failure_of payload_of
+unfolding result_of success_of message_of failure_of laid
 result_fits true = refl
 result_fits false = refl
 

@@ -34,6 +34,7 @@ pub struct AskedFor {
 pub const XID: u8 = 0xBF;
 
 // The number after this one.
+#[tactic(auto, unfolding(crate::specs::Control::next_of))]
 pub fn next(n: u8) -> u8
     ensures { result ≡ next_of n }
 {
@@ -41,6 +42,7 @@ pub fn next(n: u8) -> u8
 }
 
 // The control of an I-frame with these numbers.
+#[tactic(auto, unfolding(crate::specs::Control::info_of))]
 pub fn info(ns: u8, nr: u8) -> u8
     ensures { result ≡ info_of ns nr }
 {
@@ -48,6 +50,7 @@ pub fn info(ns: u8, nr: u8) -> u8
 }
 
 // The control of an RR with this number.
+#[tactic(auto, unfolding(crate::specs::Control::rr_of))]
 pub fn rr(nr: u8) -> u8
     ensures { result ≡ rr_of nr }
 {

@@ -2,12 +2,13 @@
 -- Assumes nothing.
 use mathlib.Core.Path.{◌≡◌, refl, sym, ap, ◌∙◌}
 use mathlib.Core.List.{List, [], ◌∷◌, ◌++◌}
-use Prim.Native.Nat.{ℕ, zero, suc, ◌+◌, ◌-◌, ◌*◌, ◌/◌, ◌%◌, ◌^◌, ◌<◌, ◌≤◌}
+use Prim.Native.Nat.{ℕ, zero, suc, ◌+◌, ◌*◌, ◌/◌, ◌%◌, ◌^◌, ◌<◌, ◌≤◌}
 use native.Mathlib.Omega.{arith}
 use lib.Bits.{bit_xor, xor_lt, xor_comm, xor_shifted}
 use lib.Dec.{lit<}
-use lib.ListN.{length, get_or, take, drop, drop_of_length-le}
-use Rattle.octets.proofs.Takes.{take_rest}
+use lib.ListN.{length, get_or, drop, drop_of_length-le}
+use Rattle.std.specs.Simd.{first_chunks}
+use Rattle.octets.proofs.Chunks.{chunk-left}
 use Rattle.octets.specs.Octets.{Octets, pair_of}
 use Rattle.octets.proofs.Rest.{rest}
 use Rattle.fcs.specs.Check.{polynomial, bit_step, bit_steps, octet_step, register_after, check_of}
@@ -53,11 +54,6 @@ module _ (s : List ℕ) (i r : ℕ) {w : ℕ} (v : register_after r (drop i s) �
   unfolding register_after
   register-done h = sym (ap (register_after r) (drop_of_length-le s h)) ∙ v
 
-  -- what is left goes on from the register as it is
-  pub register-rest : {t : ℕ} → t ≡ register_after r (take (length s - i) (drop i s)) → t ≡ w
-  register-rest e =
-      e ∙ ap (register_after r) (take_rest i s) ∙ v
-
 -- eight octets more
 pub register-eight : (s : List ℕ) (i r : ℕ) {w a b c d : ℕ} → register_after r (drop i s) ≡ w → i + 7 < length s
     → a ≡ register_after r (get_or s i 0 ∷ get_or s (i + 1) 0 ∷ [])
@@ -70,11 +66,29 @@ register-eight s i r {a = a} {b = b} {c = c} v h e f g k =
     let six = register-two s (i + 4) b four (i + 5) (i + 6) (omega arith) (omega arith) (omega arith) g in
     register-two s (i + 6) c six (i + 7) (i + 8) (omega arith) (omega arith) (omega arith) k
 
+-- the octets of a chunk of two, and those of one of eight
+pub register-pair : (s : List ℕ) (r : ℕ) {t : ℕ} → length s ≡ 2 → t ≡ register_after r (get_or s 0 0 ∷ get_or s 1 0 ∷ [])
+    → t ≡ register_after r s
+register-pair s r {t} h e = register-done s 2 t (register-two s 0 r refl 1 2 refl refl (omega arith) e) (omega arith)
+
+pub register-whole : (s : List ℕ) (r : ℕ) {a b c d : ℕ} → length s ≡ 8
+    → a ≡ register_after r (get_or s 0 0 ∷ get_or s 1 0 ∷ []) → b ≡ register_after a (get_or s 2 0 ∷ get_or s 3 0 ∷ [])
+    → c ≡ register_after b (get_or s 4 0 ∷ get_or s 5 0 ∷ []) → d ≡ register_after c (get_or s 6 0 ∷ get_or s 7 0 ∷ [])
+    → d ≡ register_after r s
+register-whole s r {d = d} h e f g k = register-done s 8 d (register-eight s 0 r refl (omega arith) e f g k) (omega arith)
+
 -- octets in two runs: the second goes on from the register of the first
 pub register-append : (s t : List ℕ) (r : ℕ) → register_after r (s ++ t) ≡ register_after (register_after r s) t
 unfolding register_after
 register-append [] t r = refl
 register-append (x ∷ xs) t r = register-append xs t (octet_step r x)
+
+-- a loop that goes through s by chunks of n octets: one chunk more
+pub register-chunk : (n i r : ℕ) (s : List ℕ) {k : ℕ} {p : List (List ℕ)} {w t : ℕ} → p ≡ first_chunks n k s → length p ≡ k
+    → i < length p → register_after r (drop (i * n) s) ≡ w → t ≡ register_after r (get_or p i [])
+    → register_after t (drop ((i + 1) * n) s) ≡ w
+register-chunk n i r s {p = p} e f h v g =
+    rw g (sym (register-append (get_or p i []) (drop ((i + 1) * n) s) r) ∙ ap (register_after r) (sym (chunk-left n i s e f h)) ∙ v)
 
 pub step-lt : (x : ℕ) → x < 2 ^ 16 → bit_step x < 2 ^ 16
 unfolding bit_step

@@ -4,13 +4,13 @@ use mathlib.Core.Path.{◌≡◌, sym, ap, ◌∙◌}
 use mathlib.Core.Bool.{Bool}
 use mathlib.Core.List.{List}
 use mathlib.Core.Logic.{◌⊎◌, inl, inr}
-use Prim.Native.Nat.{ℕ, ◌/◌, ◌%◌, ◌^◌, ◌<◌}
-use native.Mathlib.Nat.{mod-lt}
+use Prim.Native.Nat.{ℕ, ◌*◌, ◌/◌, ◌%◌, ◌^◌, ◌<◌, ◌≤◌}
+use native.Mathlib.Nat.{mod-lt, one-mul}
 use native.Mathlib.Omega.{arith}
 use lib.Bits.{bit_xor}
-use lib.Dec.{T, eqb, eqb→eq}
+use lib.Dec.{T, eqb, eqb→eq, lit<}
 use lib.ListN.{length, get_or}
-use lib.Pow.{pow_pos}
+use lib.Pow.{pow_pos, shl_exact}
 use Rattle.octets.proofs.Every.{every, at}
 use Rattle.fcs.specs.Check.{bit_steps, Remainders}
 use Rattle.fcs.proofs.Division.{by-table}
@@ -33,6 +33,10 @@ pub by-entry : (k : ℕ) (t : List ℕ) → Remainders k t
     → (x : ℕ) → bit_xor (x / 2 ^ k) (get_or t (x % 2 ^ k) 0) ≡ bit_steps k x
 unfolding Remainders
 by-entry k t r x = ap (bit_xor (x / 2 ^ k)) (r.1 (x % 2 ^ k) (mod-lt x (pow_pos k))) ∙ sym (by-table k x)
+
+-- the low bits, as a number of 16 bits masks them
+pub low_bits : (k x : ℕ) → k ≤ 8 → x % (1 * 2 ^ k % 2 ^ 16) ≡ x % 2 ^ k
+low_bits k x h = ap (λ (m : ℕ). x % m) (shl_exact 1 k 16 (lit< tt) (omega arith) ∙ one-mul (2 ^ k))
 
 -- of the two tables, the number of entries tells which it is
 pub sixteen : (t : List ℕ) → Remainders 4 t ⊎ Remainders 8 t → length t ≡ 16 → Remainders 4 t

@@ -6,7 +6,7 @@
 mod halves;
 mod table;
 
-ghost use Rattle.std.specs.Prelude.{◌≡◌, [], ◌∷◌, ◌⊎◌};
+ghost use Rattle.std.specs.Prelude.{◌≡◌, ◌≤◌, [], ◌∷◌, ◌⊎◌};
 ghost use Rattle.fcs.specs.Check.{bit_steps, register_after, check_of, Remainders};
 
 // The register before the first octet.
@@ -15,12 +15,12 @@ pub const START: u16 = 0xFFFF;
 // Which of the two tables: that of 16 for a board that is short of read-only memory, else that of 256. Both are proved.
 const HALVES: bool = false;
 
-// The register `x` four bits on, by a table that the caller lends.
-fn four_on(table: &[u16], x: u16) -> u16
-    requires { Remainders 4 table.now }
-    ensures { result ≡ bit_steps 4 x }
+// The register `x` as many bits on as the table that the caller lends works at once.
+fn bits_on<const BITS: u16>(table: &[u16], x: u16) -> u16
+    requires { (BITS ≤ 8) × Remainders BITS table.now }
+    ensures { result ≡ bit_steps BITS x }
 {
-    (x / 16) ^ table[(x % 16) as usize]
+    (x >> BITS) ^ table[usize::from(x % (1 << BITS))]
 }
 
 // The register `x` eight bits on: by a table of 16 in two halves, the low one first; by one of 256 at once.
@@ -29,10 +29,10 @@ fn eight_on(table: &[u16], x: u16) -> u16
     ensures { result ≡ bit_steps 8 x }
 {
     if table.len() == 16 {
-        let low = four_on(table, x);
-        return four_on(table, low);
+        let low = bits_on::<4>(table, x);
+        return bits_on::<4>(table, low);
     }
-    (x / 256) ^ table[(x % 256) as usize]
+    bits_on::<8>(table, x)
 }
 
 // The register `r` two octets on: they are one number, of which the second comes down with the register.
@@ -48,17 +48,15 @@ fn run_by_two(table: &[u16], register: u16, s: &[u8]) -> u16
     requires { Remainders 4 table.now ⊎ Remainders 8 table.now }
     ensures { result ≡ register_after register s.now }
 {
+    let (pairs, rest) = s.as_chunks::<2>();
     let mut r = register;
-    let mut i = 0;
-    let pairs = s.len() / 2 * 2;
-    while i < pairs {
-        r = two_on(table, r, s[i], s[i + 1]);
-        i += 2;
+    for &[a, b] in pairs {
+        r = two_on(table, r, a, b);
     }
-    if i < s.len() {
-        return eight_on(table, r ^ (s[i] as u16));
+    match rest {
+        [last, ..] => eight_on(table, r ^ u16::from(*last)),
+        [] => r,
     }
-    r
 }
 
 // The same, eight octets a turn, and what is left by two.
@@ -66,20 +64,19 @@ fn run(table: &[u16], register: u16, s: &[u8]) -> u16
     requires { Remainders 4 table.now ⊎ Remainders 8 table.now }
     ensures { result ≡ register_after register s.now }
 {
+    let (eights, rest) = s.as_chunks::<8>();
     let mut r = register;
-    let mut i = 0;
-    let whole = s.len() / 8 * 8;
-    while i < whole {
-        let two = two_on(table, r, s[i], s[i + 1]);
-        let four = two_on(table, two, s[i + 2], s[i + 3]);
-        let six = two_on(table, four, s[i + 4], s[i + 5]);
-        r = two_on(table, six, s[i + 6], s[i + 7]);
-        i += 8;
+    for &[a, b, c, d, e, f, g, h] in eights {
+        let two = two_on(table, r, a, b);
+        let four = two_on(table, two, c, d);
+        let six = two_on(table, four, e, f);
+        r = two_on(table, six, g, h);
     }
-    run_by_two(table, r, &s[i..])
+    run_by_two(table, r, rest)
 }
 
 // The register after the octets of `s`, from `register` on, by the table of 16: two octets a turn, for less code.
+// No instance of one function with by_octets: the two differ in their loop, not only in their table.
 fn by_halves(register: u16, s: &[u8]) -> u16
     ensures { result ≡ register_after register s.now }
 {

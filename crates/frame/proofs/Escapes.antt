@@ -1,12 +1,14 @@
 -- Octets put on the line, one after the other: how many, and which. Assumes nothing.
-use mathlib.Core.Path.{◌≡◌, refl, ap}
+use mathlib.Core.Path.{◌≡◌, refl, sym, ap, ◌∙◌}
 use mathlib.Core.Bool.{Bool, true, false}
-use mathlib.Core.List.{List, [], ◌∷◌, ◌++◌}
+use mathlib.Core.List.{List, [], ◌∷◌, ◌++◌, append_assoc}
 use Prim.Native.Nat.{ℕ, ◌+◌, ◌*◌, ◌<◌, ◌≤◌}
 use native.Mathlib.Omega.{arith}
 use lib.Bits.{bit_xor}
 use lib.ListN.{length, get_or, drop, drop_of_length-le, length-append, set}
 use Rattle.octets.specs.Puts.{Puts}
+use Rattle.std.specs.Simd.{first_chunks}
+use Rattle.octets.proofs.Chunks.{chunk-left}
 use Rattle.octets.proofs.Rest.{rest}
 use Rattle.octets.proofs.Runs.{run-all, run-one, run-put, run-done}
 use Rattle.frame.specs.Line.{flag, escape, toggle, special, escaped, on_line, between}
@@ -56,36 +58,34 @@ module _ (x : ℕ) (o : List ℕ) (at : ℕ) {o₁ : List ℕ} {n y : ℕ} where
   pub other-put : special x ≡ false → o₁ ≡ o → n ≡ at → y ≡ x → Puts o at (escaped x) (n + 1) (set o₁ n y)
   other-put e s k v = rw (s, k, v) (run-done refl (run-one _ refl (escaped-other x e) run-all))
 
--- a loop that goes through d by i: one octet more, four, and the end
+-- a loop that goes through d by i: one octet more, and the end
 module _ (d : List ℕ) where
   pub line-more : (i : ℕ) → i < length d → on_line (drop i d) ≡ escaped (get_or d i 0) ++ on_line (drop (i + 1) d)
   unfolding on_line
   line-more i h = rw (rest d i h)
 
-  pub line-four : (i : ℕ) → i + 3 < length d → on_line (drop i d) ≡ escaped (get_or d i 0) ++ (escaped (get_or d (i + 1) 0)
-      ++ (escaped (get_or d (i + 2) 0) ++ (escaped (get_or d (i + 3) 0) ++ on_line (drop (i + 4) d))))
-  line-four i h =
-      let two : i + 1 + 1 ≡ i + 2 = omega arith in
-      let three : i + 2 + 1 ≡ i + 3 = omega arith in
-      let four : i + 3 + 1 ≡ i + 4 = omega arith in
-      let second = rw two at (line-more (i + 1) (omega arith)) in
-      let third = rw three at (line-more (i + 2) (omega arith)) in
-      let fourth = rw four at (line-more (i + 3) h) in
-      rw (line-more i (omega arith), second, third, fourth)
-
-  -- how many octets these take
+  -- how many octets it takes
   pub more-long : (i : ℕ) → i < length d
       → length (on_line (drop i d)) ≡ length (escaped (get_or d i 0)) + length (on_line (drop (i + 1) d))
   more-long i h = rw (line-more i h) (length-append (escaped (get_or d i 0)) _)
 
-  pub four-long : (i : ℕ) → i + 3 < length d → length (on_line (drop i d)) ≡ length (escaped (get_or d i 0))
-      + length (escaped (get_or d (i + 1) 0)) + length (escaped (get_or d (i + 2) 0)) + length (escaped (get_or d (i + 3) 0))
-      + length (on_line (drop (i + 4) d))
-  four-long i h = rw (line-four i h) (simp length-append (omega arith))
-
   pub line-done : (i : ℕ) → length d ≤ i → on_line (drop i d) ≡ []
   unfolding on_line
   line-done i h = rw (drop_of_length-le d h)
+
+on_line-append : (c l : List ℕ) → on_line (c ++ l) ≡ on_line c ++ on_line l
+unfolding on_line
+on_line-append [] l = refl
+on_line-append (x ∷ c) l = rw (on_line-append c l) (sym (append_assoc (escaped x) (on_line c) (on_line l)))
+
+-- a loop that goes through d by chunks of n octets: the chunk at i, and what is left behind it
+module _ (n i : ℕ) (d : List ℕ) {k : ℕ} {p : List (List ℕ)} (e : p ≡ first_chunks n k d) (f : length p ≡ k) (h : i < length p) where
+  pub line-chunk : on_line (drop (i * n) d) ≡ on_line (get_or p i []) ++ on_line (drop ((i + 1) * n) d)
+  line-chunk = ap on_line (chunk-left n i d e f h) ∙ on_line-append (get_or p i []) (drop ((i + 1) * n) d)
+
+  -- how many octets it takes
+  pub chunk-long : length (on_line (drop (i * n) d)) ≡ length (on_line (get_or p i [])) + length (on_line (drop ((i + 1) * n) d))
+  chunk-long = rw line-chunk (length-append (on_line (get_or p i [])) _)
 
 -- the first flag, what lies between, and the last flag
 pub between_put : (d : List ℕ) {o o₁ o₂ o' : List ℕ} {n : ℕ} → o₁ ≡ set o 0 flag → Puts o₁ 1 (on_line d) n o₂

@@ -1,7 +1,8 @@
 -- A line that a loop goes through by an index i: what is left to decode at i, against what is left at i + 1; and a
 -- broken line, by its two parts. Assumes nothing.
-use mathlib.Core.Path.{◌≡◌, refl, sym, ap, ◌∙◌}
-use mathlib.Core.Bool.{Bool, true, false, cond, ◌||◌, or-true}
+use mathlib.Core.Path.{◌≡◌, refl, sym, ap, ap₂, ◌∙◌}
+use denote.Ref.{Bor}
+use mathlib.Core.Bool.{Bool, true, false, cond, or-true}
 use mathlib.Core.List.{List, [], ◌∷◌}
 use mathlib.Core.Logic.{◌↔◌, ◌⊎◌, inl, inr, ⊎_elim}
 use Prim.Native.Nat.{ℕ, zero, suc, ◌+◌, ◌-◌, ◌*◌, ◌<◌, ◌≤◌}
@@ -10,9 +11,12 @@ use borrow.Author.Tests.{eqb-true, eq-eqb, ne_eqb, ltb-true, ltb-false}
 use lib.Bits.{bit_xor}
 use lib.Dec.{eqb, ltb}
 use lib.ListN.{length, get_or, drop, drop_of_length-le}
+use Rattle.std.proofs.Common.{Option, Some, None}
+use Rattle.std.specs.List.{slice_get}
+use Rattle.std.specs.Option.{option_copied, option_eq}
 use Rattle.octets.specs.Octets.{holds, OneOf, last_of}
 use Rattle.octets.proofs.Rest.{rest}
-use Rattle.octets.proofs.Words.{true-not-false, or_parts, or-none, holds-here, holds_more, holds-done, holds-exactly}
+use Rattle.octets.proofs.Words.{true-not-false, or_parts, or-none, holds-exactly}
 use Rattle.octets.proofs.Words.{last-at, last_empty}
 use Rattle.limits.specs.Limits.{line_most}
 use Rattle.frame.specs.Line.{flag, escape, broken, plain_after, plain}
@@ -82,20 +86,22 @@ plain-short s = plain-short-after false s
 pub overlong : (N : ℕ) (s : List ℕ) → line_most N < length s → N < length (plain s)
 overlong N s h = omega (arith, plain-long s)
 
--- a flag looked for by a loop that goes through all of s, whatever it found
-module _ (s : List ℕ) (i : ℕ) {w : Bool} where
-  pub flag-here : (found : Bool) → (found || holds flag (drop i s)) ≡ w → i < length s → get_or s i 0 ≡ flag → true ≡ w
-  flag-here true v h e = v
-  flag-here false v h e = holds-here flag s i v h e
+-- the last octet, as the library gives it
+last-get : (d x : ℕ) (xs : List ℕ) → slice_get (x ∷ xs) (length xs) ≡ Some (last_of d (x ∷ xs))
+unfolding last_of
+last-get d x [] = refl
+last-get d x (y ∷ ys) = last-get x y ys
 
-  pub flag-more : (found : Bool) → (found || holds flag (drop i s)) ≡ w → i < length s → (get_or s i 0 ≡ flag → ⊥)
-      → (found || holds flag (drop (i + 1) s)) ≡ w
-  flag-more true v h n = v
-  flag-more false v h n = holds_more flag s i v h n
+last-there : (x : ℕ) (xs : List ℕ) → slice_get (x ∷ xs) (suc (length xs) - 1) ≡ Some (last_of 0 (x ∷ xs))
+last-there x xs = let n : suc (length xs) - 1 ≡ length xs = omega arith in rw n (last-get 0 x xs)
 
-  pub flag-done : (found : Bool) → (found || holds flag (drop i s)) ≡ w → length s ≤ i → found ≡ w
-  flag-done true v h = v
-  flag-done false v h = holds-done flag s i v h
+pub ends-is : (s : List ℕ) (r : Option (Bor ℕ)) (y : Bor ℕ) → option_copied r ≡ slice_get s (length s - 1) → y.now ≡ escape
+    → option_eq (λ (a b : Bor ℕ). eqb a.now b.now) r (Some y) ≡ eqb (last_of 0 s) escape
+unfolding last_of
+ends-is [] None y e f = refl
+ends-is [] (Some a) y e f = cc
+ends-is (x ∷ xs) None y e f = cc (last-there x xs)
+ends-is (x ∷ xs) (Some a) y e f = let same : a.now ≡ last_of 0 (x ∷ xs) = cc (last-there x xs) in ap₂ eqb same f
 
 module _ (s : List ℕ) where
   pub unbroken : holds flag s ≡ false → eqb (last_of 0 s) escape ≡ false → broken s ≡ false

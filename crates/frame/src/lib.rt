@@ -8,7 +8,7 @@ ghost use Rattle.std.specs.Prelude.{◌≡◌, ◌≤◌, false, eqb, length};
 ghost use Rattle.octets.specs.Octets.{holds, last_of};
 ghost use Rattle.octets.specs.Puts.{Puts};
 ghost use Rattle.refusal.specs.Answer.{Hands};
-ghost use Rattle.limits.specs.Limits.{limit_least, limit_most, line_most};
+ghost use Rattle.limits.specs.Limits.{limit_most, line_most};
 ghost use Rattle.frame.specs.Line.{flag, escape, broken, plain};
 ghost use Rattle.frame.specs.Decode.{framed, decoded};
 
@@ -26,27 +26,14 @@ pub const TOGGLE: u8 = 0x20;
 fn ends_escaped(s: &[u8]) -> bool
     ensures { result ≡ eqb (last_of 0 s.now) escape }
 {
-    let n = s.len();
-    if n == 0 {
-        return false;
-    }
-    s[n - 1] == ESCAPE
+    s.last() == Some(&ESCAPE)
 }
 
-// Whether a flag lies inside `s`. Goes through all of it, whatever it finds: then the compiler looks at many octets at once.
+// Whether a flag lies inside `s`.
 fn has_flag(s: &[u8]) -> bool
     ensures { result ≡ holds flag s.now }
 {
-    let mut found = false;
-    let mut i = 0;
-    while i < s.len() {
-        let b = s[i];
-        i += 1;
-        if b == FLAG {
-            found = true;
-        }
-    }
-    found
+    s.contains(&FLAG)
 }
 
 // Whether `s` is broken: a flag inside, or an escape as its last octet.
@@ -57,6 +44,7 @@ fn is_broken(s: &[u8]) -> bool
 }
 
 // Takes the escapes out of `s`, of which none is the last octet, into `store`.
+// By an index: by an iterator decode of 78 octets, all escaped, took 23.85 instructions an octet and not 18.99, C by clang 23.73.
 fn unescape(s: &[u8], store: &mut [u8]) -> usize
     requires { (length s.now ≤ length store.old) × (eqb (last_of 0 s.now) escape ≡ false) }
     ensures { Puts store.old 0 (plain s.now) result store.new }
@@ -100,34 +88,16 @@ pub fn deliver(limit: usize, d: &[u8], out: &mut [u8]) -> Result<usize, Refusal>
     refusal::hand_out(&d[..len], out)
 }
 
-// Takes the escapes out of a line that is whole, into a store that has room for it, and judges what is left.
-fn by_store(limit: usize, src: &[u8], store: &mut [u8], out: &mut [u8]) -> Result<usize, Refusal>
-    requires { (length src.now ≤ length store.old) × (eqb (last_of 0 src.now) escape ≡ false) }
+// Takes the escapes out of a line that is whole, into a store of so many places, and judges what is left: the fewer there are,
+// the sooner they are set to zero.
+fn decode_in<const PLACES: usize>(limit: usize, src: &[u8], out: &mut [u8]) -> Result<usize, Refusal>
+    requires { (length src.now ≤ PLACES) × (PLACES ≤ line_most limit_most) × (eqb (last_of 0 src.now) escape ≡ false) }
     ensures { Hands (framed limit (plain src.now) (length out.old))
         out.old result out.new }
 {
-    let n = unescape(src, store);
+    let mut store = [0u8; PLACES];
+    let n = unescape(src, &mut store);
     deliver(limit, &store[..n], out)
-}
-
-// A line as long as one of the least limit can be: a small store, which is soon set to zero.
-fn decode_short(limit: usize, src: &[u8], out: &mut [u8]) -> Result<usize, Refusal>
-    requires { (length src.now ≤ line_most limit_least) × (eqb (last_of 0 src.now) escape ≡ false) }
-    ensures { Hands (framed limit (plain src.now) (length out.old))
-        out.old result out.new }
-{
-    let mut store = [0u8; LINE_MOST];
-    by_store(limit, src, &mut store, out)
-}
-
-// A longer one.
-fn decode_long(limit: usize, src: &[u8], out: &mut [u8]) -> Result<usize, Refusal>
-    requires { (length src.now ≤ line_most limit_most) × (eqb (last_of 0 src.now) escape ≡ false) }
-    ensures { Hands (framed limit (plain src.now) (length out.old))
-        out.old result out.new }
-{
-    let mut store = [0u8; LONGEST_LINE];
-    by_store(limit, src, &mut store, out)
 }
 
 // Decodes what lies between two flags, with the frame limit `limit`: address, control and payload to the start of `out`.
@@ -144,7 +114,7 @@ pub fn decode(limit: usize, src: &[u8], out: &mut [u8]) -> Result<usize, Refusal
         return Err(Refusal::Broken);
     }
     if src.len() <= LINE_MOST {
-        return decode_short(limit, src, out);
+        return decode_in::<LINE_MOST>(limit, src, out);
     }
     // Only for the compiler: a caller with the constant 78 does without the long store.
     if limit <= LIMIT_LEAST {
@@ -153,5 +123,5 @@ pub fn decode(limit: usize, src: &[u8], out: &mut [u8]) -> Result<usize, Refusal
     if LONGEST_LINE < src.len() {
         return Err(Refusal::TooLong);
     }
-    decode_long(limit, src, out)
+    decode_in::<LONGEST_LINE>(limit, src, out)
 }

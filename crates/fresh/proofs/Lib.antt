@@ -1,2 +1,3 @@
--- The laws of a fresh device that the layers above cite.
+-- That the promise allows one result, and what its data must be.
+pub mod Data
 pub mod Only

@@ -1,15 +1,17 @@
--- The promise of this crate allows one result. Assumes nothing.
-use Rattle.std.proofs.Common.{Result}
-use Rattle.refusal.specs.declared.Refusal.{Refusal}
-use Rattle.refusal.proofs.Only.{changes-only}
-use Rattle.record.specs.declared.Device.{Device}
-use mathlib.Core.Path.{ap₂}
-use Rattle.octets.proofs.Only.{AsksNothing, Settles}
+-- The promises of this crate allow one result each. Assumes nothing.
+use Rattle.octets.proofs.Only.{AsksNothing, Settles, only}
+use Rattle.refusal.proofs.Only.{made-only}
+use Rattle.fresh.proofs.blank.Reads as blank-reads
 use Rattle.fresh.proofs.fresh.Reads as fresh-reads
 
+pub blank-only : Settles blank-reads.Learnt
+blank-only κs a r q s t = only
+
 pub fresh-only : Settles fresh-reads.Learnt
-fresh-only κs a r q s t x y =
-    let e = changes-only x y in ap₂ (λ (o : Result (Unit {0}) Refusal) (n : Device). record { outcome = o; device = n }) e.0 e.1
+fresh-only κs a r q s t = made-only r q
+
+pub blank-asks : AsksNothing blank-reads.Asked
+blank-asks κs a = tt
 
 pub fresh-asks : AsksNothing fresh-reads.Asked
 fresh-asks κs a = tt

@@ -4,36 +4,28 @@
 // record/proofs/Only.antt).
 #![tactic(auto)]
 
-ghost use Rattle.std.specs.Prelude.{◌≡◌, true, ◌≤◌, length};
-ghost use Rattle.refusal.specs.Answer.{Changes};
-ghost use Rattle.identity.specs.Identity.{width};
-ghost use Rattle.record.specs.Allowed.{product_most, version_most};
-ghost use Rattle.record.specs.Fresh.{texts_allowed, data_allowed, identity_from, product_from, version_from};
-ghost use Rattle.record.specs.Fresh.{plate_from, fresh_antenna, fresh_from, fresh_of, blank_device};
+ghost use Rattle.std.specs.Prelude.{◌≡◌, true};
+ghost use Rattle.refusal.specs.Answer.{made_of};
+ghost use Rattle.record.specs.Fresh.{texts_allowed, data_allowed, plate_from, fresh_antenna, fresh_from, fresh_of};
+ghost use Rattle.record.specs.Fresh.{blank_device};
 
 use antenna::{Angle, Antenna, Drive, Motion};
-use identity::OCTETS;
-use record::{
-    Changed, Desk, Device, Identity, Link, PRODUCT, Plate, Product, Span, Station, VERSION, Version,
-};
+use octets::Text;
+use record::{Desk, Device, Link, PRODUCT, Plate, Span, Station, VERSION};
 use refusal::Refusal;
 
+#[tactic(auto, using(crate::proofs::Data::texts_are))]
 fn texts_allowed(identity: &[u8], product: &[u8], hardware: &[u8], software: &[u8]) -> bool
     ensures { result ≡ texts_allowed identity.now product.now hardware.now
         software.now }
 {
-    if identity::allowed(identity) {
-        if PRODUCT < product.len() {
-            return false;
-        }
-        if VERSION < hardware.len() {
-            return false;
-        }
-        return software.len() <= VERSION;
-    }
-    false
+    identity::allowed(identity)
+        && product.len() <= PRODUCT
+        && hardware.len() <= VERSION
+        && software.len() <= VERSION
 }
 
+#[tactic(auto, using(crate::proofs::Data::data_are))]
 fn data_allowed(
     identity: &[u8],
     product: &[u8],
@@ -44,50 +36,8 @@ fn data_allowed(
     ensures { result ≡ data_allowed identity.now product.now hardware.now
         software.now antenna }
 {
-    let drive = antenna.drive;
-    let tilt = drive.tilt;
-    if texts_allowed(identity, product, hardware, software) {
-        aim::in_range(antenna, tilt)
-    } else {
-        false
-    }
-}
-
-// The octets of `s`, zeros behind them.
-fn identity_from(s: &[u8]) -> Identity
-    requires { length s.now ≤ width }
-    ensures { result ≡ identity_from s.now }
-{
-    let mut octets = [0u8; OCTETS];
-    octets::put_all(&mut octets, 0, s);
-    Identity {
-        octets,
-        len: s.len(),
-    }
-}
-
-fn product_from(s: &[u8]) -> Product
-    requires { length s.now ≤ product_most }
-    ensures { result ≡ product_from s.now }
-{
-    let mut octets = [0u8; PRODUCT];
-    octets::put_all(&mut octets, 0, s);
-    Product {
-        octets,
-        len: s.len(),
-    }
-}
-
-fn version_from(s: &[u8]) -> Version
-    requires { length s.now ≤ version_most }
-    ensures { result ≡ version_from s.now }
-{
-    let mut octets = [0u8; VERSION];
-    octets::put_all(&mut octets, 0, s);
-    Version {
-        octets,
-        len: s.len(),
-    }
+    texts_allowed(identity, product, hardware, software)
+        && aim::in_range(antenna, antenna.drive.tilt)
 }
 
 fn plate_from(identity: &[u8], product: &[u8], hardware: &[u8], software: &[u8]) -> Plate
@@ -95,15 +45,11 @@ fn plate_from(identity: &[u8], product: &[u8], hardware: &[u8], software: &[u8])
     ensures { result ≡ plate_from identity.now product.now hardware.now
         software.now }
 {
-    let identity = identity_from(identity);
-    let product = product_from(product);
-    let hardware = version_from(hardware);
-    let software = version_from(software);
     Plate {
-        identity,
-        product,
-        hardware,
-        software,
+        identity: Text::of(identity),
+        product: Text::of(product),
+        hardware: Text::of(hardware),
+        software: Text::of(software),
     }
 }
 
@@ -142,57 +88,35 @@ fn fresh_from(plate: Plate, antenna: Antenna) -> Device
     }
 }
 
-// The constant record beside a refusal.
-fn blank() -> Device
+// The record of no device: it stands wherever there is none.
+pub fn blank() -> Device
     ensures { result ≡ blank_device }
 {
     let level = Angle { tenths: 0 };
     let plate = Plate {
-        identity: Identity {
-            octets: [0u8; OCTETS],
-            len: 0,
-        },
-        product: Product {
-            octets: [0u8; PRODUCT],
-            len: 0,
-        },
-        hardware: Version {
-            octets: [0u8; VERSION],
-            len: 0,
-        },
-        software: Version {
-            octets: [0u8; VERSION],
-            len: 0,
-        },
+        identity: Text::of(b""),
+        product: Text::of(b""),
+        hardware: Text::of(b""),
+        software: Text::of(b""),
     };
     fresh_from(plate, fresh_antenna(level, level, level))
 }
 
-// A fresh device with this data, or the number beside the blank record.
+// A fresh device with this data, or the number for "no".
 pub fn fresh(
     identity: &[u8],
     product: &[u8],
     hardware: &[u8],
     software: &[u8],
     span: Span,
-) -> Changed
-    ensures { Changes (fresh_of identity.now product.now hardware.now
-        software.now span) blank_device result.outcome result.device }
+) -> Result<Device, Refusal>
+    ensures { made_of result ≡ fresh_of identity.now product.now hardware.now
+        software.now span }
 {
-    let lowest = span.lowest;
-    let highest = span.highest;
-    let present = span.present;
-    let antenna = fresh_antenna(lowest, highest, present);
-    if data_allowed(identity, product, hardware, software, antenna) {
-        let plate = plate_from(identity, product, hardware, software);
-        let device = fresh_from(plate, antenna);
-        return Changed {
-            outcome: Ok(()),
-            device,
-        };
+    let antenna = fresh_antenna(span.lowest, span.highest, span.present);
+    if !data_allowed(identity, product, hardware, software, antenna) {
+        return Err(Refusal::NotAllowed);
     }
-    Changed {
-        outcome: Err(Refusal::NotAllowed),
-        device: blank(),
-    }
+    let plate = plate_from(identity, product, hardware, software);
+    Ok(fresh_from(plate, antenna))
 }

@@ -1,38 +1,17 @@
 -- The test for an identity says what 01 says. Assumes nothing.
-use mathlib.Core.Path.{◌≡◌, refl, sym, ap, ◌∙◌}
-use mathlib.Core.Bool.{true, ◌&&◌}
-use mathlib.Core.List.{List, [], ◌∷◌}
+use mathlib.Core.Path.{◌≡◌, sym, ap, ◌∙◌}
+use mathlib.Core.Bool.{true}
+use mathlib.Core.List.{List}
 use mathlib.Core.Logic.{◌↔◌}
-use Prim.Native.Nat.{ℕ, zero, suc, ◌+◌, ◌<◌, ◌≤◌, suc-le-suc}
-use native.Mathlib.Nat.{le_of_suc-le-suc, not-suc-le-zero}
+use Prim.Native.Nat.{ℕ, ◌+◌, ◌≤◌}
 use native.Mathlib.Omega.{arith}
-use borrow.Author.Tests.{leb-true, le-leb, ne_eqb}
-use lib.Dec.{leb}
-use lib.ListN.{length, get_or, take, drop, take-append-drop, length-take, length-drop, length-append}
+use borrow.Author.Tests.{le-leb, ne_eqb}
+use lib.ListN.{length, take, drop, take-append-drop, length-take, length-drop, length-append}
 use Rattle.octets.specs.Octets.{last_of}
-use Rattle.octets.proofs.Words.{last-at, and_parts}
-use Rattle.identity.specs.Identity.{vendor, width, blank, last_printable, printable, all_printable}
+use Rattle.octets.proofs.Words.{last-at}
+use Rattle.identity.specs.Identity.{vendor, width, blank}
 use Rattle.identity.specs.Identity.{allowed_identity, AnIdentity}
-use Rattle.identity.proofs.Identities.{allowed-parts}
-
--- "all 0x20 to 0x7E"
-all-printable : (s : List ℕ) → all_printable s ≡ true
-    → (j : ℕ) → j < length s → (blank ≤ get_or s j 0) × (get_or s j 0 ≤ last_printable)
-unfolding all_printable printable
-all-printable [] e j h = absurd (not-suc-le-zero h)
-all-printable (x ∷ xs) e zero h =
-    let w = and_parts (leb blank x) (leb x last_printable) (and_parts _ (all_printable xs) e).0 in
-    (leb-true blank x w.0, leb-true x last_printable w.1)
-all-printable (x ∷ xs) e (suc j) h =
-    all-printable xs (and_parts (leb blank x && leb x last_printable) (all_printable xs) e).1 j (le_of_suc-le-suc h)
-
-printable-all : (s : List ℕ) → ((j : ℕ) → j < length s → (blank ≤ get_or s j 0) × (get_or s j 0 ≤ last_printable))
-    → all_printable s ≡ true
-unfolding all_printable printable
-printable-all [] f = refl
-printable-all (x ∷ xs) f =
-    let w = f 0 (omega arith) in
-    rw (le-leb blank x w.0, le-leb x last_printable w.1) (printable-all xs (λ j h. f (suc j) (suc-le-suc h)))
+use Rattle.identity.proofs.Identities.{all-printable, printable-all, allowed-parts}
 
 -- from 3 to 19 octets: 2 of the vendor, 1 to 17 of the serial number
 in_words : (i : List ℕ) → allowed_identity i ≡ true → AnIdentity i

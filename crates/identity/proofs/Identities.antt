@@ -3,37 +3,49 @@
 use mathlib.Core.Path.{◌≡◌, refl, sym, ap, ◌∙◌}
 use mathlib.Core.Bool.{Bool, true, false, ◌&&◌, and-false, and-true}
 use mathlib.Core.List.{List, [], ◌∷◌, ◌++◌}
-use Prim.Native.Nat.{ℕ, zero, suc, ◌+◌, ◌-◌, ◌≤◌, ◌<◌}
+use mathlib.Core.Logic.{◌↔◌}
+use Rattle.std.specs.Prelude.{IsTrue}
+use Prim.Native.Nat.{ℕ, zero, suc, ◌-◌, ◌≤◌, ◌<◌, suc-le-suc}
+use native.Mathlib.Nat.{le_of_suc-le-suc, not-suc-le-zero}
 use native.Mathlib.Omega.{arith}
 use borrow.Author.Tests.{le-leb, lt-leb, leb-true, eq-eqb, ne_eqb, eqb-false, not-true}
 use lib.Dec.{leb, eqb, lit<}
-use lib.ListN.{length, get_or, drop, replicate, length-append, length-replicate, drop_of_length-le}
+use lib.ListN.{length, get_or, replicate, length-append, length-replicate}
 use Rattle.octets.specs.Octets.{Octets, last_of}
 use Rattle.octets.proofs.Bounds.{octets-append}
-use Rattle.octets.proofs.Rest.{rest}
 use Rattle.octets.proofs.Words.{last-at}
 use Rattle.octets.proofs.Words.{and_parts}
 use Rattle.identity.specs.Identity.{width, blank, last_printable, printable, all_printable, allowed_identity, padded}
 use Rattle.identity.specs.Identity.{trimmed_to, unpadded}
 
--- a loop that goes through s by i
-module _ (s : List ℕ) (i : ℕ) {w : Bool} (v : all_printable (drop i s) ≡ w) where
-  pub printable-low : i < length s → get_or s i 0 < blank → false ≡ w
-  unfolding all_printable printable
-  printable-low h k = rw (rest s i h, lt-leb blank (get_or s i 0) k) at v
+-- "all 0x20 to 0x7E"
+pub all-printable : (s : List ℕ) → all_printable s ≡ true
+    → (j : ℕ) → j < length s → (blank ≤ get_or s j 0) × (get_or s j 0 ≤ last_printable)
+unfolding all_printable printable
+all-printable [] e j h = absurd (not-suc-le-zero h)
+all-printable (x ∷ xs) e zero h =
+    let w = and_parts (leb blank x) (leb x last_printable) (and_parts _ (all_printable xs) e).0 in
+    (leb-true blank x w.0, leb-true x last_printable w.1)
+all-printable (x ∷ xs) e (suc j) h =
+    all-printable xs (and_parts (leb blank x && leb x last_printable) (all_printable xs) e).1 j (le_of_suc-le-suc h)
 
-  pub printable-high : i < length s → last_printable < get_or s i 0 → false ≡ w
-  unfolding all_printable printable
-  printable-high h k = rw (rest s i h, lt-leb (get_or s i 0) last_printable k, and-false (leb blank (get_or s i 0))) at v
+pub printable-all : (s : List ℕ) → ((j : ℕ) → j < length s → (blank ≤ get_or s j 0) × (get_or s j 0 ≤ last_printable))
+    → all_printable s ≡ true
+unfolding all_printable printable
+printable-all [] f = refl
+printable-all (x ∷ xs) f =
+    let w = f 0 (omega arith) in
+    rw (le-leb blank x w.0, le-leb x last_printable w.1) (printable-all xs (λ j h. f (suc j) (suc-le-suc h)))
 
-  pub printable-more : i < length s → blank ≤ get_or s i 0 → get_or s i 0 ≤ last_printable
-      → all_printable (drop (i + 1) s) ≡ w
-  unfolding all_printable printable
-  printable-more h k j = rw (rest s i h, le-leb blank (get_or s i 0) k, le-leb (get_or s i 0) last_printable j) at v
-
-  pub printable-done : length s ≤ i → true ≡ w
-  unfolding all_printable
-  printable-done h = rw (drop_of_length-le s h) at v
+-- the code's test, octet by octet
+pub test-printable : (s : List ℕ) {t : Bool}
+    → IsTrue t ↔ ((j : ℕ) → j < length s → (blank ≤ get_or s j 0) × (get_or s j 0 ≤ last_printable)) → t ≡ all_printable s
+test-printable s {t = true} w = sym (printable-all s (w.0 refl))
+test-printable s {t = false} w = go (all_printable s) refl
+  where
+    go : (b : Bool) → all_printable s ≡ b → false ≡ b
+    go true e = w.1 (all-printable s e)
+    go false e = refl
 
 -- what is no identity, and what is left to ask of the others
 module _ (i : List ℕ) where

@@ -2,15 +2,14 @@
 -- Assumes nothing.
 use mathlib.Core.Path.{◌≡◌, refl, sym, ap, ap₂, ◌∙◌}
 use mathlib.Core.Bool.{Bool, true, false}
-use mathlib.Core.List.{List, [], ◌∷◌, ◌++◌, append-nil}
+use mathlib.Core.List.{List, [], ◌∷◌, ◌++◌}
 use Prim.Native.Nat.{ℕ, zero, suc, ◌+◌, ◌*◌, ◌≤◌, ◌<◌, ◌^◌, min}
 use native.Mathlib.Nat.{two-pow-succ, pow-le-pow_right}
 use native.Mathlib.Omega.{arith}
-use lib.ListN.{length, take, drop, get_or, set, replicate}
-use lib.ListN.{length-take, drop_of_length-le, get_or-eq_default}
-use lib.Seq.{get_or-take, get_or-drop, drop-drop, sets}
-use Rattle.octets.specs.Octets.{Octets, ◌at_start_of◌}
-use Rattle.octets.proofs.Stores.{sets-start, sets_more, sets-done}
+use lib.ListN.{length, take, drop, get_or, replicate}
+use lib.ListN.{length-take, get_or-eq_default}
+use lib.Seq.{get_or-take, get_or-drop, drop-drop, ext_get_or}
+use Rattle.octets.specs.Octets.{Octets}
 use Rattle.identity.specs.Bits.{Bits, digit, word, packed, ones}
 
 pub digit-small : (b : Bool) → digit b ≤ 1
@@ -114,24 +113,9 @@ pub bit_past : (l : Bits) (n at : ℕ) → n ≤ at → 0 ≡ digit (get_or (tak
 bit_past l n at h =
     ap digit (sym (get_or-eq_default (take n l) false {n = at} (omega (arith, length-take n l))))
 
--- a row of octets that is being filled: what is left to store, from j on
-pub fill_start : (n : ℕ) (p : Bits) (o : List ℕ) → length o ≡ n → sets o (0 + 0) (drop 0 (packed n p)) ≡ packed n p
-unfolding ◌at_start_of◌
-fill_start n p o e =
-    let k : length (packed n p) ≡ length o = length-packed n p ∙ sym e in
-    sets-start (packed n p) o (omega arith)
-    ∙ rw (k, drop_of_length-le o {i = length o} (omega arith), append-nil (packed n p))
-
-pub fill_more : (n : ℕ) (p : Bits) (o : List ℕ) (j x : ℕ) → j < n → x ≡ word (drop (8 * j) p) 8
-    → sets o (0 + j) (drop j (packed n p)) ≡ packed n p
-    → sets (set o j x) (0 + (j + 1)) (drop (j + 1) (packed n p)) ≡ packed n p
-fill_more n p o j x h e v =
-    let k : j < length (packed n p) = omega (arith, length-packed n p) in
-    let z : 0 + j ≡ j = omega arith in
-    let g : set o j x ≡ set o (0 + j) (get_or (packed n p) j 0) =
-    ap₂ (λ (i y : ℕ). set o i y) (sym z) (e ∙ sym (packed-at n p j h)) in
-    rw g (sets_more o (packed n p) 0 j k v)
-
-pub fill_done : (n : ℕ) (p : Bits) (o : List ℕ) (j : ℕ) → n ≤ j
-    → sets o (0 + j) (drop j (packed n p)) ≡ packed n p → o ≡ packed n p
-fill_done n p o j h v = sets-done o (packed n p) 0 j (omega (arith, length-packed n p)) v
+-- a row of octets is what its elements say
+pub packed_is : (n : ℕ) (p : Bits) (o : List ℕ) → length o ≡ n
+    → ((j : ℕ) → j < n → get_or o j 0 ≡ word (drop (8 * j) p) 8) → o ≡ packed n p
+packed_is n p o e each =
+    ext_get_or 0 o (packed n p) (e ∙ sym (length-packed n p))
+    (λ j h. let k : j < n = omega (arith, h, e) in each j k ∙ sym (packed-at n p j k))

@@ -3,8 +3,9 @@
 --   carried_here d m  == what comes of the message m; carried_by d s c == what is said of it
 --   inform_of d s n m == an I-frame with N(S) = n and the message m, the acknowledged answer being removed
 -- Assumes nothing.
-use Rattle.std.specs.Prelude.{Bool, cond, List, ℕ}
+use Rattle.std.specs.Prelude.{Bool, cond, List, ℕ, Option, Some, None}
 use Rattle.antenna.specs.declared.Alarms.{Alarms}
+use Rattle.record.specs.declared.Payload.{Payload}
 use Rattle.record.specs.declared.Session.{Session}
 use Rattle.record.specs.declared.Link.TheVariants.{Connected}
 use Rattle.record.specs.declared.Station.{Station}
@@ -17,7 +18,6 @@ use Rattle.station.specs.Station.{resent, answers_with}
 use Rattle.station.specs.Turns.{saying, pend, ready}
 use Rattle.message.specs.Carried.{carried_of}
 use Rattle.message.specs.declared.Carried.{Carried}
-use Rattle.message.specs.declared.Reply.{Reply}
 
 -- what is told and the subscription are as the message leaves them
 unfoldable pub heeded : Station → Session → Alarms → Bool → Station
@@ -30,11 +30,11 @@ abbrev pub carried_here : Device → List ℕ → Carried
 carried_here d m = carried_of d.plate d.antenna d.station.desk.told d.station.desk.subscribed m
 
 -- an answer is pending from now on; no answer: "RR is sent", "Set tilt is answered RR at once"
-unfoldable pub replied_by : Device → Session → Carried → Reply → Turn
-replied_by d s c Reply.None = saying (heed_of d s c) (ready s)
-replied_by d s c Reply.Answer =
+unfoldable pub replied_by : Device → Session → Carried → Option Payload → Turn
+replied_by d s c None = saying (heed_of d s c) (ready s)
+replied_by d s c (Some q) =
     saying
-    (device_of d (answers_with (heeded d.station s c.told c.subscribed) s c.payload) c.antenna)
+    (device_of d (answers_with (heeded d.station s c.told c.subscribed) s q) c.antenna)
     (pend s)
 
 unfoldable pub carried_by : Device → Session → Carried → Turn

@@ -7,61 +7,47 @@ ghost use Rattle.std.specs.Prelude.{◌≡◌};
 ghost use Rattle.session.specs.Session.{accepts, taken};
 ghost use Rattle.inform.specs.Inform.{heed_of, carried_here, replied_by, carried_by, inform_of};
 
-use message::{Carried, Reply};
-use record::{Device, Link, Session, Station};
+use message::Carried;
+use record::{Device, Link, Payload, Session, Station};
 use station::{Say, Turn};
 
 // Whether an I-frame with this N(S) is accepted, after a good N(R).
+#[tactic(auto, unfolding(session::specs::Session::accepts))]
 fn is_accepted(session: Session, ns: u8) -> bool
     ensures { result ≡ accepts session ns }
 {
-    let pending = session.pending;
-    if session::is_pending(pending) {
-        return false;
-    }
-    ns == session.r
+    !session::is_pending(session.pending) && ns == session.r
 }
 
 // The session once an I-frame is accepted: R moves on.
-fn moved(session: Session) -> Session
+#[tactic(auto, unfolding(session::specs::Session::taken))]
+fn moved(mut session: Session) -> Session
     ensures { result ≡ taken session }
 {
-    let pending = session.pending;
-    Session {
-        r: control::next(session.r),
-        s: session.s,
-        pending,
-    }
+    session.r = control::next(session.r);
+    session
 }
 
 // What is told, the subscription and the antenna as the message leaves them.
-fn heed(device: Device, s: Session, carried: Carried) -> Device
+#[tactic(auto, unfolding(crate::specs::Inform::heeded, record::specs::Changes::device_of))]
+fn heed(mut device: Device, s: Session, carried: Carried) -> Device
     ensures { result ≡ heed_of device s carried }
 {
-    let plate = device.plate;
-    let station = device.station;
-    let mut desk = station.desk;
-    let told = carried.told;
-    let antenna = carried.antenna;
-    desk.subscribed = carried.subscribed;
-    desk.told = told;
-    Device {
-        plate,
-        station: Station {
-            link: Link::Connected(s),
-            desk,
-        },
-        antenna,
-    }
+    device.station.link = Link::Connected(s);
+    device.station.desk.subscribed = carried.subscribed;
+    device.station.desk.told = carried.told;
+    device.antenna = carried.antenna;
+    device
 }
 
-fn reply_by(device: Device, s: Session, carried: Carried, reply: Reply) -> Turn
+#[tactic(auto, unfolding(crate::specs::Inform::replied_by, station::specs::Turns::saying))]
+fn reply_by(device: Device, s: Session, carried: Carried, reply: Option<Payload>) -> Turn
     ensures { result ≡ replied_by device s carried reply }
 {
-    let payload = carried.payload;
     let heeded = heed(device, s, carried);
     match reply {
-        Reply::None => {
+        Some(payload) => station::answer(heeded, s, payload),
+        None => {
             Turn {
                 device: heeded,
                 say: Say::Bare {
@@ -69,30 +55,20 @@ fn reply_by(device: Device, s: Session, carried: Carried, reply: Reply) -> Turn
                 },
             }
         }
-        Reply::Answer => station::answer(heeded, s, payload),
     }
 }
 
-fn carry_here(device: Device, m: &[u8]) -> Carried
-    ensures { result ≡ carried_here device m.now }
-{
-    let plate = device.plate;
-    let station = device.station;
-    let antenna = device.antenna;
-    let desk = station.desk;
-    let told = desk.told;
-    message::carry(plate, antenna, told, desk.subscribed, m)
-}
-
+#[tactic(auto, unfolding(crate::specs::Inform::carried_by))]
 fn carry(device: Device, s: Session, m: &[u8]) -> Turn
     ensures { result ≡ carried_by device s (carried_here device m.now) }
 {
-    let carried = carry_here(device, m);
-    let reply = carried.reply;
-    reply_by(device, s, carried, reply)
+    let desk = device.station.desk;
+    let carried = message::carry(device.plate, device.antenna, desk.told, desk.subscribed, m);
+    reply_by(device, s, carried, carried.reply)
 }
 
 // An I-frame: carried out if it is the next one due, else what was said is said again.
+#[tactic(auto, unfolding(crate::specs::Inform::inform_of, station::specs::Turns::saying))]
 pub fn inform(device: Device, s: Session, ns: u8, m: &[u8]) -> Turn
     ensures { result ≡ inform_of device s ns m.now }
 {

@@ -28,19 +28,16 @@ pub const LONGEST_FRAME: usize = LIMIT_MOST - CHECK;
 pub const LONGEST_LINE: usize = 2 * LIMIT_MOST + 2;
 
 // Whether a number is a frame limit: 78 to 260.
+#[tactic(auto, unfolding(crate::specs::Limits::is_limit))]
 pub fn is_limit(n: usize) -> bool
     ensures { result ≡ is_limit n }
 {
-    if n < LIMIT_LEAST {
-        false
-    } else {
-        n <= LIMIT_MOST
-    }
+    LIMIT_LEAST <= n && n <= LIMIT_MOST
 }
 
 // The most octets of a frame without its check.
 pub fn frame_most(limit: usize) -> usize
     ensures { result ≡ frame_most limit }
 {
-    if limit < CHECK { 0 } else { limit - CHECK }
+    limit.saturating_sub(CHECK)
 }

@@ -20,9 +20,8 @@ use Rattle.record.specs.declared.Device.{Device}
 use Rattle.record.specs.Allowed.{identity_of, limit_of}
 use Rattle.record.specs.Changes.{ended_as, limited_to}
 use Rattle.control.specs.declared.AskedFor.{AskedFor}
-use Rattle.negotiation.specs.declared.Offer.{Offer}
-use Rattle.negotiation.specs.declared.Offer.TheVariants.{Malformed, Agreed}
-use Rattle.negotiation.specs.Negotiation.{offer_of}
+use Rattle.std.specs.Prelude.{Ok, Err}
+use Rattle.negotiation.specs.Negotiation.{Offer, agrees_on, offer_of}
 use Rattle.negotiation.proofs.Exactly.{offer-malformed}
 use Rattle.session.specs.Session.{good_number}
 use Rattle.xid.specs.Match.{read_of}
@@ -132,7 +131,7 @@ module _ (d : Device) (f : List ℕ) (P : Turn → Type 0)
     (scanned : Everyone d f → read_of (identity_of d.plate) (drop 2 f) ≡ xids.Xid.Scan → P (saying d Say.Scanned))
     (assigned : (a : ℕ) → Everyone d f → read_of (identity_of d.plate) (drop 2 f) ≡ xids.Xid.Assignment a
     → P (saying (ended_as d a AddressAssigned) Say.Assigned))
-    (negotiated : (n : ℕ) (a : AskedFor) → OwnXid d f → offer_of (limit_of d) (drop 2 f) ≡ Agreed n a
+    (negotiated : (n : ℕ) (a : AskedFor) → OwnXid d f → offer_of (limit_of d) (drop 2 f) ≡ agrees_on n a
     → P (saying (limited_to d n) (Say.Negotiated a)))
     (begins : Own d f Snrm → d.station.link ≡ AddressAssigned → P (saying (begun d) ua))
     (refuses : (o : Order) → Own d f o → is_snrm o ≡ false → d.station.link ≡ AddressAssigned → P (saying d dm))
@@ -183,10 +182,10 @@ module _ (d : Device) (f : List ℕ) (P : Turn → Type 0)
 
   offer-cases : OwnXid d f → (x : Offer) → offer_of (limit_of d) (drop 2 f) ≡ x → P (agreed_by d x)
   unfolding agreed_by
-  offer-cases w Malformed e =
+  offer-cases w (Err x) e =
       silent
       (unagreed (eqb-false (get_or f 0 0) all_stations w.all) w.control ((offer-malformed (limit_of d) (drop 2 f)).0 e))
-  offer-cases w (Agreed n a) e = negotiated n a w e
+  offer-cases w (Ok x) e = negotiated x.limit x.asked w e
 
   xid-cases : Everyone d f → (x : xids.Xid) → read_of (identity_of d.plate) (drop 2 f) ≡ x → P (xid_by d x)
   unfolding xid_by

@@ -9,7 +9,7 @@
 --   wrong_size N f   == f has "fewer than 2 or more than 76 octets", and N - 2 for 76
 --   judged_frame d f == the frame f, of address, control and payload
 -- Assumes nothing.
-use Rattle.std.specs.Prelude.{Bool, true, false, cond, not, ◌&&◌, ◌||◌, List, ℕ, ltb, eqb, length, get_or, drop}
+use Rattle.std.specs.Prelude.{Bool, true, false, cond, not, ◌&&◌, ◌||◌, List, ℕ, ltb, eqb, length, get_or, drop, Ok, Err}
 use Rattle.limits.specs.Limits.{frame_most}
 use Rattle.control.specs.Control.{polled, xid_control, asked_by}
 use Rattle.control.specs.declared.Order.{Order}
@@ -19,9 +19,7 @@ use Rattle.record.specs.declared.Link.TheVariants.{NoAddress, AddressAssigned, C
 use Rattle.record.specs.declared.Device.{Device}
 use Rattle.record.specs.Allowed.{identity_of, limit_of}
 use Rattle.record.specs.Changes.{ended_as, limited_to}
-use Rattle.negotiation.specs.declared.Offer.{Offer}
-use Rattle.negotiation.specs.declared.Offer.TheVariants.{Malformed, Agreed}
-use Rattle.negotiation.specs.Negotiation.{offer_of}
+use Rattle.negotiation.specs.Negotiation.{Offer, offer_of}
 use Rattle.xid.specs.Match.{read_of}
 use Rattle.xid.specs.declared.Xid as xids
 use Rattle.station.specs.declared.Say.{Say}
@@ -54,8 +52,8 @@ has_address (Connected s) = true
 -- 02 (iv): "the device answers with its own limit where that is lower"; "'own address, XID: silence' now holds for other
 -- groups and malformed ones"
 unfoldable pub agreed_by : Device → Offer → Turn
-agreed_by d Malformed = mute d
-agreed_by d (Agreed n a) = saying (limited_to d n) (Say.Negotiated a)
+agreed_by d (Err e) = mute d
+agreed_by d (Ok x) = saying (limited_to d x.limit) (Say.Negotiated x.asked)
 
 -- in AddressAssigned and in Connected
 unfoldable pub negotiated_by : Device → List ℕ → Turn

@@ -12,7 +12,8 @@ ghost use Rattle.link.specs.Link.{is_own, addressed_by, controlled_by, judged_fr
 
 use control::Order;
 use limits::LIMIT_LEAST;
-use negotiation::Offer;
+use negotiation::Agreed;
+use params::Malformed;
 use record::{Device, Link, Station};
 use station::{Say, Turn};
 use xid::Xid;
@@ -125,12 +126,12 @@ fn limited(device: Device, limit: usize) -> Device
     }
 }
 
-fn agree(device: Device, offer: Offer) -> Turn
+fn agree(device: Device, offer: Result<Agreed, Malformed>) -> Turn
     ensures { result ≡ agreed_by device offer }
 {
     match offer {
-        Offer::Malformed => say(device, Say::Silence),
-        Offer::Agreed { limit, asked } => say(limited(device, limit), Say::Negotiated { asked }),
+        Err(_) => say(device, Say::Silence),
+        Ok(Agreed { limit, asked }) => say(limited(device, limit), Say::Negotiated { asked }),
     }
 }
 

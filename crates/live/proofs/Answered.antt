@@ -3,7 +3,7 @@
 --   fitting_rows N h  == the rows of what is handed out, but for that of 5
 --   TookAll, TookUpTo == a call goes over all octets, or up to the flag at the place k; HowFar == one of the two
 -- Assumes nothing.
-use Rattle.std.proofs.Common.{Result, Ok, Err}
+use Rattle.std.proofs.Common.{Option, Some, None, Result, Ok, Err}
 use Rattle.refusal.specs.declared.Refusal.{Refusal}
 use mathlib.Core.Path.{◌≡◌, refl, sym, ap, ◌∙◌, subst}
 use mathlib.Core.Bool.{Bool, true, false, not}
@@ -27,16 +27,14 @@ use Rattle.limits.proofs.Exactly.{is-limit-exactly}
 use Rattle.frame.specs.Line.{flag}
 use Rattle.frame.specs.Decode.{body, right_check, decode_rows}
 use Rattle.frame.proofs.Checks.{split-two, check-exactly}
-use Rattle.receiver.specs.Held.{Held, held_of, Usable, places, after_flag, after_octet, closes, stretch_says}
+use Rattle.receiver.specs.Held.{Held, Usable, places, after_flag, after_octet, closes, stretch_says}
 use Rattle.receiver.specs.Call.{Told, nothing, handed, Took, further, takes, receive_rows, received}
-use Rattle.receiver.specs.Call.{heard_of, told_counted, told_by, took_by, held_by, out_told, out_by, Receives}
+use Rattle.receiver.specs.Call.{handed_of, heard_of, count_of, told_counted, told_by, took_by, held_by, out_told, out_by, Receives}
 use Rattle.receiver.proofs.After.{by-test}
 use Rattle.receiver.proofs.Refusals.{in_order}
 use Rattle.receiver.proofs.Only.{nothing-not-handed}
-use Rattle.receiver.specs.declared.Heard.{Heard}
-use Rattle.receiver.specs.declared.Heard.TheVariants.{Nothing, HandedOut, Refused}
 use Rattle.receiver.specs.declared.Received.{Received}
-use Rattle.live.specs.Calls.{after_all, hand_outs, told_outs, outs_by, HeardTells, CallTells, read_out}
+use Rattle.live.specs.Calls.{after_all, hand_outs, told_outs, outs_by, HeardTells, CallTells, handed_read, read_out}
 
 module _ {A : Type 0} (a : A) where
   -- a number that is given is that of a row
@@ -317,76 +315,67 @@ handed-same : {A : Type 0} {a b : Answer A} → handed a ≡ handed b → a ≡ 
 handed-same e = cc
 
 -- what a caller learns of the promise, for any record
-module _ (N : ℕ) (h : Held) (s o : List ℕ) (r : Received) (m o' : List ℕ) where
+module _ (N : ℕ) (h : Held) (s o : List ℕ) (g : Held) (o' : List ℕ) where
   -- a call that was not refused, by what it told
-  module _ (t : Took) (e : received N h s (length o) ≡ gives t) (count : r.taken ≡ t.count)
-      (held : held_of r.receiver m ≡ t.held) where
-    quiet_told : t.told ≡ nothing → o' ≡ o → HeardTells Nothing (gives t) h s o r m o'
+  module _ (t : Took) (e : received N h s (length o) ≡ gives t) {k : ℕ} (count : k ≡ t.count) (held : g ≡ t.held) where
+    quiet_told : t.told ≡ nothing → o' ≡ o → HeardTells None (gives t) s o k g o'
     quiet_told q octets =
         (t, refl, q, count ∙ quiet_all N h s (length o) e q, held, octets)
 
     handed-told : (a : Answer (List ℕ)) (q : Result ℕ Refusal) → t.told ≡ handed a → Hands a o q o'
-        → HeardTells (HandedOut q) (gives t) h s o r m o'
+        → HeardTells (Some q) (gives t) s o k g o'
     unfolding out_after
     handed-told a (Ok n) told w =
         let (this, size) = octets-told a w in
         let there = w.octets ∙ ap (λ (b : Answer (List ℕ)). out_after b o) this in
         (t, refl, told ∙ ap handed this, count, held, size, there)
-    handed-told a (Err k) told w =
+    handed-told a (Err j) told w =
         let (this, same) = refusal-told a w in (t, refl, told ∙ ap handed this, count, held, same)
 
-    taken-tells : (w : Heard) (d : Told (List ℕ)) → t.told ≡ d → heard_of w ≡ gives (told_counted d) → o' ≡ out_told d o
-        → HeardTells w (gives t) h s o r m o'
-    unfolding heard_of told_counted out_told
-    taken-tells Nothing nothing q f octets = quiet_told q octets
-    taken-tells Nothing (handed a) q f octets = absurd (nothing-not-handed (gives_same f))
-    taken-tells (HandedOut w) nothing q f octets = absurd (nothing-not-handed (sym (gives_same f)))
-    taken-tells (HandedOut w) (handed a) q f octets =
-        handed-told a w q (record { answer = handed-same (gives_same f); octets = octets })
-    taken-tells (Refused k) d q f octets = absurd (gives-not-refuses (sym f))
+    taken-tells : (w : Option (Result ℕ Refusal)) (d : Told (List ℕ)) → t.told ≡ d → handed_of w ≡ told_counted d → o' ≡ out_told d o
+        → HeardTells w (gives t) s o k g o'
+    unfolding handed_of told_counted out_told
+    taken-tells None nothing q f octets = quiet_told q octets
+    taken-tells None (handed a) q f octets = absurd (nothing-not-handed f)
+    taken-tells (Some w) nothing q f octets = absurd (nothing-not-handed (sym f))
+    taken-tells (Some w) (handed a) q f octets =
+        handed-told a w q (record { answer = handed-same f; octets = octets })
 
-  -- one that was
-  refused-tells : (w : Heard) (k : ℕ) → heard_of w ≡ refuses k → r.taken ≡ 0 → held_of r.receiver m ≡ h → o' ≡ o
-      → HeardTells w (refuses k) h s o r m o'
-  unfolding heard_of
-  refused-tells Nothing k f count held octets = absurd (gives-not-refuses f)
-  refused-tells (HandedOut w) k f count held octets = absurd (gives-not-refuses f)
-  refused-tells (Refused j) k f count held octets = (
-    ap refuses (sym (refuses-same f)),
-    count,
-    ap (λ (g : Held). g.marks) held,
-    ap (λ (g : Held). g.store) held,
-    octets,
-  )
+  handed-reads : (x : Answer Took) (w : Option (Result ℕ Refusal)) (k : ℕ) → HeardTells w x s o k g o' → handed_read w o' ≡ outs_by x
+  unfolding handed_read outs_by told_outs
+  handed-reads x None k w = rw (w.1, w.2)
+  handed-reads x (Some (Ok n)) k w = rw (w.1, w.2)
+  handed-reads x (Some (Err j)) k w = rw (w.1, w.2)
 
-  read-tells : (x : Answer Took) (w : Heard) → HeardTells w x h s o r m o' → read_out w o' ≡ outs_by x
-  unfolding read_out outs_by told_outs
-  read-tells x Nothing w = rw (w.1, w.2)
-  read-tells x (HandedOut (Ok n)) w = rw (w.1, w.2)
-  read-tells x (HandedOut (Err k)) w = rw (w.1, w.2)
-  read-tells x (Refused k) w = rw w.0
+  read-tells : (x : Answer Took) (r : Result Received Refusal) → CallTells x h s o r g o' → read_out r o' ≡ outs_by x
+  unfolding read_out outs_by
+  read-tells x (Ok c) w = handed-reads x c.handed c.taken w
+  read-tells x (Err k) w = rw w.0
 
-module _ (N : ℕ) (h : Held) (s o : List ℕ) {r : Received} {m o' : List ℕ} where
-  pub receives-tells : Receives (received N h s (length o)) h o r m o' → CallTells (received N h s (length o)) h s o r m o'
-  unfolding told_by took_by held_by out_by
-  receives-tells = go (received N h s (length o)) refl
+module _ (N : ℕ) (h : Held) (s o : List ℕ) {g : Held} {o' : List ℕ} where
+  pub receives-tells : {r : Result Received Refusal} → Receives (received N h s (length o)) h o r g o'
+      → CallTells (received N h s (length o)) h s o r g o'
+  unfolding heard_of count_of told_by took_by held_by out_by
+  receives-tells {r} = go (received N h s (length o)) r refl
     where
-      go : (x : Answer Took) → received N h s (length o) ≡ x → Receives x h o r m o' → CallTells x h s o r m o'
-      go (gives t) e w =
-          taken-tells N h s o r m o' t e w.count w.held r.heard t.told refl w.answer w.octets
-      go (refuses k) e w = refused-tells N h s o r m o' r.heard k w.answer w.count w.held w.octets
+      go : (x : Answer Took) (r : Result Received Refusal) → received N h s (length o) ≡ x → Receives x h o r g o' → CallTells x h s o r g o'
+      go (gives t) (Ok c) e w =
+          taken-tells N h s o g o' t e w.count w.held c.handed t.told refl (gives_same w.answer) w.octets
+      go (gives t) (Err k) e w = absurd (gives-not-refuses (sym w.answer))
+      go (refuses k) (Ok c) e w = absurd (gives-not-refuses w.answer)
+      go (refuses k) (Err j) e w = (ap refuses (sym (refuses-same w.answer)), w.held, w.octets)
 
   -- what a caller reads, how far it goes on, and with which record
-  pub call-reads : Receives (received N h s (length o)) h o r m o'
-      → (read_out r.heard o' ≡ outs_by (received N h s (length o)))
-      × (r.taken ≡ took_by (received N h s (length o)))
-      × (held_of r.receiver m ≡ held_by (received N h s (length o)) h)
-  call-reads w =
-      (read-tells N h s o r m o' (received N h s (length o)) r.heard (receives-tells w), w.count, w.held)
+  pub call-reads : {r : Result Received Refusal} → Receives (received N h s (length o)) h o r g o'
+      → (read_out r o' ≡ outs_by (received N h s (length o)))
+      × (count_of r ≡ took_by (received N h s (length o)))
+      × (g ≡ held_by (received N h s (length o)) h)
+  call-reads {r} w =
+      (read-tells N h s o g o' (received N h s (length o)) r (receives-tells w), w.count, w.held)
 
   -- a call that is not refused and has octets takes at least one, and no more than it was lent
-  pub call-takes : is_limit N ≡ true → Usable h → frame_most N ≤ length o → Receives (received N h s (length o)) h o r m o'
-      → (0 < length s → 0 < r.taken) × (r.taken ≤ length s)
+  pub call-takes : is_limit N ≡ true → Usable h → frame_most N ≤ length o → {r : Result Received Refusal}
+      → Receives (received N h s (length o)) h o r g o' → (0 < length s → 0 < count_of r) × (count_of r ≤ length s)
   unfolding took_by
   call-takes l u fits w =
       let count = w.count ∙ ap took_by (not-refused N h s (length o) l u fits) in (
@@ -395,12 +384,12 @@ module _ (N : ℕ) (h : Held) (s o : List ℕ) {r : Received} {m o' : List ℕ} 
       )
 
   -- for every record: a frame that is handed out has the right check for the octets that the caller reads
-  pub right-check-call : {n : ℕ} → Receives (received N h s (length o)) h o r m o' → r.heard ≡ HandedOut (Ok n)
-      → (k : ℕ) × (low : ℕ) × (high : ℕ) × (r.taken ≡ suc k) × (get_or s k 0 ≡ flag)
+  pub right-check-call : {n : ℕ} {c : Received} → Receives (received N h s (length o)) h o (Ok c) g o' → c.handed ≡ Some (Ok n)
+      → (k : ℕ) × (low : ℕ) × (high : ℕ) × (c.taken ≡ suc k) × (get_or s k 0 ≡ flag)
       × (held_octets (after_all h (take k s)) ≡ take n o' ++ low ∷ high ∷ []) × (check_of (take n o') ≡ pair_of low high)
-  right-check-call {n} w is =
+  right-check-call {n} {c} w is =
       let (t, e, told, count, held, long, there) =
-      subst (λ (q : Heard). HeardTells q (received N h s (length o)) h s o r m o') is (receives-tells w) in
+      subst (λ (q : Option (Result ℕ Refusal)). HeardTells q (received N h s (length o)) s o c.taken g o') is (receives-tells w) in
       let these = (call-given N h s (length o) e).3 in
       let (k, size, closing, said, opens) =
       told-at-flag N (length o) h s (ap (λ (u : Took). u.told) these ∙ told) in

@@ -1,6 +1,7 @@
 -- A receiver in C: the block that is lent holds the record from call to call, all zeros is a fresh one, the number that
 -- crosses tells what was handed out, and the calls made again and again hand out what the decoder says.
 -- Assumes nothing.
+use Rattle.std.proofs.Common.{Result}
 use mathlib.Core.Path.{◌≡◌, refl, sym, ap, ap₂, ◌∙◌}
 use mathlib.Core.Bool.{Bool, true, false, cond, not}
 use mathlib.Core.List.{List, [], ◌∷◌, ◌++◌, flatten}
@@ -14,6 +15,7 @@ use Rattle.octets.specs.Octets.{holds, OneOf, pair_of}
 use Rattle.octets.proofs.Bounds.{pair_parts}
 use Rattle.octets.proofs.Stores.{take-start}
 use Rattle.octets.proofs.Words.{holds-exactly}
+use Rattle.refusal.specs.declared.Refusal.{Refusal}
 use Rattle.refusal.specs.Answer.{Answer, gives, refuses, counted, out_after}
 use Rattle.limits.specs.Limits.{is_limit, Limited, frame_most}
 use Rattle.frame.specs.Line.{flag}
@@ -21,8 +23,8 @@ use Rattle.receiver.specs.Held.{Held, Usable, places, stretch_says}
 use Rattle.receiver.specs.Call.{Told, nothing, handed, Took, takes, received}
 use Rattle.receiver.specs.Call.{told_counted, told_by, took_by, held_by, out_told, out_by}
 use Rattle.receiver.specs.declared.Receiver.{Receiver}
+use Rattle.receiver.specs.declared.Received.{Received}
 use Rattle.block.specs.Block.{yes, yes_octet, marks_in, marks_octets, held_in, block_after, block_size, Blocks}
-use Rattle.block.specs.declared.Returned.{Returned}
 use Rattle.capi.specs.Crossing.{refusals, crossed, heard_crossed, Crosses, taken_after, Hears}
 use Rattle.capi.proofs.Crosses.{low_told}
 use Rattle.live.specs.Stretches.{heard_line}
@@ -363,15 +365,10 @@ pub yes-written : (yes_octet true ≡ 1) × (yes_octet false ≡ 0)
 yes-written = (refl, refl)
 
 -- what a caller of the block's own function learns: as of `receive`, with the record that the block holds; and the block after it
-pub block-tells : (N : ℕ) (b s o : List ℕ) {r : Returned} {b' o' : List ℕ}
+pub block-tells : (N : ℕ) (b s o : List ℕ) {r : Result Received Refusal} {b' o' : List ℕ}
     → Blocks (received N (held_in b) s (length o)) b o r b' o'
-    → CallTells (received N (held_in b) s (length o)) (held_in b) s o
-    (record {
-      receiver = (held_by (received N (held_in b) s (length o)) (held_in b)).marks;
-      taken = r.taken;
-      heard = r.heard;
-    })
-    (held_by (received N (held_in b) s (length o)) (held_in b)).store o'
+    → CallTells (received N (held_in b) s (length o)) (held_in b) s o r
+    (held_by (received N (held_in b) s (length o)) (held_in b)) o'
     × (b' ≡ block_after (received N (held_in b) s (length o)) b)
 block-tells N b s o w = (
   receives-tells N (held_in b) s o

@@ -7,8 +7,8 @@ use Prim.Native.Nat.{ℕ}
 use lib.ListN.{length, take, drop}
 use Rattle.refusal.specs.Answer.{Answer}
 use Rattle.limits.specs.Limits.{is_limit}
-use Rattle.receiver.specs.Held.{Held, held_of, Usable, places}
-use Rattle.receiver.specs.Call.{Took, received}
+use Rattle.receiver.specs.Held.{Held, Usable, places}
+use Rattle.receiver.specs.Call.{Took, received, count_of}
 use Rattle.live.specs.Stretches.{heard_line}
 use Rattle.live.specs.Calls.{after_all, Worked, outs_by, with_outs, offers, Roomy}
 use Rattle.live.specs.Calls.{read_out, Round, played, Kept, round_offers}
@@ -27,11 +27,10 @@ module _ (N : ℕ) where
   played-offers h s (c ∷ cs) kept =
       let x : Answer Took = received N h (take c.octets s) (length c.output) in
       let (read, count, held) = call-reads N h (take c.octets s) c.output kept.0 in
-      let g : Held = held_of c.answer.receiver c.store in
-      let rest : List ℕ = drop c.answer.taken s in
+      let rest : List ℕ = drop (count_of c.answer) s in
       let more : Held → List ℕ → Worked = λ f q. offers N f q (round_offers cs) in
-      ap (with_outs (read_out c.answer.heard c.after)) (played-offers g rest cs kept.1)
-      ∙ ap (λ (l : List (Answer (List ℕ))). with_outs l (more g rest)) read
+      ap (with_outs (read_out c.answer c.after)) (played-offers c.held rest cs kept.1)
+      ∙ ap (λ (l : List (Answer (List ℕ))). with_outs l (more c.held rest)) read
       ∙ ap₂ (λ (f : Held) (n : ℕ). with_outs (outs_by x) (more f (drop n s))) held count
 
   module _ (limit : is_limit N ≡ true) where

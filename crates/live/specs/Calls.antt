@@ -6,28 +6,27 @@
 --   fed N room h rs  == the runs rs one after the other, each lent whole, and again with what was left of it; empty runs, too
 --   Roomy N cs       == no output is shorter than N - 2
 --   Alike h g        == two records are equal but for places of the store past the count
---   CallTells x h s o r m o' == what the code's answer r, the store m and the output o' tell of the answer x to a call with
---                       the record h, the run s and the output o, by the cases of what was heard (HeardTells)
---   read_out q o     == what a caller reads: of what it heard, q, and the output o that it got back
+--   CallTells x h s o r g o' == what the code's answer r, the record g and the output o' tell of the answer x to a call with
+--                       the record h, the run s and the output o, by the cases of what was handed out (HeardTells)
+--   read_out r o     == what a caller reads: of the answer r and the output o that it got back
 --   Round            == one call and what came of it: how many of the octets that are left are lent, the output, the code's
---                       answer, and the store and the output after it
+--                       answer, and the record and the output after it
 --   played h s cs    == how far the calls cs over the octets s take a caller: it reads what it gets back, and goes on with
 --                       the record and the store that it got back and with the octets that were not taken
 --   Kept N h s cs    == each answer of such calls is one that the promise of `receive` allows
 --   round_offers cs  == how the calls cs offer the octets
 --   Likewise t u     == two calls go equally far, with the same record behind them, and both hand something out or neither
 -- Assumes nothing.
-use Rattle.std.specs.Prelude.{Ok, Err}
+use Rattle.std.specs.Prelude.{Option, Some, None, Result, Ok, Err}
 use Rattle.std.specs.Prelude.{◌≡◌, cond, List, [], ◌∷◌, ◌++◌, ◌⊎◌, ℕ, zero, suc, ◌≤◌, length, take, drop}
 use Rattle.octets.specs.Octets.{◌at_start_of◌}
 use Rattle.refusal.specs.Numbers.{number_of}
 use Rattle.refusal.specs.Answer.{Answer, gives, refuses}
+use Rattle.refusal.specs.declared.Refusal.{Refusal}
 use Rattle.limits.specs.Limits.{frame_most}
-use Rattle.receiver.specs.Held.{Held, held_of, after_octet, closes, stretch_says}
-use Rattle.receiver.specs.declared.Heard.{Heard}
-use Rattle.receiver.specs.declared.Heard.TheVariants.{Nothing, HandedOut, Refused}
+use Rattle.receiver.specs.Held.{Held, after_octet, closes, stretch_says}
 use Rattle.receiver.specs.declared.Received.{Received}
-use Rattle.receiver.specs.Call.{Told, nothing, handed, Took, received, took_by, held_by, Receives}
+use Rattle.receiver.specs.Call.{Told, nothing, handed, Took, received, count_of, took_by, held_by, Receives}
 
 unfoldable pub after_all : Held → List ℕ → Held
 after_all h [] = h
@@ -94,47 +93,46 @@ pub record Likewise (t u : Took) : Type 0 where
 
 -- nothing was handed out: the whole run is taken; a frame, at the start of the output; the number of a stretch; or the call
 -- itself is refused
-abbrev pub HeardTells : Heard → Answer Took → Held → List ℕ → List ℕ → Received → List ℕ → List ℕ → Type 0
-HeardTells Nothing x h s o r m o' =
-    (t : Took) × (x ≡ gives t) × (t.told ≡ nothing) × (r.taken ≡ length s) × (held_of r.receiver m ≡ t.held)
-    × (o' ≡ o)
-HeardTells (HandedOut (Ok n)) x h s o r m o' =
-    (t : Took) × (x ≡ gives t) × (t.told ≡ handed (gives (take n o'))) × (r.taken ≡ t.count)
-    × (held_of r.receiver m ≡ t.held) × (n ≡ length (take n o')) × (o' ≡ take n o' at_start_of o)
-HeardTells (HandedOut (Err k)) x h s o r m o' =
-    (t : Took) × (x ≡ gives t) × (t.told ≡ handed (refuses (number_of k))) × (r.taken ≡ t.count)
-    × (held_of r.receiver m ≡ t.held) × (o' ≡ o)
-HeardTells (Refused k) x h s o r m o' =
-    (x ≡ refuses (number_of k)) × (r.taken ≡ 0) × (r.receiver ≡ h.marks) × (m ≡ h.store) × (o' ≡ o)
+abbrev pub HeardTells : Option (Result ℕ Refusal) → Answer Took → List ℕ → List ℕ → ℕ → Held → List ℕ → Type 0
+HeardTells None x s o k g o' =
+    (t : Took) × (x ≡ gives t) × (t.told ≡ nothing) × (k ≡ length s) × (g ≡ t.held) × (o' ≡ o)
+HeardTells (Some (Ok n)) x s o k g o' =
+    (t : Took) × (x ≡ gives t) × (t.told ≡ handed (gives (take n o'))) × (k ≡ t.count) × (g ≡ t.held)
+    × (n ≡ length (take n o')) × (o' ≡ take n o' at_start_of o)
+HeardTells (Some (Err r)) x s o k g o' =
+    (t : Took) × (x ≡ gives t) × (t.told ≡ handed (refuses (number_of r))) × (k ≡ t.count) × (g ≡ t.held) × (o' ≡ o)
 
-abbrev pub CallTells : Answer Took → Held → List ℕ → List ℕ → Received → List ℕ → List ℕ → Type 0
-CallTells x h s o r m o' = HeardTells r.heard x h s o r m o'
+abbrev pub CallTells : Answer Took → Held → List ℕ → List ℕ → Result Received Refusal → Held → List ℕ → Type 0
+CallTells x h s o (Ok c) g o' = HeardTells c.handed x s o c.taken g o'
+CallTells x h s o (Err r) g o' = (x ≡ refuses (number_of r)) × (g ≡ h) × (o' ≡ o)
 
 -- a frame is read at the start of the output
-unfoldable pub read_out : Heard → List ℕ → List (Answer (List ℕ))
-read_out Nothing o = []
-read_out (HandedOut (Ok n)) o = gives (take n o) ∷ []
-read_out (HandedOut (Err k)) o = refuses (number_of k) ∷ []
-read_out (Refused k) o = []
+unfoldable pub handed_read : Option (Result ℕ Refusal) → List ℕ → List (Answer (List ℕ))
+handed_read None o = []
+handed_read (Some (Ok n)) o = gives (take n o) ∷ []
+handed_read (Some (Err k)) o = refuses (number_of k) ∷ []
+
+unfoldable pub read_out : Result Received Refusal → List ℕ → List (Answer (List ℕ))
+read_out (Ok c) o = handed_read c.handed o
+read_out (Err k) o = []
 
 pub record Round : Type 0 where
   pub octets : ℕ
   pub output : List ℕ
-  pub answer : Received
-  pub store : List ℕ
+  pub answer : Result Received Refusal
+  pub held : Held
   pub after : List ℕ
 
 unfoldable pub played : Held → List ℕ → List Round → Worked
 played h s [] = record { held = h; left = s; outs = [] }
 played h s (c ∷ cs) =
-    with_outs (read_out c.answer.heard c.after)
-    (played (held_of c.answer.receiver c.store) (drop c.answer.taken s) cs)
+    with_outs (read_out c.answer c.after) (played c.held (drop (count_of c.answer) s) cs)
 
 unfoldable pub Kept : ℕ → Held → List ℕ → List Round → Type 0
 Kept N h s [] = Unit {0}
 Kept N h s (c ∷ cs) =
-    Receives (received N h (take c.octets s) (length c.output)) h c.output c.answer c.store c.after
-    × Kept N (held_of c.answer.receiver c.store) (drop c.answer.taken s) cs
+    Receives (received N h (take c.octets s) (length c.output)) h c.output c.answer c.held c.after
+    × Kept N c.held (drop (count_of c.answer) s) cs
 
 unfoldable pub round_offers : List Round → List Offer
 round_offers [] = []

@@ -19,11 +19,11 @@ use Rattle.record.specs.declared.Plate.{Plate}
 use Rattle.payload.specs.Payloads.{payload_of, message_of, success_of, failure_of}
 use Rattle.message.specs.declared.Carried.{Carried}
 use Rattle.message.specs.Messages.{code_of, asked_of, checks}
-use Rattle.message.specs.Carried.{replies, unanswered, done_by, outcome, carried_of}
+use Rattle.message.specs.Carried.{payload_in, replies, unanswered, done_by, outcome, carried_of}
 
 -- the octet at a place of what is answered
 abbrev octet_at : ℕ → Carried → ℕ
-octet_at i r = get_or r.payload.octets i 0
+octet_at i r = get_or (payload_in r).octets i 0
 
 module _ (p : Plate) (n : Antenna) (told : Alarms) (sub : Bool) where
   -- what is done is never answered by a failure: its fourth octet is 0x00

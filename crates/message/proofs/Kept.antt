@@ -6,9 +6,9 @@ use mathlib.Core.Bool.{Bool, true}
 use mathlib.Core.List.{List}
 use mathlib.Core.Logic.{⊎_elim}
 use Prim.Native.Nat.{ℕ}
+use Rattle.std.specs.Prelude.{Some}
 use Rattle.octets.proofs.Words.{and_parts}
 use Rattle.limits.specs.Limits.{is_limit}
-use Rattle.antenna.specs.declared.Waits.TheVariants.{Result}
 use Rattle.antenna.specs.Motions.{waiting_of}
 use Rattle.antenna.proofs.Movements.{starts-no-result}
 use Rattle.record.specs.declared.Pending.TheVariants.{Nothing, Answer}
@@ -19,7 +19,7 @@ use Rattle.record.specs.declared.Device.{Device}
 use Rattle.record.specs.Allowed.{limit_of, addressed, numbers_allowed, pending_fits, session_allowed, link_allowed}
 use Rattle.record.specs.Allowed.{owed_allowed, allowed_device}
 use Rattle.record.proofs.Stays.{sound, allowed-by}
-use Rattle.message.specs.Carried.{carried_of, unanswered}
+use Rattle.message.specs.Carried.{payload_in, carried_of, unanswered}
 use Rattle.message.specs.declared.Carried.{Carried}
 use Rattle.message.proofs.Moves.{moved-or-not, due-moves}
 use Rattle.message.proofs.Stays.{stays-in-range, reply-fits}
@@ -68,7 +68,7 @@ module _ (d : Device) (s₀ s : Session) (t : Station) (m : List ℕ) (allowed :
   none_stays e = kept (rw e)
 
   -- an answer: it is the pending one
-  pub answer-stays : s.pending ≡ Answer → t.desk.reply ≡ (carried_at d m).payload
+  pub answer-stays : s.pending ≡ Answer → t.desk.reply ≡ payload_in (carried_at d m)
       → allowed_device (record { plate = d.plate; station = t; antenna = (carried_at d m).antenna }) ≡ true
   unfolding pending_fits
   answer-stays e q =
@@ -78,7 +78,7 @@ module _ (d : Device) (s₀ s : Session) (t : Station) (m : List ℕ) (allowed :
 
 -- no message makes a result that waits
 pub message-no-result : (d : Device) (m : List ℕ) (r : Bool)
-    → waiting_of (carried_at d m).antenna.motion ≡ Result r → waiting_of d.antenna.motion ≡ Result r
+    → waiting_of (carried_at d m).antenna.motion ≡ Some r → waiting_of d.antenna.motion ≡ Some r
 unfolding unanswered
 message-no-result d m r e =
     ⊎_elim

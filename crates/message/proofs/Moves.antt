@@ -9,6 +9,7 @@ use native.Mathlib.Omega.{arith}
 use borrow.Author.Tests.{ltb-true, ltb-false, eqb-true, not-false}
 use lib.Dec.{ltb, eqb}
 use lib.ListN.{length, get_or}
+use Rattle.std.specs.Prelude.{Ok}
 use Rattle.octets.specs.Octets.{holds}
 use Rattle.octets.proofs.Words.{true-not-false}
 use Rattle.refusal.specs.Answer.{Answer, gives, refuses, answered}
@@ -16,7 +17,6 @@ use Rattle.refusal.proofs.Exactly.{exactly-given}
 use Rattle.antenna.specs.declared.Alarms.{Alarms}
 use Rattle.antenna.specs.declared.Angle.{Angle}
 use Rattle.antenna.specs.declared.Antenna.{Antenna}
-use Rattle.antenna.specs.declared.Aim.TheVariants.{Started}
 use Rattle.antenna.specs.Alarms.{alarm_codes, codes_of}
 use Rattle.antenna.specs.Motions.{in_range, busy_of, owes_of, started, moves}
 use Rattle.record.specs.declared.Plate.{Plate}
@@ -29,7 +29,7 @@ use Rattle.information.specs.Information.{information_of}
 use Rattle.message.specs.declared.Carried.{Carried}
 use Rattle.message.specs.Messages.{code_of, declared_of, data_of, asked_of, table, in_table, taken_by, busied, outside}
 use Rattle.message.specs.Messages.{drive_checks, checks, Due}
-use Rattle.message.specs.Carried.{replies, unanswered, quieted, done_by, outcome, carried_of}
+use Rattle.message.specs.Carried.{payload_in, replies, unanswered, quieted, done_by, outcome, carried_of}
 use Rattle.message.proofs.Exact.{given-none}
 use Rattle.message.proofs.Words.{differs-exactly}
 use Rattle.message.proofs.Shapes.{unlisted, shape-none, shape_two}
@@ -56,7 +56,7 @@ module _ (p : Plate) (n : Antenna) (told : Alarms) (sub : Bool) (m : List ℕ) w
       (told-only : (b : List ℕ) → Says p b → P (replies b n told sub))
       (cleared : m ≡ 0x06 ∷ 0 ∷ 0 ∷ [] → P (replies (success_of 0x06 []) (quieted n) calm sub))
       (subscribed : m ≡ 0x12 ∷ 0 ∷ 0 ∷ [] → P (replies (success_of 0x12 []) n told true))
-      (moved : Due n m → P (unanswered (started n (asked_of m) Started) told sub)) where
+      (moved : Due n m → P (unanswered (started n (asked_of m) (Ok tt)) told sub)) where
     -- what the table says of each code, where no check fails
     module _ (long : 3 ≤ length m) (said : declared_of m ≡ length (data_of m))
         (listed : in_table table (code_of m) ≡ true) (size : length (data_of m) ≡ taken_by table (code_of m))
@@ -128,12 +128,12 @@ module _ (p : Plate) (n : Antenna) (told : Alarms) (sub : Bool) (m : List ℕ) w
       carried-cases (λ r. Due n m ⊎ (r.antenna.motion ≡ n.motion)) (λ few. inr refl) (λ b s. inr refl)
       (λ e. inr refl) (λ e. inr refl) inl
 
-  pub due-moves : Due n m → carried_of p n told sub m ≡ unanswered (started n (asked_of m) Started) told sub
+  pub due-moves : Due n m → carried_of p n told sub m ≡ unanswered (started n (asked_of m) (Ok tt)) told sub
   unfolding carried_of outcome answered checks drive_checks holds in_table taken_by done_by
   due-moves d = go (get_or m 3 0) (get_or m 4 0) d.octets d.reach
     where
       go : (low high : ℕ) → m ≡ 0x33 ∷ 2 ∷ 0 ∷ low ∷ high ∷ [] → in_range n (asked_of m) ≡ true
-          → carried_of p n told sub m ≡ unanswered (started n (asked_of m) Started) told sub
+          → carried_of p n told sub m ≡ unanswered (started n (asked_of m) (Ok tt)) told sub
       go low high e r = rw e (rw (d.idle, rw e at r))
 
   -- a movement starts exactly where a set tilt is due
@@ -184,9 +184,9 @@ module _ (p : Plate) (n : Antenna) (told : Alarms) (sub : Bool) (m : List ℕ) w
   owed-or-not = ⊎_elim inl (λ same. inr (ap owes_of same)) moved-or-not
 
   -- every payload fits: 74 octets at most
-  pub carried-fits : length (success_of 0x05 (information_of p)) ≤ 74 → (carried_of p n told sub m).payload.len ≤ 74
+  pub carried-fits : length (success_of 0x05 (information_of p)) ≤ 74 → (payload_in (carried_of p n told sub m)).len ≤ 74
   unfolding replies unanswered payload_of
   carried-fits h =
-      carried-cases (λ r. r.payload.len ≤ 74) (λ few. omega arith)
+      carried-cases (λ r. (payload_in r).len ≤ 74) (λ few. omega arith)
       (λ b. ⊎_elim (λ few. omega (arith, few)) (λ e. omega (arith, h, ap length e)))
       (λ e. omega (arith, length-success 0x06 [])) (λ e. omega (arith, length-success 0x12 [])) (λ d. omega arith)

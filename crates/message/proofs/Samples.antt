@@ -18,7 +18,7 @@ use Rattle.payload.specs.Payloads.{payload_of, success_of, failure_of, message_o
 use Rattle.tilt.specs.Tilts.{tilt_octets, angle_of}
 use Rattle.message.specs.declared.Carried.{Carried}
 use Rattle.message.specs.Messages.{drive_checks, checks, in_table, taken_by}
-use Rattle.message.specs.Carried.{carried_of, outcome, done_by, replies, unanswered}
+use Rattle.message.specs.Carried.{payload_in, carried_of, outcome, done_by, replies, unanswered}
 
 -- a device of that range, at rest
 abbrev pub at_rest : ℤ → Antenna
@@ -35,7 +35,7 @@ at_rest t =
     }
 
 abbrev pub said : Carried → List ℕ
-said r = take r.payload.len r.payload.octets
+said r = take (payload_in r).len (payload_in r).octets
 
 module _ (p : Plate) where
   -- "Tilt -15: get tilt gives 34 03 00 00 F1 FF"

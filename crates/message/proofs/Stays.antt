@@ -15,7 +15,7 @@ use Rattle.record.specs.declared.Session.{Session}
 use Rattle.record.specs.declared.Link.TheVariants.{Connected}
 use Rattle.record.specs.Allowed.{plates_allowed, owed_allowed, reply_most}
 use Rattle.information.proofs.Laws.{information-fits, allowed-short}
-use Rattle.message.specs.Carried.{carried_of}
+use Rattle.message.specs.Carried.{payload_in, carried_of}
 use Rattle.message.proofs.Moves.{range-stays, carried-fits}
 
 module _ (p : Plate) (n : Antenna) (told : Alarms) (sub : Bool) (m : List ℕ) where
@@ -27,7 +27,7 @@ module _ (p : Plate) (n : Antenna) (told : Alarms) (sub : Bool) (m : List ℕ) w
   unfolding owed_allowed
   stays_owed s = refl
 
-  pub reply-fits : plates_allowed p ≡ true → leb (carried_of p n told sub m).payload.len reply_most ≡ true
+  pub reply-fits : plates_allowed p ≡ true → leb (payload_in (carried_of p n told sub m)).len reply_most ≡ true
   reply-fits h =
       let few = information-fits p (allowed-short p h) in
       le-leb _ _ (carried-fits p n told sub m (omega (arith, few)))

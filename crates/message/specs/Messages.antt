@@ -10,18 +10,22 @@
 --   busied n c       == "busy"; outside n c t == "out of range"
 --   own_checks m     == the checks that the message m alone decides; drive_checks n c t == those of the drive
 --   checks n m       == the checks of m, in their order, for the antenna n
+--   code_for p       == the paper's code of the procedure p, for each case; code_number e == its return code e
+--   Named c r        == the code's answer r to the code c is the procedure that has it, or none has
 --   check_number r   == the paper's return code, or none, for each case of the code's answer
 --   Due n m          == m is a set tilt that the antenna n carries out
 -- Assumes nothing.
-use Rattle.std.specs.Prelude.{◌≡◌, Bool, true, false, cond, not, ◌&&◌, ◌||◌, List, [], ◌∷◌, ◌++◌, ℕ, eqb, length, get_or, drop}
+use Rattle.std.specs.Prelude.{◌≡◌, Bool, true, false, cond, not, ◌&&◌, ◌||◌, List, [], ◌∷◌, ◌++◌, ℕ, eqb, length, get_or, drop, Result, Ok, Err}
 use Rattle.octets.specs.Octets.{holds, pair_of}
 use Rattle.refusal.specs.Answer.{Answer, gives, refuses, TestRow, ◌when◌}
 use Rattle.antenna.specs.declared.Angle.{Angle}
 use Rattle.antenna.specs.declared.Antenna.{Antenna}
 use Rattle.antenna.specs.Motions.{in_range, busy_of, drive_rows}
 use Rattle.tilt.specs.Tilts.{angle_of}
-use Rattle.message.specs.declared.Check.{Check}
-use Rattle.message.specs.declared.Check.TheVariants.{Passed, Failed}
+use Rattle.message.specs.declared.Procedure.{Procedure}
+use Rattle.message.specs.declared.Procedure.TheVariants.{AlarmStatus, Information, ClearAlarms, Subscribe, SetTilt, GetTilt}
+use Rattle.message.specs.declared.ReturnCode.{ReturnCode}
+use Rattle.message.specs.declared.ReturnCode.TheVariants.{Busy, OutOfRange, Unknown, WrongLength, NotSupported}
 
 infix 70 ◌takes◌
 -- "Code, data length (two octets, low first), data."
@@ -101,10 +105,32 @@ drive_checks n c t = drive_rows (busied n c) (outside n c t)
 unfoldable pub checks : Antenna → List ℕ → List TestRow
 checks n m = own_checks m ++ drive_checks n (code_of m) (asked_of m)
 
+-- the column "Code"
+unfoldable pub code_for : Procedure → ℕ
+code_for AlarmStatus = 0x04
+code_for Information = 0x05
+code_for ClearAlarms = 0x06
+code_for Subscribe = 0x12
+code_for SetTilt = 0x33
+code_for GetTilt = 0x34
+
+-- the return codes of the checks
+unfoldable pub code_number : ReturnCode → ℕ
+code_number Busy = 0x05
+code_number OutOfRange = 0x13
+code_number Unknown = 0x19
+code_number WrongLength = 0x24
+code_number NotSupported = 0x25
+
+-- "code not in the table below, 0x19"
+unfoldable pub Named : ℕ → Result Procedure ReturnCode → Type 0
+Named c (Ok p) = code_for p ≡ c
+Named c (Err why) = (why ≡ Unknown) × (in_table table c ≡ false)
+
 -- a message that passes its own checks has no return code yet
-unfoldable pub check_number : Check → Answer (Unit {0})
-check_number Passed = gives tt
-check_number (Failed why) = refuses why
+unfoldable pub check_number : Result Procedure ReturnCode → Answer (Unit {0})
+check_number (Ok p) = gives tt
+check_number (Err why) = refuses (code_number why)
 
 -- "0x33 set tilt: 2 octets, low first, signed": exactly these octets, nothing moves or waits, and the tilt they ask is in
 -- range

@@ -1,11 +1,9 @@
 -- The number that octets stand for, highest first: octet by octet, for a loop that goes through them by i and stops
 -- where the number is past any payload's; and the limit that it asks for. Assumes nothing.
-use mathlib.Core.Path.{◌≡◌, sym, ap₂, ◌∙◌}
-use mathlib.Core.List.{List, [], ◌∷◌}
-use Prim.Native.Nat.{ℕ, ◌+◌, ◌*◌, ◌<◌, ◌≤◌, min}
+use mathlib.Core.Path.{◌≡◌, refl, sym, ap₂, ◌∙◌}
+use mathlib.Core.List.{List, [], ◌∷◌, ◌++◌}
+use Prim.Native.Nat.{ℕ, ◌+◌, ◌*◌, ◌^◌, ◌-◌, ◌≤◌, min}
 use native.Mathlib.Omega.{arith}
-use lib.ListN.{length, get_or, drop, drop_of_length-le}
-use Rattle.octets.proofs.Rest.{rest}
 use Rattle.limits.specs.Limits.{limit_most, payload_most}
 use Rattle.negotiation.specs.Negotiation.{bits_from, bits_in, limit_for}
 
@@ -32,19 +30,17 @@ unfolding bits_from
 bits-least n [] = omega arith
 bits-least n (x ∷ xs) = omega (arith, bits-least (n * 256 + x) xs)
 
-module _ (n : ℕ) (v : List ℕ) (i : ℕ) {w : ℕ} (e : bits_from n (drop i v) ≡ w) where
-  pub bits-more : {x : ℕ} → i < length v → x ≡ get_or v i 0 → bits_from (n * 256 + x) (drop (i + 1) v) ≡ w
-  unfolding bits_from
-  bits-more h q = rw q (rw (rest v i h) at e)
+-- one octet more
+bits-push : (n : ℕ) (v : List ℕ) (x : ℕ) → bits_from n (v ++ (x ∷ [])) ≡ bits_from n v * 256 + x
+unfolding bits_from
+bits-push n [] x = refl
+bits-push n (y ∷ v) x = bits-push (n * 256 + y) v x
 
-  pub bits-done : length v ≤ i → n ≡ w
-  unfolding bits_from
-  bits-done h = rw (drop_of_length-le v h) at e
-
--- past the most bits it does not matter what follows
-pub bits-past : (n : ℕ) (v : List ℕ) {w : ℕ} → bits_from n v ≡ w → payload_most limit_most * 8 < n
-    → min n (payload_most limit_most * 8) ≡ min w (payload_most limit_most * 8)
-bits-past n v e h = omega (arith, bits-least n v, e)
+-- and a number that tells as far as the most bits tells so with it, wherever past them it stops
+pub bits-more : (v : List ℕ) (x a b : ℕ) → min a (payload_most limit_most * 8) ≡ min (bits_in v) (payload_most limit_most * 8)
+    → b ≡ min (min (a * 256) (2 ^ 64 - 1) + x) (2 ^ 64 - 1)
+    → min b (payload_most limit_most * 8) ≡ min (bits_in (v ++ (x ∷ []))) (payload_most limit_most * 8)
+bits-more v x a b e f = rw (bits-push 0 v x, f) (omega arith)
 
 -- up to 2048 bits the limit goes by their number, and past them it is the same
 pub limit-as-far : (a b : ℕ) → min a (payload_most limit_most * 8) ≡ min b (payload_most limit_most * 8)

@@ -1,6 +1,6 @@
 -- Which payloads are negotiations, both ways, and the frame limit that is agreed, in 02's words and numbers: by the
 -- smaller length asked, never above it but for the floor, 78 to 260. For octets of any content. Assumes nothing.
-use mathlib.Core.Path.{◌≡◌, refl, sym, ◌∙◌}
+use mathlib.Core.Path.{◌≡◌, refl, sym, ap, ◌∙◌}
 use mathlib.Core.Bool.{Bool, true, false, cond, ◌&&◌}
 use mathlib.Core.List.{List, [], ◌∷◌}
 use mathlib.Core.Logic.{◌↔◌, ◌⊎◌, inl, inr, ⊎_elim}
@@ -17,9 +17,9 @@ use Rattle.params.specs.Field.{Param, right_length, WellFormed, params_of, value
 use Rattle.params.proofs.Exact.{params-exactly, one-reading}
 use Rattle.params.proofs.Kept.{both_of}
 use Rattle.control.specs.declared.AskedFor.{AskedFor}
-use Rattle.negotiation.specs.declared.Offer.TheVariants.{Malformed, Agreed}
+use Rattle.negotiation.specs.declared.Agreed.{Agreed}
 use Rattle.negotiation.specs.Negotiation.{negotiating, bits_in, smaller_of, limit_for, limit_asked, agreed_limit}
-use Rattle.negotiation.specs.Negotiation.{asked_in, offered, offer_of}
+use Rattle.negotiation.specs.Negotiation.{asked_in, agrees_on, no_offer, offered, offer_of}
 
 -- ---- which payloads
 
@@ -63,43 +63,49 @@ negotiating-exactly n k = (λ e. there (some-row negotiating.table n k e), back)
     back (inr (inr eight, one)) = rw (eight, one)
 
 -- a payload that is no negotiation agrees on nothing
-not-agreed : {N : ℕ} {a : AskedFor} → Malformed ≡ Agreed N a → ⊥
+not-agreed : {N : ℕ} {a : AskedFor} → no_offer ≡ agrees_on N a → ⊥
 not-agreed e = let z : ◌≡◌ {A = ℕ} 0 1 = cc in omega arith
+
+-- and one agreement is on one limit, and says what was asked
+agreed-is : {L N : ℕ} {a b : AskedFor} → agrees_on L a ≡ agrees_on N b → (L ≡ N) × (a ≡ b)
+agreed-is {L} {N} {a} {b} e =
+    let same : ◌≡◌ {A = Agreed} (record { limit = L; asked = a }) (record { limit = N; asked = b }) = cc in
+    (ap (λ (x : Agreed). x.limit) same, ap (λ (x : Agreed). x.asked) same)
 
 module _ (N : ℕ) (m : List ℕ) where
   pub offer-agreed : (ps : List Param) → WellFormed negotiating m ps
-      → offer_of N m ≡ Agreed (agreed_limit N ps) (asked_in ps)
+      → offer_of N m ≡ agrees_on (agreed_limit N ps) (asked_in ps)
   unfolding offer_of offered
   offer-agreed ps w = rw ((params-exactly negotiating m ps).1 w)
 
-  formed-or-not : ((ps : List Param) × WellFormed negotiating m ps) ⊎ (offer_of N m ≡ Malformed)
+  formed-or-not : ((ps : List Param) × WellFormed negotiating m ps) ⊎ (offer_of N m ≡ no_offer)
   unfolding offer_of offered
   formed-or-not = go (params_of negotiating m) refl
     where
       go : (x : Option (List Param)) → params_of negotiating m ≡ x
-          → ((ps : List Param) × WellFormed negotiating m ps) ⊎ (offer_of N m ≡ Malformed)
+          → ((ps : List Param) × WellFormed negotiating m ps) ⊎ (offer_of N m ≡ no_offer)
       go none e = inr (rw e)
       go (some ps) e = inl (ps, (params-exactly negotiating m ps).0 e)
 
-  pub offer-malformed : offer_of N m ≡ Malformed ↔ ((ps : List Param) → WellFormed negotiating m ps → ⊥)
+  pub offer-malformed : offer_of N m ≡ no_offer ↔ ((ps : List Param) → WellFormed negotiating m ps → ⊥)
   offer-malformed = (
     λ e ps w. not-agreed (sym e ∙ offer-agreed ps w),
     λ h. ⊎_elim (λ (ps, w). absurd (h ps w)) (λ e. e) formed-or-not,
   )
 
   -- an agreement comes of a well-formed payload alone, by its parameters, which are read in one way
-  pub offer-exactly : (L : ℕ) (a : AskedFor) → offer_of N m ≡ Agreed L a
+  pub offer-exactly : (L : ℕ) (a : AskedFor) → offer_of N m ≡ agrees_on L a
       ↔ ((ps : List Param) × WellFormed negotiating m ps × (L ≡ agreed_limit N ps) × (a ≡ asked_in ps)
       × ((qs : List Param) → WellFormed negotiating m qs → ps ≡ qs))
   offer-exactly L a = (there, λ (ps, w, l, b, one). offer-agreed ps w ∙ rw (l, b))
     where
-      there : offer_of N m ≡ Agreed L a
+      there : offer_of N m ≡ agrees_on L a
           → (ps : List Param) × WellFormed negotiating m ps × (L ≡ agreed_limit N ps) × (a ≡ asked_in ps)
           × ((qs : List Param) → WellFormed negotiating m qs → ps ≡ qs)
       there e =
           ⊎_elim (λ (ps, w).
-          let f = sym e ∙ offer-agreed ps w in
-          (ps, w, cc, cc, λ qs v. one-reading negotiating m ps qs w v))
+          let (l, b) = agreed-is (sym e ∙ offer-agreed ps w) in
+          (ps, w, l, b, λ qs v. one-reading negotiating m ps qs w v))
           (λ n. absurd (not-agreed (sym n ∙ e))) formed-or-not
 
 -- ---- the limit

@@ -8,17 +8,20 @@
 --   limit_asked N b == the frame limit after N where the length b is asked, or none
 --   agreed_limit N ps == the frame limit after N by the parameters ps
 --   asked_in ps     == which identifiers ps have
+--   Offer           == what a payload comes to: agrees_on N a == the frame limit N, where a was asked; no_offer == it
+--                      is no negotiation
 --   offered N x     == what comes of the parameters x, where there are such; offer_of N m == of the payload m
 -- Assumes nothing.
-use Rattle.std.specs.Prelude.{List, [], ◌∷◌, ℕ, ◌+◌, ◌*◌, ◌/◌, min, max}
+use Rattle.std.specs.Prelude.{List, [], ◌∷◌, ℕ, ◌+◌, ◌*◌, ◌/◌, min, max, Ok, Err}
+use Rattle.std.specs.declared.result.Result.{Result}
 use Rattle.std.proofs.Math.Option.{Option, none, some}
 use Rattle.limits.specs.Limits.{limit_least, limit_most, around, payload_most}
+use Rattle.params.specs.Walk.{Malformed}
 use Rattle.params.specs.declared.Group.{Group}
 use Rattle.params.specs.declared.Identifier.{Identifier}
 use Rattle.params.specs.Field.{Param, ◌has◌to◌, params_of, value_for, given}
 use Rattle.control.specs.declared.AskedFor.{AskedFor}
-use Rattle.negotiation.specs.declared.Offer.{Offer}
-use Rattle.negotiation.specs.declared.Offer.TheVariants.{Malformed, Agreed}
+use Rattle.negotiation.specs.declared.Agreed.{Agreed}
 
 -- "5 and 6, the I-field length in bits, sent and received, .. 7 and 8, the windows": identifiers of ISO/IEC 13239
 abbrev pub sent_id : ℕ
@@ -86,10 +89,19 @@ asked_in ps =
       receiving = given (value_for receiving_id ps);
     }
 
+abbrev pub Offer : Type 0
+Offer = Result Agreed Malformed
+
+abbrev pub agrees_on : ℕ → AskedFor → Offer
+agrees_on N a = Ok (record { limit = N; asked = a })
+
+abbrev pub no_offer : Offer
+no_offer = Err (record {})
+
 -- "'own address, XID: silence' now holds for other groups and malformed ones"
 unfoldable pub offered : ℕ → Option (List Param) → Offer
-offered N none = Malformed
-offered N (some ps) = Agreed (agreed_limit N ps) (asked_in ps)
+offered N none = no_offer
+offered N (some ps) = agrees_on (agreed_limit N ps) (asked_in ps)
 
 unfoldable pub offer_of : ℕ → List ℕ → Offer
 offer_of N m = offered N (params_of negotiating m)

@@ -1,5 +1,6 @@
 -- The laws of lists of octets that the layers above cite.
 pub mod Bounds
+pub mod Chunks
 pub mod Every
 pub mod Only
 pub mod Rest
@@ -7,4 +8,5 @@ pub mod Rules
 pub mod Runs
 pub mod Stores
 pub mod Takes
+pub mod Texts
 pub mod Words

@@ -1,6 +1,10 @@
 -- Each promise of this crate allows one result, and one content of the lent buffer. Assumes nothing.
 use mathlib.Core.Path.{◌≡◌, sym, ◌∙◌}
 use mathlib.Core.Path.{refl}
+use Rattle.std.proofs.Common.{arith, ◌+◌, ◌*◌, ◌<◌, ◌^◌}
+use mathlib.Core.List.{not-mem-nil}
+use prog.Memory.{up}
+use Prim.Native.Nat.{ℕ}
 use Rattle.octets.proofs.fewer.Reads as fewer_reads
 use Rattle.octets.proofs.find.Reads as find-reads
 use Rattle.octets.proofs.pair.Reads as Pair-reads
@@ -8,6 +12,8 @@ use Rattle.octets.proofs.part.Reads as part-reads
 use Rattle.octets.proofs.put.Reads as put_reads
 use Rattle.octets.proofs.put_all.Reads as put-all-reads
 use Rattle.octets.proofs.wide.Reads as wide-reads
+use Rattle.octets.proofs.Text.of.Reads as of_reads
+use Rattle.octets.proofs.Text.octets.Reads as octets_reads
 
 -- what equals the same is equal: every promise that is an equation allows one result
 pub only {ℓ} : {A : Type ℓ} {a b right : A} → a ≡ right → b ≡ right → a ≡ b
@@ -71,3 +77,22 @@ part-only κs a r q s t = only
 
 pub part-asks : AsksNothing part-reads.Asked
 part-asks κs a = tt
+
+-- of texts, whatever their row's length
+pub of-only : (n : ℕ) (f : _) → Settles (of_reads.Learnt n f)
+of-only n f κs a r q s t = only
+
+pub octets-only : (n : ℕ) (f : _) (κs : _) (a : _) (r q : _) (s t : _)
+    → octets_reads.Learnt n f κs a r s → octets_reads.Learnt n f κs a q t → r.now ≡ q.now
+octets-only n f κs a r q s t x y = only x.0 y.0
+
+-- a row of so many octets and its length fit into memory
+row-fits : (n : ℕ) → n < 2 ^ 62 → up 8 (up 8 (0 + n * 1) + 8) < 2 ^ 63
+row-fits n h = omega arith
+
+-- and nothing else is asked of whoever calls them
+pub of-asks : (n : ℕ) (f : _) → n < 2 ^ 62 → AsksNothing (of_reads.Asked n f)
+of-asks n f h κs a = (λ x m. absurd (not-mem-nil m), row-fits n h)
+
+pub octets-asks : (n : ℕ) (f : _) → n < 2 ^ 62 → AsksNothing (octets_reads.Asked n f)
+octets-asks n f h κs a = (λ x m. absurd (not-mem-nil m), row-fits n h)

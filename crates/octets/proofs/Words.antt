@@ -1,15 +1,20 @@
 -- A word looked for in a list that a loop goes through by an index i, and the last one of a list; two tests joined.
 -- Assumes nothing.
-use mathlib.Core.Path.{◌≡◌, refl, sym, ◌∙◌}
-use mathlib.Core.Bool.{Bool, true, false, cond, ◌&&◌, ◌||◌}
+use mathlib.Core.Path.{◌≡◌, refl, sym, ap, ◌∙◌}
+use mathlib.Core.Bool.{Bool, true, false, cond, not, ◌&&◌, ◌||◌}
 use mathlib.Core.List.{List, [], ◌∷◌}
 use mathlib.Core.Logic.{◌↔◌, ◌⊎◌, inl, inr, ⊎_elim}
 use Prim.Native.Nat.{ℕ, zero, suc, ◌+◌, ◌-◌, ◌<◌, ◌≤◌}
-use native.Mathlib.Nat.{add-zero, le_of_suc-le-suc, not-suc-le-zero}
+use native.Mathlib.Nat.{le_of_suc-le-suc, not-suc-le-zero}
 use native.Mathlib.Omega.{arith}
-use borrow.Author.Tests.{eqb-true, eqb-false, eq-eqb, ne_eqb, lt-ltb}
+use borrow.Author.Tests.{eqb-true, eqb-false, eq-eqb, ne_eqb, lt-ltb, ltb-false}
 use lib.Dec.{eqb, ltb, leb-suc-suc}
 use lib.ListN.{length, get_or, drop, drop_of_length-le}
+use Rattle.std.proofs.lemmas.List.Recursion.{is_position_or_len}
+use Rattle.std.proofs.lemmas.List.Sums.{prefix_len-le-length}
+use Rattle.std.specs.List.{list_any, position, position_or_len}
+use Rattle.std.proofs.Common.{Option}
+use Rattle.std.specs.Option.{unwrap_or}
 use Rattle.octets.specs.Octets.{holds, OneOf, place_of, last_of}
 use Rattle.octets.proofs.Rest.{rest}
 
@@ -29,19 +34,6 @@ or_parts false b e = inr e
 pub or-none : (a b : Bool) → (a || b) ≡ false → (a ≡ false) × (b ≡ false)
 or-none true b e = absurd (true-not-false e)
 or-none false b e = (refl, e)
-
-module _ (x : ℕ) (s : List ℕ) (i : ℕ) {w : Bool} (v : holds x (drop i s) ≡ w) where
-  pub holds-here : i < length s → get_or s i 0 ≡ x → true ≡ w
-  unfolding holds
-  holds-here h e = rw (rest s i h, eq-eqb (get_or s i 0) x e) at v
-
-  pub holds_more : i < length s → (get_or s i 0 ≡ x → ⊥) → holds x (drop (i + 1) s) ≡ w
-  unfolding holds
-  holds_more h n = rw (rest s i h, ne_eqb (get_or s i 0) x n) at v
-
-  pub holds-done : length s ≤ i → false ≡ w
-  unfolding holds
-  holds-done h = rw (drop_of_length-le s h) at v
 
 module _ (x y : ℕ) (ys : List ℕ) (h : holds x (y ∷ ys) ≡ false) where
   pub holds-head : y ≡ x → ⊥
@@ -73,19 +65,33 @@ holds-nowhere x [] h i b e = absurd (not-suc-le-zero b)
 holds-nowhere x (y ∷ ys) h zero b e = holds-head x y ys h e
 holds-nowhere x (y ∷ ys) h (suc i) b e = holds-nowhere x ys (holds-tail x y ys h) i (le_of_suc-le-suc b) e
 
--- the place of x, for a loop that goes through s by i
-module _ (x : ℕ) (s : List ℕ) (i : ℕ) {w : ℕ} (v : i + place_of x (drop i s) ≡ w) where
-  pub place_here : i < length s → get_or s i 0 ≡ x → i ≡ w
-  unfolding place_of
-  place_here h e = sym (add-zero i) ∙ (rw (rest s i h, eq-eqb (get_or s i 0) x e) at v)
+-- the place of x is the library's, where it has one
+place-first : (x : ℕ) (s : List ℕ) → place_of x s ≡ position_or_len (λ y. eqb y x) s
+unfolding place_of
+place-first x s = is_position_or_len (place_of x) (λ y. eqb y x) refl
+    (λ y ys. let n : suc (place_of x ys) ≡ 1 + place_of x ys = omega arith in ap (λ (m : ℕ). cond (eqb y x) 0 m) n) s
 
-  pub place-more : i < length s → (get_or s i 0 ≡ x → ⊥) → i + 1 + place_of x (drop (i + 1) s) ≡ w
-  unfolding place_of
-  place-more h n = omega (arith, rw (rest s i h, ne_eqb (get_or s i 0) x n) at v)
+pub place-found : (x : ℕ) (s : List ℕ) {r : Option ℕ} → r ≡ position (λ y. eqb y x) s → unwrap_or r (length s) ≡ place_of x s
+place-found x s {r} e = go (ltb n (length s)) refl
+  where
+    n : ℕ
+    n = position_or_len (λ y. eqb y x) s
 
-  pub place-done : length s ≤ i → i ≡ w
-  unfolding place_of
-  place-done h = sym (add-zero i) ∙ (rw (drop_of_length-le s h) at v)
+    go : (t : Bool) → ltb n (length s) ≡ t → unwrap_or r (length s) ≡ place_of x s
+    go true t = rw (e, t) (sym (place-first x s))
+    go false t =
+        let most : n ≡ length s = omega (arith, ltb-false n (length s) t, prefix_len-le-length (λ y. not (eqb y x)) s) in
+        rw (e, t) (sym most ∙ sym (place-first x s))
+
+-- the library's test
+pub holds-any : (x : ℕ) (s : List ℕ) → list_any (λ y. eqb y x) s ≡ holds x s
+unfolding holds
+holds-any x [] = refl
+holds-any x (y ∷ ys) = go (eqb y x) (holds-any x ys)
+  where
+    go : (t : Bool) {a b : Bool} → a ≡ b → (t || a) ≡ cond t true b
+    go true e = refl
+    go false e = e
 
 -- what a list holds has a place in it, and what it does not hold has none
 pub place-held : (x : ℕ) (s : List ℕ) → holds x s ≡ ltb (place_of x s) (length s)

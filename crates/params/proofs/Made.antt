@@ -17,7 +17,8 @@ use Rattle.octets.specs.Octets.{holds}
 use Rattle.octets.proofs.Words.{true-not-false}
 use Rattle.params.specs.Field.{Param, ◌is◌, xid_payload, right_length, identifiers, all_right, none_twice}
 use Rattle.params.specs.Field.{checked, params_of, value_for}
-use Rattle.params.specs.Walk.{place_in, parts_at, part_in, found_from, found_in, value_at}
+use Rattle.std.specs.Prelude.{Ok}
+use Rattle.params.specs.Walk.{place_in, Part, parts_at, part_in, found_from, found_in, value_at}
 use Rattle.params.specs.declared.Identifier.{Identifier}
 use Rattle.params.specs.declared.Group.{Group}
 use Rattle.params.proofs.Tables.{right-inside}
@@ -231,19 +232,19 @@ module _ (g : Group) where
 
   -- and the walk finds the value of each, at the place of its row; the rows of the others are empty
   pub walk-gives : (ps : List Param) → Allowed g ps → Unrepeated ps → let m = xid_payload g ps in
-      ((found_in g m).formed ≡ true)
-      × ((n k : ℕ) (r : Row g.table n k) → let part = part_in (found_in g m).parts (length r.ahead) in
+      (parts : List Part) × (found_in g m ≡ Ok parts)
+      × ((n k : ℕ) (r : Row g.table n k) → let part = part_in parts (length r.ahead) in
       ((v : List ℕ) → Memᴰ (n is v) ps → value_at m part ≡ some v)
       × (((v : List ℕ) → Memᴰ (n is v) ps → ⊥) → value_at m part ≡ none))
   unfolding found_in found_from
-  walk-gives ps a o =
-      rw e (
-        refl,
-        λ n k r. (
-          λ v m. found n k r ∙ value-given n v ps (unrepeated-once ps o) m,
-          λ h. found n k r ∙ value-absent n ps h,
-        ),
-      )
+  walk-gives ps a o = (
+    parts_at g.table 3 ps,
+    rw e,
+    λ n k r. (
+      λ v m. found n k r ∙ value-given n v ps (unrepeated-once ps o) m,
+      λ h. found n k r ∙ value-absent n ps h,
+    ),
+  )
     where
       e : params_of g (xid_payload g ps) ≡ some ps
       e = once-formed ps a o

@@ -3,32 +3,23 @@ use mathlib.Core.Path.{◌≡◌, refl, sym, ap, ◌∙◌}
 use mathlib.Core.Bool.{Bool, true, false, cond, ◌&&◌, false≢true}
 use mathlib.Core.List.{List, [], ◌∷◌}
 use Prim.Native.Nat.{ℕ, suc, ◌+◌, ◌<◌, ◌≤◌}
-use native.Mathlib.Nat.{add-zero, le_of_suc-le-suc, not-suc-le-zero}
+use native.Mathlib.Nat.{le_of_suc-le-suc, not-suc-le-zero}
 use native.Mathlib.Omega.{arith}
-use borrow.Author.Tests.{eqb-true, eq-eqb, ne_eqb}
+use borrow.Author.Tests.{eqb-true}
 use lib.Dec.{eqb, leb}
-use lib.ListN.{length, get_or, drop, drop_of_length-le}
-use lib.Seq.{drop-cons}
+use lib.ListN.{length, get_or}
+use Rattle.std.specs.List.{position_or_len}
+use Rattle.std.proofs.lemmas.List.Recursion.{is_position_or_len}
 use Rattle.params.specs.Field.{right_length}
 use Rattle.params.specs.Walk.{place_in}
 use Rattle.params.specs.declared.Identifier.{Identifier}
 
--- the place of n, for a loop that goes through the table by i
-module _ (n : ℕ) (t : List Identifier) (i : ℕ) (d : Identifier) {w : ℕ} (v : i + place_in n (drop i t) ≡ w) where
-  pub row_here : i < length t → (get_or t i d).id ≡ n → i ≡ w
-  unfolding place_in
-  row_here h e = sym (add-zero i) ∙ (rw (drop-cons t i d h, eq-eqb (get_or t i d).id n e) at v)
-
-  pub row_more : i < length t → ((get_or t i d).id ≡ n → ⊥) → i + 1 + place_in n (drop (i + 1) t) ≡ w
-  unfolding place_in
-  row_more h e =
-      let next : suc i ≡ i + 1 = omega arith in
-      let left = drop-cons t i d h ∙ ap (λ (j : ℕ). get_or t i d ∷ drop j t) next in
-      omega (arith, rw (left, ne_eqb (get_or t i d).id n e) at v)
-
-  pub row_done : length t ≤ i → i ≡ w
-  unfolding place_in
-  row_done h = sym (add-zero i) ∙ (rw (drop_of_length-le t h) at v)
+-- the place of n is that of the first row whose identifier it is
+pub place_position : (n : ℕ) (t : List Identifier) → place_in n t ≡ position_or_len (λ (r : Identifier). eqb r.id n) t
+unfolding place_in
+place_position n t =
+    is_position_or_len (place_in n) (λ (r : Identifier). eqb r.id n) refl
+    (λ r s. let next : suc (place_in n s) ≡ 1 + place_in n s = omega arith in ap (cond (eqb r.id n) 0) next) t
 
 -- the row that is found says which lengths are right; without one none is
 pub right-at : (t : List Identifier) (n k : ℕ) (d : Identifier) → place_in n t < length t

@@ -13,14 +13,11 @@ use lib.ListN.{length, get_or, set, take, drop, drop_of_length-le, length-drop}
 use lib.Seq.{take_all, take-nil, drop-drop, length-take-le}
 use Rattle.octets.proofs.Takes.{take_rest}
 use Rattle.octets.proofs.Rest.{rest}
-use Rattle.reader.specs.declared.Stands.TheVariants.{End, Broken, Triple}
+use Rattle.reader.specs.Read.{end, broken, triple}
 use Rattle.reader.proofs.Steps.{Means, next-two}
 use Rattle.params.specs.Field.{Param, ◌is◌, before, triples_after, triples_of, opened, format}
-use Rattle.params.specs.Walk.{place_in, slot, unformed}
-use Rattle.params.specs.declared.Part.TheVariants.{At}
+use Rattle.params.specs.Walk.{place_in, Part, part, Found, unformed}
 use Rattle.params.specs.declared.Identifier.{Identifier}
-use Rattle.params.specs.declared.Slot.{Slot}
-use Rattle.params.specs.declared.Found.{Found}
 use Rattle.params.proofs.Kept.{fits, formed, kept, kept_from}
 
 -- a part of a slice: past its end, as far as it goes, whole
@@ -58,11 +55,11 @@ skip-past (suc k) [] h = refl
 skip-past (suc k) (x ∷ xs) h = skip-past k xs (le_of_suc-le-suc h)
 
 module _ (m : List ℕ) (at : ℕ) where
-  pub triples-end : Means m at End → triples_of (drop at m) ≡ some []
+  pub triples-end : Means m at end → triples_of (drop at m) ≡ some []
   unfolding triples_after
   triples-end h = rw (drop_of_length-le m h)
 
-  pub triples-broken : Means m at Broken → triples_of (drop at m) ≡ none
+  pub triples-broken : Means m at broken → triples_of (drop at m) ≡ none
   unfolding triples_after before
   triples-broken h =
       ⊎_elim
@@ -72,21 +69,21 @@ module _ (m : List ℕ) (at : ℕ) where
       rw (next-two m at k.0, skip-past (get_or m (at + 1) 0) (drop (at + 2) m) past))
       h.1
 
-  pub triples-whole : {n from len : ℕ} → Means m at (Triple n from len)
+  pub triples-whole : {n from len : ℕ} → Means m at (triple n from len)
       → triples_of (drop at m) ≡ before (n is take len (drop from m)) (triples_of (drop (from + len) m))
   unfolding triples_after
   triples-whole {n} {from} {len} h =
       let fits : len ≤ length (drop (at + 2) m) = rw length-drop (omega (arith, h.0)) in
       rw (h.2, h.1, next-two m at (omega (arith, h.0)), ← h.3, skip len (drop (at + 2) m) fits, drop-drop)
 
-  pub value-whole : {n from len : ℕ} → Means m at (Triple n from len) → length (take len (drop from m)) ≡ len
+  pub value-whole : {n from len : ℕ} → Means m at (triple n from len) → length (take len (drop from m)) ≡ len
   value-whole {n} {from} {len} h = length-take-le len (drop from m) (rw length-drop (omega (arith, h.0, h.2)))
 
 -- what becomes of a triple: it is taken, or the payload is malformed
-module _ (t : List Identifier) (f : List Slot) (at n : ℕ) (v : List ℕ) where
+module _ (t : List Identifier) (f : List Part) (at n : ℕ) (v : List ℕ) where
   kept-one : (x : Option (List Param)) → fits t f n (length v) ≡ true
       → kept_from t f at (before (n is v) x)
-      ≡ kept_from t (set f (place_in n t) (slot (At (at + 2) (length v)))) (at + 2 + length v) x
+      ≡ kept_from t (set f (place_in n t) (part (at + 2) (length v))) (at + 2 + length v) x
   unfolding kept_from before kept
   kept-one none e = refl
   kept-one (some ps) e = rw e
@@ -98,17 +95,17 @@ module _ (t : List Identifier) (f : List Slot) (at n : ℕ) (v : List ℕ) where
   kept-not (some ps) e = rw e
 
 -- a turn of the loop, where what is left comes to w
-module _ (t : List Identifier) (f : List Slot) (m : List ℕ) (at : ℕ) {w : Found}
+module _ (t : List Identifier) (f : List Part) (m : List ℕ) (at : ℕ) {w : Found}
     (v : kept_from t f at (triples_of (drop at m)) ≡ w) where
-  pub turn_end : Means m at End → formed f ≡ w
+  pub turn_end : Means m at end → formed f ≡ w
   unfolding kept_from kept
   turn_end h = rw (triples-end m at h) at v
 
-  pub turn-broken : Means m at Broken → unformed ≡ w
+  pub turn-broken : Means m at broken → unformed ≡ w
   unfolding kept_from
   turn-broken h = rw (triples-broken m at h) at v
 
-  module _ {n from len : ℕ} (h : Means m at (Triple n from len)) where
+  module _ {n from len : ℕ} (h : Means m at (triple n from len)) where
     pub turn-not : fits t f n len ≡ false → unformed ≡ w
     turn-not e =
         let x = triples_of (drop (from + len) m) in
@@ -116,7 +113,7 @@ module _ (t : List Identifier) (f : List Slot) (m : List ℕ) (at : ℕ) {w : Fo
         sym (kept-not t f at n (take len (drop from m)) x e') ∙ (rw (triples-whole m at h) at v)
 
     pub turn_more : fits t f n len ≡ true
-        → kept_from t (set f (place_in n t) (slot (At from len))) (from + len) (triples_of (drop (from + len) m)) ≡ w
+        → kept_from t (set f (place_in n t) (part from len)) (from + len) (triples_of (drop (from + len) m)) ≡ w
     turn_more e =
         let x = triples_of (drop (from + len) m) in
         let e' : fits t f n (length (take len (drop from m))) ≡ true = rw (value-whole m at h) e in

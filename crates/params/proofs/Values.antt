@@ -1,7 +1,7 @@
 -- The walk reads what the definition says, for every group: at the place that an identifier has in the table it finds
 -- where the value of its parameter stands. Assumes nothing.
 use mathlib.Core.Path.{◌≡◌, refl, sym, ap, ◌∙◌}
-use mathlib.Core.Bool.{Bool, true, false, cond, false≢true}
+use mathlib.Core.Bool.{Bool, true, false, cond}
 use mathlib.Core.List.{List, [], ◌∷◌, ◌++◌}
 use mathlib.Core.Option.{Option, none, some}
 use Prim.Native.Nat.{ℕ, zero, suc, ◌+◌, ◌<◌}
@@ -10,15 +10,13 @@ use borrow.Author.Tests.{eqb-true, eqb-false}
 use lib.Dec.{eqb}
 use lib.ListN.{length, set, take, drop, length-set, length-replicate}
 use lib.Seq.{get_or-set_other, drop-drop, take-append_seam, drop-append_seam}
-use Rattle.octets.proofs.Words.{true-not-false}
 use Rattle.params.specs.Field.{Param, ◌is◌, triple_of, field_of, xid_payload, right_length, AllRight, params_of}
 use Rattle.params.specs.Field.{value_for}
-use Rattle.params.specs.Walk.{place_in, slot, no_parts, parts_at, part_in, found_from, found_in, value_at}
-use Rattle.params.specs.declared.Part.TheVariants.{Absent, At}
+use Rattle.std.specs.Prelude.{None, Ok, Err}
+use Rattle.reader.specs.declared.Malformed.{Malformed}
+use Rattle.params.specs.Walk.{place_in, Part, part, no_parts, parts_at, part_in, Found, found_from, found_in, value_at}
 use Rattle.params.specs.declared.Identifier.{Identifier}
 use Rattle.params.specs.declared.Group.{Group}
-use Rattle.params.specs.declared.Slot.{Slot}
-use Rattle.params.specs.declared.Found.{Found}
 use Rattle.params.proofs.Tables.{places-apart}
 use Rattle.params.proofs.Kept.{part_same}
 use Rattle.params.proofs.Exact.{params-exactly}
@@ -39,9 +37,9 @@ value-right t n (k is u ∷ ps) {v} r e = go (value-right t n ps {v = v} r.1) (e
 
 parts-long : (t : List Identifier) (at : ℕ) (ps : List Param) → length (parts_at t at ps) ≡ length t
 unfolding parts_at
-parts-long t at [] = length-replicate (length t) (slot Absent)
+parts-long t at [] = length-replicate (length t) None
 parts-long t at (n is v ∷ ps) =
-    length-set (parts_at t (at + 2 + length v) ps) (place_in n t) (slot (At (at + 2) (length v)))
+    length-set (parts_at t (at + 2 + length v) ps) (place_in n t) (part (at + 2) (length v))
     ∙ parts-long t (at + 2 + length v) ps
 
 value_none : (m : List ℕ) (k i : ℕ) → value_at m (part_in (no_parts k) i) ≡ none
@@ -58,10 +56,10 @@ module _ (m : List ℕ) (t : List Identifier) (n : ℕ) (h : place_in n t < leng
   value_found (k is v ∷ ps) at e =
       go (value_found ps (at + 2 + length v) behind) (eqb k n) refl
     where
-      x : Slot
-      x = slot (At (at + 2) (length v))
+      x : Part
+      x = (part (at + 2) (length v))
 
-      more : List Slot
+      more : List Part
       more = parts_at t (at + 2 + length v) ps
 
       value : drop (at + 2) m ≡ v ++ field_of ps
@@ -70,7 +68,7 @@ module _ (m : List ℕ) (t : List Identifier) (n : ℕ) (h : place_in n t < leng
       behind : drop (at + 2 + length v) m ≡ field_of ps
       behind = sym (drop-drop (length v) (at + 2) m) ∙ ap (drop (length v)) value ∙ drop-append_seam v (field_of ps)
 
-      here : value_at m x.part ≡ some v
+      here : value_at m x ≡ some v
       here = ap some (ap (take (length v)) value ∙ take-append_seam v (field_of ps))
 
       go : value_at m (part_in more (place_in n t)) ≡ value_for n ps → (b : Bool) → eqb k n ≡ b
@@ -80,11 +78,11 @@ module _ (m : List ℕ) (t : List Identifier) (n : ℕ) (h : place_in n t < leng
           (ap (value_at m) (part_same t more x n h (parts-long t (at + 2 + length v) ps)) ∙ here)
       go less false d =
           let apart = places-apart t n k h (eqb-false k n d) in
-          let other = get_or-set_other more (place_in k t) (place_in n t) x (slot Absent) (λ i. apart (sym i)) in
-          ap (λ (y : Slot). value_at m y.part) other ∙ less
+          let other = get_or-set_other more (place_in k t) (place_in n t) x None (λ i. apart (sym i)) in
+          ap (λ (y : Part). value_at m y) other ∙ less
 
 -- the values of the group's identifiers, each at its place
-abbrev pub ValuesAt : Group → List ℕ → List Param → List Slot → Type 0
+abbrev pub ValuesAt : Group → List ℕ → List Param → List Part → Type 0
 ValuesAt g m ps f =
     (n : ℕ) → place_in n g.table < length g.table → value_at m (part_in f (place_in n g.table)) ≡ value_for n ps
 
@@ -97,21 +95,22 @@ values-found g m ps e n h =
 
 -- what the walk tells of a payload
 module _ (g : Group) (m : List ℕ) {r : Found} (e : r ≡ found_in g m) where
-  pub walk-malformed : r.formed ≡ false → params_of g m ≡ none
+  pub walk-malformed : {x : Malformed} → r ≡ Err x → params_of g m ≡ none
   unfolding found_in found_from
-  walk-malformed f = go (params_of g m) (sym (ap (λ (x : Found). x.formed) e) ∙ f)
+  walk-malformed {x} f = go (params_of g m) (sym e ∙ f)
     where
-      go : (x : Option (List Param)) → (found_from 3 g.table x).formed ≡ false → x ≡ none
+      go : (o : Option (List Param)) → found_from 3 g.table o ≡ Err x → o ≡ none
       go none h = refl
-      go (some ps) h = absurd (true-not-false h)
+      go (some ps) h = let z : ◌≡◌ {A = ℕ} 0 1 = cc in let no : ⊥ = omega arith in absurd no
 
-  pub walk-formed : r.formed ≡ true
-      → (ps : List Param) × (params_of g m ≡ some ps) × ValuesAt g m ps r.parts
+  pub walk-formed : {f : List Part} → r ≡ Ok f
+      → (ps : List Param) × (params_of g m ≡ some ps) × ValuesAt g m ps f
   unfolding found_in found_from
-  walk-formed f = go (params_of g m) refl (ap (λ (x : Found). x.parts) e) (sym (ap (λ (x : Found). x.formed) e) ∙ f)
+  walk-formed {f} h = go (params_of g m) refl (sym e ∙ h)
     where
-      go : (x : Option (List Param)) → params_of g m ≡ x → r.parts ≡ (found_from 3 g.table x).parts
-          → (found_from 3 g.table x).formed ≡ true
-          → (ps : List Param) × (params_of g m ≡ some ps) × ValuesAt g m ps r.parts
-      go none h i j = absurd (false≢true j)
-      go (some ps) h i j = (ps, h, λ n k. rw i (values-found g m ps h n k))
+      go : (o : Option (List Param)) → params_of g m ≡ o → found_from 3 g.table o ≡ Ok f
+          → (ps : List Param) × (params_of g m ≡ some ps) × ValuesAt g m ps f
+      go none p i = let z : ◌≡◌ {A = ℕ} 0 1 = cc in let no : ⊥ = omega arith in absurd no
+      go (some ps) p i =
+          let same : parts_at g.table 3 ps ≡ f = cc in
+          (ps, p, rw same at (values-found g m ps p))

@@ -3,11 +3,13 @@
 // content (proofs/Exact.antt, proofs/Values.antt). Assumes nothing of its caller.
 #![tactic(auto)]
 
-ghost use Rattle.std.specs.Prelude.{◌≡◌, cond, ◌&&◌, leb, take, drop};
-ghost use Rattle.params.specs.Field.{table_rows, right_length, opened, triples_of, checked};
-ghost use Rattle.params.specs.Walk.{place_in, part_in, is_absent, unformed, found_from, found_in};
+ghost use Rattle.std.specs.Prelude.{◌≡◌, cond, ◌&&◌, leb, ltb, length, take, drop, is_none, Some, None};
+ghost use Rattle.params.specs.Field.{right_length, opened, triples_of, checked};
+ghost use Rattle.params.specs.Walk.{place_in, part_in, found_from, found_in};
 
-use reader::Stands;
+use reader::Reader;
+
+pub use reader::Malformed;
 
 // The most identifiers that a group has.
 pub const ROWS: usize = 5;
@@ -30,174 +32,99 @@ pub struct Group {
     pub table: [Identifier; ROWS],
 }
 
-// Where the value of a parameter stands, if it is given.
+// Where the value of a parameter stands.
 #[derive(Clone, Copy)]
-pub enum Part {
-    Absent,
-    At { from: usize, len: usize },
+pub struct Place {
+    pub from: usize,
+    pub len: usize,
 }
 
-// A part as an array's element: an array in a struct cannot hold enums themselves.
-#[derive(Clone, Copy)]
-pub struct Slot {
-    pub part: Part,
-}
-
-// Whether the payload is well formed; the part of each identifier, at its place in the table.
-#[derive(Clone, Copy)]
-pub struct Found {
-    pub formed: bool,
-    pub parts: [Slot; ROWS],
-}
-
-// The octets of a part of a slice, as far as it goes.
-pub fn value_at(s: &[u8], from: usize, len: usize) -> &[u8]
-    ensures { result.now ≡ take len (drop from s.now) }
+// The octets at a place of a slice, as far as it goes.
+pub fn value_at(s: &[u8], place: Place) -> &[u8]
+    ensures { result.now ≡ take place.len (drop place.from s.now) }
 {
-    if s.len() <= from {
-        let end = s.len();
-        return &s[end..];
-    }
-    let left = s.len() - from;
-    if left < len {
-        return &s[from..];
-    }
-    let end = from + len;
-    &s[from..end]
+    let from = place.from.min(s.len());
+    let len = place.len.min(s.len() - from);
+    &s[from..from + len]
 }
 
 // The part of a row of the table; past it there is none.
-pub fn part_at(parts: [Slot; ROWS], row: usize) -> Part
+pub fn part_at(parts: [Option<Place>; ROWS], row: usize) -> Option<Place>
     ensures { result ≡ part_in parts row }
 {
-    if row < ROWS {
-        let slot = parts[row];
-        return slot.part;
-    }
-    Part::Absent
+    if row < ROWS { parts[row] } else { None }
 }
 
 // The first row of an identifier.
-fn place_of(table: [Identifier; ROWS], id: u8) -> usize
-    ensures { result ≡ place_in id table }
+fn row_of(table: [Identifier; ROWS], id: u8) -> Option<usize>
+    ensures { result ≡ cond (ltb (place_in id table) (length table)) (Some (place_in id table)) None }
 {
-    let mut i = 0;
-    while i < ROWS {
-        let row = table[i];
-        if row.id == id {
-            return i;
-        }
-        i += 1;
-    }
-    i
+    table.iter().position(|row| row.id == id)
 }
 
 // Whether a row allows so many octets.
 fn allows(row: Identifier, len: usize) -> bool
     ensures { result ≡ (leb row.least len && leb len row.most) }
 {
-    if row.least <= len {
-        return len <= row.most;
-    }
-    false
+    row.least <= len && len <= row.most
 }
 
-fn is_absent(part: Part) -> bool
-    ensures { result ≡ is_absent part }
+// The row for the part of a triple that is taken: its length is right, and it repeats none.
+fn room_for(
+    table: [Identifier; ROWS],
+    parts: [Option<Place>; ROWS],
+    id: u8,
+    len: usize,
+) -> Option<usize>
+    ensures { result ≡ cond (right_length table id len && is_none (part_in parts (place_in id table)))
+        (Some (place_in id table)) None }
 {
-    match part {
-        Part::Absent => true,
-        Part::At { from: _, len: _ } => false,
-    }
-}
-
-// The place for the part of a triple that is taken: its length is right, and it repeats none. ROWS for any other.
-fn room_for(table: [Identifier; ROWS], parts: [Slot; ROWS], id: u8, len: usize) -> usize
-    ensures { result ≡ cond (right_length table id len && is_absent (part_in parts (place_in id table)))
-        (place_in id table) table_rows }
-{
-    let place = place_of(table, id);
-    if place < ROWS {
-        let row = table[place];
-        if allows(row, len) {
-            if is_absent(part_at(parts, place)) {
-                return place;
-            }
-        }
-    }
-    ROWS
-}
-
-// Nothing found: no part is given.
-fn malformed() -> Found
-    ensures { result ≡ unformed }
-{
-    Found {
-        formed: false,
-        parts: [Slot { part: Part::Absent }; ROWS],
+    let row = row_of(table, id)?;
+    if allows(table[row], len) && part_at(parts, row).is_none() {
+        Some(row)
+    } else {
+        None
     }
 }
 
 // The triples from a place on, to the end.
-fn walk_from(s: &[u8], start: usize, table: [Identifier; ROWS]) -> Found
+fn walk_from(
+    s: &[u8],
+    start: usize,
+    table: [Identifier; ROWS],
+) -> Result<[Option<Place>; ROWS], Malformed>
     ensures { result ≡ found_from start table (checked table (triples_of (drop start s.now))) }
 {
-    let mut parts = [Slot { part: Part::Absent }; ROWS];
-    let mut at = start;
-    loop {
-        let step = reader::next_at(s, at);
-        let cursor = step.cursor;
-        let found = step.found;
-        match found {
-            Stands::End => {
-                return Found {
-                    formed: true,
-                    parts,
-                };
-            }
-            Stands::Broken => {
-                return malformed();
-            }
-            Stands::Triple { id, from, len } => {
-                let place = room_for(table, parts, id, len);
-                if place < ROWS {
-                    parts[place] = Slot {
-                        part: Part::At { from, len },
-                    };
-                    at = cursor;
-                } else {
-                    return malformed();
-                }
-            }
-        }
+    let mut parts = [None; ROWS];
+    let mut reader = Reader::new(s, start);
+    while let Some(triple) = reader.next()? {
+        let row = room_for(table, parts, triple.id, triple.len).ok_or(Malformed)?;
+        parts[row] = Some(Place {
+            from: triple.from,
+            len: triple.len,
+        });
     }
+    Ok(parts)
 }
 
 // Whether the payload opens as it must: 0x81, the group's octet, a length equal to all that follows.
+#[tactic(auto, unfolding(crate::specs::Field::opened))]
 fn opens(payload: &[u8], octet: u8) -> bool
     ensures { result ≡ opened octet payload.now }
 {
     let n = payload.len();
-    if n < 3 {
-        return false;
-    }
-    if payload[0] != FORMAT {
-        return false;
-    }
-    if payload[1] != octet {
-        return false;
-    }
-    octets::wide(payload[2]) == n - 3
+    n >= 3 && payload[0] == FORMAT && payload[1] == octet && octets::wide(payload[2]) == n - 3
 }
 
-// The parameters of a payload of this group, if it is well formed.
-pub fn walk(payload: &[u8], group: Group) -> Found
+// The parameters of a payload of this group, if it is well formed: the part of each identifier, at its place in the
+// table.
+#[tactic(auto, unfolding(crate::specs::Walk::found_in, crate::specs::Walk::found_from, crate::specs::Field::params_of))]
+pub fn walk(payload: &[u8], group: Group) -> Result<[Option<Place>; ROWS], Malformed>
     ensures { result ≡ found_in group payload.now }
 {
-    let octet = group.octet;
-    let table = group.table;
-    if opens(payload, octet) {
-        return walk_from(payload, 3, table);
+    if opens(payload, group.octet) {
+        walk_from(payload, 3, group.table)
+    } else {
+        Err(Malformed)
     }
-    malformed()
 }

@@ -1,14 +1,14 @@
 -- What the payloads of this crate are: how long, what lies in them, and the rows that 01 spells out. Assumes nothing.
+use Rattle.octets.specs.Text.{laid}
 use mathlib.Core.Path.{◌≡◌, refl}
 use mathlib.Core.Bool.{Bool, true, false}
 use mathlib.Core.List.{List, [], ◌∷◌}
-use mathlib.Core.Option.{some}
+use Rattle.std.specs.Prelude.{Some}
 use Prim.Native.Nat.{ℕ, suc, ◌+◌, ◌/◌, ◌%◌, ◌≤◌}
 use native.Mathlib.Omega.{arith}
 use lib.ListN.{length, take, replicate, length-take}
 use Rattle.octets.specs.Octets.{last_of}
 use Rattle.octets.proofs.Stores.{take-start}
-use Rattle.antenna.specs.declared.Waits.TheVariants.{Result}
 use Rattle.antenna.specs.Motions.{return_code}
 use Rattle.payload.specs.Payloads.{message_of, success_of, failure_of, result_of, payload_of, body_most}
 
@@ -33,12 +33,12 @@ failure-is code why = refl
 
 -- what a payload says is what was laid into it
 pub payload-says : (b : List ℕ) → take (payload_of b).len (payload_of b).octets ≡ b
-unfolding payload_of
+unfolding laid
 payload-says b = take-start b (replicate 74 0)
 
 -- no payload has more than 74 octets
 pub laid-fits : (code : ℕ) (d : List ℕ) → (payload_of (message_of code (take body_most d))).len ≤ 74
-unfolding payload_of
+unfolding laid
 laid-fits code d =
     let few : length (take body_most d) ≤ 71 = simp length-take (omega arith) in
     omega (arith, few, length-message code (take body_most d))
@@ -53,7 +53,7 @@ unfolding result_of failure_of
 result-missed = refl
 
 -- the last octet of the result is the return code of what waited
-pub result-code : (reached : Bool) → return_code (Result reached) ≡ some (last_of 0 (result_of reached))
+pub result-code : (reached : Bool) → return_code (Some reached) ≡ Some (last_of 0 (result_of reached))
 unfolding return_code result_of success_of message_of failure_of last_of
 result-code true = refl
 result-code false = refl

@@ -1,4 +1,5 @@
 -- How a message comes to lie in a payload: code and length in front, the data stored behind them. Assumes nothing.
+use Rattle.octets.specs.Text.{laid}
 use mathlib.Core.Path.{◌≡◌, sym, ap₂, ◌∙◌}
 use mathlib.Core.List.{List, ◌∷◌}
 use Prim.Native.Nat.{ℕ, suc, ◌+◌, ◌≤◌, min}
@@ -8,14 +9,14 @@ use lib.Seq.{sets, take_all}
 use Rattle.octets.specs.Octets.{low_of, high_of, ◌at_start_of◌}
 use Rattle.octets.proofs.Stores.{sets-start}
 use Rattle.octets.proofs.Takes.{take-room}
-use Rattle.record.specs.declared.Payload.{Payload}
+use Rattle.record.specs.Desk.{Payload}
 use Rattle.payload.specs.Payloads.{message_of, payload_of, body_most}
 
 -- data that is laid is the message's, as far as there is room
 module _ (code : ℕ) (d : List ℕ) {o : List ℕ} {n : ℕ} (count : n ≡ min (length d) body_most)
     (stored : o ≡ sets (set (set (set (replicate 74 0) 0 code) 1 (low_of n)) 2 (high_of n)) 3 (take n d)) where
   pub laid-is : ◌≡◌ {A = Payload} (record { octets = o; len = n + 3 }) (payload_of (message_of code (take body_most d)))
-  unfolding payload_of message_of
+  unfolding laid message_of
   laid-is =
       let e : take body_most d ≡ take n d = sym (rw count (take-room d body_most)) in
       let m : length (take n d) ≡ n = simp length-take (omega arith) in

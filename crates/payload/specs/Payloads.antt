@@ -6,11 +6,12 @@
 --   body_most         == how many octets of data a payload has room for
 --   payload_of b      == the octets b, laid into a payload
 -- Assumes nothing.
-use Rattle.std.specs.Prelude.{Bool, cond, List, [], ◌∷◌, ℕ, length, replicate}
-use Rattle.octets.specs.Octets.{low_of, high_of, ◌at_start_of◌}
+use Rattle.std.specs.Prelude.{Bool, cond, List, [], ◌∷◌, ℕ, length}
+use Rattle.octets.specs.Octets.{low_of, high_of}
+use Rattle.octets.specs.Text.{laid}
 use Rattle.antenna.specs.Motions.{result_code}
 use Rattle.record.specs.Allowed.{reply_most}
-use Rattle.record.specs.declared.Payload.{Payload}
+use Rattle.record.specs.Desk.{Payload}
 
 -- "Code, data length (two octets, low first), data."
 unfoldable pub message_of : ℕ → List ℕ → List ℕ
@@ -32,5 +33,5 @@ abbrev pub body_most : ℕ
 body_most = 71
 
 -- as many octets as there are, at the start of the 74 places, zeros behind them
-unfoldable pub payload_of : List ℕ → Payload
-payload_of b = record { octets = b at_start_of replicate reply_most 0; len = length b }
+abbrev pub payload_of : List ℕ → Payload
+payload_of = laid reply_most

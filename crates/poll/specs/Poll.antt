@@ -5,11 +5,10 @@
 --   to_tell k v     == there is something to tell, and it is subscribed
 --   poll_of d s     == what RR gets, the answer that it acknowledges being removed
 -- Assumes nothing.
-use Rattle.std.specs.Prelude.{Bool, cond, ◌&&◌}
+use Rattle.std.specs.Prelude.{Bool, cond, ◌&&◌, Option, Some, None}
 use Rattle.antenna.specs.declared.Alarms.{Alarms}
 use Rattle.antenna.specs.declared.Drive.{Drive}
 use Rattle.antenna.specs.declared.Motion.TheVariants.{Still}
-use Rattle.antenna.specs.declared.Waits.{Waits}
 use Rattle.antenna.specs.Alarms.{any_differ}
 use Rattle.antenna.specs.Motions.{waiting_of, moves}
 use Rattle.record.specs.declared.Pending.TheVariants.{Indication}
@@ -42,9 +41,9 @@ unfoldable pub idle_poll : Device → Session → Turn
 idle_poll d s = cond (to_tell d.station.desk d.antenna.drive) (indicating d s) (saying d (ready s))
 
 -- "else a waiting tilt result"
-unfoldable pub waiting_poll : Device → Session → Waits → Turn
-waiting_poll d s Waits.Nothing = idle_poll d s
-waiting_poll d s (Waits.Result reached) =
+unfoldable pub waiting_poll : Device → Session → Option Bool → Turn
+waiting_poll d s None = idle_poll d s
+waiting_poll d s (Some reached) =
     saying
     (device_of d (answers_with d.station s (payload_of (result_of reached))) (moves d.antenna Still))
     (pend s)

@@ -7,54 +7,36 @@ ghost use Rattle.antenna.specs.Motions.{Awaits};
 ghost use Rattle.payload.specs.Payloads.{payload_of, result_of};
 ghost use Rattle.poll.specs.Poll.{to_tell, indicates, indicating, idle_poll, waiting_poll, poll_of};
 
-use antenna::{Alarms, Antenna, Drive, Motion, Waits};
+use antenna::{Alarms, Drive, Motion};
 use record::{Desk, Device, Link, Payload, Pending, Session, Station};
 use station::{Say, Turn};
 
 // Whether there is something to tell, and it is subscribed.
+#[tactic(auto, unfolding(crate::specs::Poll::to_tell))]
 fn is_to_tell(desk: Desk, drive: Drive) -> bool
     ensures { result ≡ to_tell desk drive }
 {
-    let raised = drive.raised;
-    let told = desk.told;
-    let present = raised.flags;
-    let before = told.flags;
-    if desk.subscribed {
-        return antenna::differ(present, before);
-    }
-    false
+    desk.subscribed && antenna::differ(drive.raised.flags, desk.told.flags)
 }
 
-fn indicated(station: Station, s: Session, alarms: Alarms) -> Station
+#[tactic(auto, unfolding(crate::specs::Poll::indicates, station::specs::Station::awaiting))]
+fn indicated(mut station: Station, mut s: Session, alarms: Alarms) -> Station
     ensures { result ≡ indicates station s alarms }
 {
-    let mut desk = station.desk;
-    desk.said = alarms;
-    Station {
-        link: Link::Connected(Session {
-            r: s.r,
-            s: s.s,
-            pending: Pending::Indication,
-        }),
-        desk,
-    }
+    s.pending = Pending::Indication;
+    station.link = Link::Connected(s);
+    station.desk.said = alarms;
+    station
 }
 
 // An indication of the alarms as they are becomes pending, and is said.
-fn indicate(device: Device, s: Session) -> Turn
+#[tactic(auto, unfolding(station::specs::Turns::saying, record::specs::Changes::device_of))]
+fn indicate(mut device: Device, s: Session) -> Turn
     ensures { result ≡ indicating device s }
 {
-    let plate = device.plate;
-    let station = device.station;
-    let antenna = device.antenna;
-    let drive = antenna.drive;
-    let raised = drive.raised;
+    device.station = indicated(device.station, s, device.antenna.drive.raised);
     Turn {
-        device: Device {
-            plate,
-            station: indicated(station, s, raised),
-            antenna,
-        },
+        device,
         say: Say::Pend {
             control: control::info(s.s, s.r),
         },
@@ -62,14 +44,11 @@ fn indicate(device: Device, s: Session) -> Turn
 }
 
 // With nothing pending and no result that waits.
+#[tactic(auto, unfolding(crate::specs::Poll::idle_poll, station::specs::Turns::saying))]
 fn poll_idle(device: Device, s: Session) -> Turn
     ensures { result ≡ idle_poll device s }
 {
-    let station = device.station;
-    let antenna = device.antenna;
-    let desk = station.desk;
-    let drive = antenna.drive;
-    if is_to_tell(desk, drive) {
+    if is_to_tell(device.station.desk, device.antenna.drive) {
         return indicate(device, s);
     }
     Turn {
@@ -81,6 +60,7 @@ fn poll_idle(device: Device, s: Session) -> Turn
 }
 
 // The result of a set tilt whose movement has ended.
+#[tactic(auto, unfolding(payload::specs::Payloads::result_of))]
 fn result(reached: bool) -> Payload
     ensures { result ≡ payload_of (result_of reached) }
 {
@@ -90,53 +70,40 @@ fn result(reached: bool) -> Payload
     payload::failure(0x33, 0x02)
 }
 
-fn poll_waiting(device: Device, s: Session, waits: Waits) -> Turn
+#[tactic(auto, unfolding(crate::specs::Poll::waiting_poll, record::specs::Changes::device_of, station::specs::Turns::answering, antenna::specs::Motions::moves))]
+fn poll_waiting(mut device: Device, s: Session, waits: Option<bool>) -> Turn
     ensures { result ≡ waiting_poll device s waits }
 {
     match waits {
-        Waits::Nothing => poll_idle(device, s),
-        Waits::Result { reached } => {
-            let antenna = device.antenna;
-            let plate = device.plate;
-            let station = device.station;
-            let drive = antenna.drive;
-            let rested = Device {
-                plate,
-                station,
-                antenna: Antenna {
-                    motion: Motion::Still,
-                    drive,
-                },
-            };
-            station::answer(rested, s, result(reached))
+        None => poll_idle(device, s),
+        Some(reached) => {
+            device.antenna.motion = Motion::Still;
+            station::answer(device, s, result(reached))
         }
     }
 }
 
 // The result that waits, if one does.
-fn waiting(motion: Motion) -> Waits
+#[tactic(auto, using(antenna::proofs::Awaits::awaits), unfolding(antenna::specs::Motions::waiting_of))]
+fn waiting(motion: Motion) -> Option<bool>
     ensures { Awaits motion result }
 {
     match motion {
-        Motion::Still => Waits::Nothing,
-        Motion::Moving => Waits::Nothing,
-        Motion::Owing { asked: _ } => Waits::Nothing,
-        Motion::Stopped { reached } => Waits::Result { reached },
+        Motion::Stopped { reached } => Some(reached),
+        _ => None,
     }
 }
 
 // RR in the session `s`, what it acknowledges being removed.
+#[tactic(auto, unfolding(crate::specs::Poll::poll_of, station::specs::Turns::saying))]
 pub fn poll(device: Device, s: Session) -> Turn
     ensures { result ≡ poll_of device s }
 {
-    let pending = s.pending;
-    if session::is_pending(pending) {
+    if session::is_pending(s.pending) {
         return Turn {
             device,
             say: station::resend(s),
         };
     }
-    let antenna = device.antenna;
-    let motion = antenna.motion;
-    poll_waiting(device, s, waiting(motion))
+    poll_waiting(device, s, waiting(device.antenna.motion))
 }

@@ -11,18 +11,19 @@ use lib.Dec.{leb}
 use lib.ListN.{length, get_or, drop, drop_of_length-le, length-drop}
 use lib.Seq.{get_or-drop}
 use Rattle.octets.proofs.Rest.{rest}
-use Rattle.reader.specs.Read.{stands_in, stands_at, behind, step_at}
+use Rattle.std.specs.Prelude.{Some, None, Ok, Err}
+use Rattle.reader.specs.Read.{Stands, end, broken, triple, stands_in, stands_at, behind, step_at}
+use Rattle.reader.specs.Read.{reader_of, next_in, reader_after}
+use Rattle.reader.specs.declared.Reader.{Reader}
 use Rattle.reader.specs.declared.Step.{Step}
-use Rattle.reader.specs.declared.Stands.{Stands}
-use Rattle.reader.specs.declared.Stands.TheVariants.{End, Broken, Triple}
 
 -- what stands at a place, by the number of octets from there on
 module _ (s : List ℕ) (at : ℕ) where
-  pub stands-end : length s ≤ at → End ≡ stands_at s at
+  pub stands-end : length s ≤ at → end ≡ stands_at s at
   unfolding stands_at stands_in
   stands-end h = rw (drop_of_length-le s h)
 
-  pub stands_one : at < length s → length s - at < 2 → Broken ≡ stands_at s at
+  pub stands_one : at < length s → length s - at < 2 → broken ≡ stands_at s at
   unfolding stands_at stands_in
   stands_one h k = rw (rest s at h, drop_of_length-le s {i = at + 1} (omega arith))
 
@@ -34,13 +35,13 @@ module _ (s : List ℕ) (at : ℕ) where
       (rest s (at + 1) (omega arith) ∙ ap (λ (j : ℕ). get_or s (at + 1) 0 ∷ drop j s) n)
 
   module _ (inside : at < length s) (two : 2 ≤ length s - at) (n : ℕ) (e : n ≡ get_or s (at + 1) 0) where
-    pub stands-short : length s - at - 2 < n → Broken ≡ stands_at s at
+    pub stands-short : length s - at - 2 < n → broken ≡ stands_at s at
     unfolding stands_at stands_in
     stands-short h =
         let past = lt-leb n (length (drop (at + 2) s)) (rw length-drop (omega arith)) in
         rw (next-two (omega arith), ← e, past)
 
-    pub stands-whole : n ≤ length s - at - 2 → Triple (get_or s at 0) (at + 2) n ≡ stands_at s at
+    pub stands-whole : n ≤ length s - at - 2 → triple (get_or s at 0) (at + 2) n ≡ stands_at s at
     unfolding stands_at stands_in
     stands-whole h =
         let whole = le-leb n (length (drop (at + 2) s)) (rw length-drop (omega arith)) in
@@ -48,11 +49,11 @@ module _ (s : List ℕ) (at : ℕ) where
 
 -- what it says that this stands at a place
 abbrev pub Means : List ℕ → ℕ → Stands → Type 0
-Means m at End = length m ≤ at
-Means m at Broken =
+Means m at (Ok None) = length m ≤ at
+Means m at (Err e) =
     (at < length m) × ((length m < at + 2) ⊎ ((at + 2 ≤ length m) × (length m < at + 2 + get_or m (at + 1) 0)))
-Means m at (Triple n from len) =
-    (at + 2 + len ≤ length m) × (n ≡ get_or m at 0) × (from ≡ at + 2) × (len ≡ get_or m (at + 1) 0)
+Means m at (Ok (Some t)) =
+    (at + 2 + t.len ≤ length m) × (t.id ≡ get_or m at 0) × (t.from ≡ at + 2) × (t.len ≡ get_or m (at + 1) 0)
 
 pub means : (m : List ℕ) (at : ℕ) → Means m at (stands_at m at)
 unfolding stands_at stands_in
@@ -74,7 +75,7 @@ means m at = go (drop at m) refl
         second : k ≡ get_or m (at + 1) 0
         second = sym (ap (λ (l : List ℕ). get_or l 1 0) e) ∙ get_or-drop at m 1 0
 
-        fits : (b : Bool) → leb k (length xs) ≡ b → Means m at (cond b (Triple n (at + 2) k) Broken)
+        fits : (b : Bool) → leb k (length xs) ≡ b → Means m at (cond b (triple n (at + 2) k) broken)
         fits true f =
             let h = leb-true k (length xs) f in
             (omega (arith, long), first, refl, second)
@@ -98,7 +99,7 @@ module _ (m : List ℕ) (at : ℕ) where
     pub step-found : r.found ≡ stands_at m at
     step-found = ap (λ (x : Step). x.found) e
 
-    pub step-behind : {n from len : ℕ} → r.found ≡ Triple n from len → r.cursor ≡ from + len
+    pub step-behind : {n from len : ℕ} → r.found ≡ triple n from len → r.cursor ≡ from + len
     unfolding behind
     step-behind f = ap (λ (x : Step). x.cursor) e ∙ ap (behind at) (sym step-found ∙ f)
 
@@ -108,6 +109,12 @@ module _ (m : List ℕ) (at : ℕ) where
     step_stays h = ap (λ (x : Step). x.cursor) e ∙ go (stands_at m at) (means m at)
       where
         go : (x : Stands) → Means m at x → behind at x ≡ at
-        go End w = refl
-        go Broken w = refl
-        go (Triple n from len) w = let none : ⊥ = omega (arith, h, w.0, w.3) in absurd none
+        go (Ok None) w = refl
+        go (Err e) w = refl
+        go (Ok (Some t)) w = let none : ⊥ = omega (arith, h, w.0, w.3) in absurd none
+
+-- a caller of the reader learns: behind a triple its cursor goes on, in the same frame
+pub next-behind : (d : Reader) {e : Reader} → e ≡ reader_after d → {n from len : ℕ} → next_in d ≡ triple n from len
+    → e ≡ reader_of d.frame (from + len)
+unfolding behind
+next-behind d moved f = moved ∙ ap (λ (x : Stands). reader_of d.frame (behind d.cursor x)) f

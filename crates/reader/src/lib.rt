@@ -6,56 +6,58 @@
 ghost use Rattle.std.specs.Prelude.{◌≡◌};
 ghost use Rattle.reader.specs.Read.{stands_at, step_at, reader_of, next_in, reader_after};
 
-// What stands at a place of a field: its end; less than a whole triple; a triple, its value `len` octets at `from`.
+// What a field holds that is no triples: less than a whole one stands at a place.
+#[derive(Clone, Copy, Debug, PartialEq, Eq)]
+pub struct Malformed;
+
+// A triple: its identifier; its value is `len` octets, at `from`.
 #[derive(Clone, Copy)]
-pub enum Stands {
-    End,
-    Broken,
-    Triple { id: u8, from: usize, len: usize },
+pub struct Triple {
+    pub id: u8,
+    pub from: usize,
+    pub len: usize,
 }
 
-// The triple that stands at a place.
-fn stands_at(s: &[u8], at: usize) -> Stands
+// The triple that stands at a place, and none at the end of a field.
+fn stands_at(s: &[u8], at: usize) -> Result<Option<Triple>, Malformed>
     ensures { result ≡ stands_at s.now at }
 {
     if s.len() <= at {
-        return Stands::End;
+        return Ok(None);
     }
     let left = s.len() - at;
     if left < 2 {
-        return Stands::Broken;
+        return Err(Malformed);
     }
     let len = octets::wide(s[at + 1]);
     if left - 2 < len {
-        return Stands::Broken;
+        return Err(Malformed);
     }
-    Stands::Triple {
+    Ok(Some(Triple {
         id: s[at],
         from: at + 2,
         len,
-    }
+    }))
 }
 
 // What a step of the reader finds, and the cursor after it.
 #[derive(Clone, Copy)]
 pub struct Step {
-    pub found: Stands,
+    pub found: Result<Option<Triple>, Malformed>,
     pub cursor: usize,
 }
 
-// One step from a place on: what stands there, and the place behind it if it is a triple.
-fn step_at(s: &[u8], at: usize) -> Step
-    ensures { result ≡ step_at s.now at }
+// The next parameter of a frame from a place on, and the place behind it. The end, and less than a triple, stay.
+pub fn next_at(frame: &[u8], at: usize) -> Step
+    ensures { result ≡ step_at frame.now at }
 {
-    let found = stands_at(s, at);
-    match found {
-        Stands::End => Step { found, cursor: at },
-        Stands::Broken => Step { found, cursor: at },
-        Stands::Triple { id: _, from, len } => {
-            let cursor = from + len;
-            Step { found, cursor }
-        }
-    }
+    let found = stands_at(frame, at);
+    let cursor = match found {
+        Ok(Some(triple)) => triple.from + triple.len,
+        Ok(None) => at,
+        Err(_) => at,
+    };
+    Step { found, cursor }
 }
 
 // The frame in which the parameters lie, and the cursor: where the next one stands.
@@ -74,23 +76,11 @@ impl<'a> Reader<'a> {
     }
 
     // The next parameter; the cursor moves on behind it.
-    pub fn next<'s>(&'s mut self) -> Stands
+    pub fn next<'s>(&'s mut self) -> Result<Option<Triple>, Malformed>
         ensures { (result ≡ next_in self.old) × (self.new ≡ reader_after self.old) }
     {
-        let step = step_at(self.frame, self.cursor);
+        let step = next_at(self.frame, self.cursor);
         self.cursor = step.cursor;
         step.found
-    }
-}
-
-// The next parameter of a frame from a place on. Its own parameters are plain: its callers hold a place, and no reader.
-pub fn next_at(frame: &[u8], at: usize) -> Step
-    ensures { result ≡ step_at frame.now at }
-{
-    let mut reader = Reader::new(frame, at);
-    let found = reader.next();
-    Step {
-        found,
-        cursor: reader.cursor,
     }
 }

@@ -1,5 +1,5 @@
 -- What a closing flag hands out, by the tests of the code; and a call that is over. Assumes nothing.
-use Rattle.std.proofs.Common.{Result}
+use Rattle.std.proofs.Common.{Some, None, Result, Ok}
 use Rattle.refusal.specs.declared.Refusal.{Refusal}
 use mathlib.Core.Path.{◌≡◌, refl, sym, ap, ◌∙◌}
 use mathlib.Core.Bool.{true, false}
@@ -14,10 +14,9 @@ use Rattle.refusal.proofs.Answers.{answered-here, answered-later}
 use Rattle.frame.specs.Line.{flag}
 use Rattle.frame.specs.Decode.{framed}
 use Rattle.receiver.specs.Held.{Held, Usable, held_of, places, open_marks, after_flag, after_octet, stretched, closes, stretch_says}
-use Rattle.receiver.specs.Call.{handed, takes, Receives, heard_of, told_by, took_by, held_by, out_by, told_counted, out_told}
+use Rattle.receiver.specs.Call.{handed, takes, Receives, handed_of, heard_of, count_of, told_by, took_by, held_by, out_by, told_counted, out_told}
 use Rattle.receiver.specs.Pieces.{further_by, Passes}
 use Rattle.receiver.specs.declared.Receiver.{Receiver}
-use Rattle.receiver.specs.declared.Heard.TheVariants.{Nothing, HandedOut}
 
 module _ (N room : ℕ) (r : Receiver) (m : List ℕ) where
   pub says-broken : r.last ≡ true → stretch_says N room (held_of r m) ≡ refuses 4
@@ -39,8 +38,8 @@ place-free h u n = omega (arith, u.0, u.1, n)
 -- all of the run was taken
 module _ (N : ℕ) (h g : Held) (s o : List ℕ) {k : ℕ} (p : Passes h s k g) where
   pub all-taken : length s ≤ k → Receives (gives (takes N (length o) h s)) h o
-      (record { receiver = g.marks; taken = k; heard = Nothing }) g.store o
-  unfolding takes further_by heard_of told_by took_by held_by out_by told_counted out_told
+      (Ok (record { taken = k; handed = None })) g o
+  unfolding takes further_by handed_of heard_of count_of told_by took_by held_by out_by told_counted out_told
   all-taken e =
       let over = p.same N (length o) ∙ ap (λ (t : List ℕ). further_by k (takes N (length o) g t)) (drop_of_length-le s e) in
       rw over
@@ -50,8 +49,8 @@ module _ (N : ℕ) (h g : Held) (s o : List ℕ) {k : ℕ} (p : Passes h s k g) 
   pub flag-closes : {a : Result ℕ Refusal} {o' : List ℕ} → k < length s → get_or s k 0 ≡ flag → stretched g.marks ≡ true
       → Hands (stretch_says N (length o) g) o a o'
       → Receives (gives (takes N (length o) h s)) h o
-      (record { receiver = open_marks; taken = k + 1; heard = HandedOut a }) g.store o'
-  unfolding takes further_by heard_of told_by took_by held_by out_by told_counted out_told after_octet after_flag closes
+      (Ok (record { taken = k + 1; handed = Some a })) (held_of open_marks g.store) o'
+  unfolding takes further_by handed_of heard_of count_of told_by took_by held_by out_by told_counted out_told after_octet after_flag closes
   flag-closes i e f w =
       let here : drop k s ≡ flag ∷ drop (k + 1) s = rest s k i ∙ ap (λ (x : ℕ). x ∷ drop (k + 1) s) e in
       let over = p.same N (length o) ∙ ap (λ (t : List ℕ). further_by k (takes N (length o) g t)) here in

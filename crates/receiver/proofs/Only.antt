@@ -1,4 +1,5 @@
 -- Each promise of this crate allows one result, one content of the lent store and one of the lent output. Assumes nothing.
+use Rattle.std.proofs.Common.{Option, Some, None, Result, Ok, Err}
 use mathlib.Core.Path.{◌≡◌, refl, sym, ap, ap₂}
 use mathlib.Core.List.{List}
 use Prim.Native.Nat.{ℕ}
@@ -7,12 +8,10 @@ use Rattle.octets.proofs.Only.{only, AsksNothing, Settles, SettlesAll}
 use Rattle.refusal.specs.Answer.{Answer}
 use Rattle.refusal.proofs.Answers.{gives_same, gives-not-refuses, refuses-same}
 use Rattle.refusal.proofs.Only.{number-apart, answer-apart}
-use Rattle.receiver.specs.Held.{Held}
-use Rattle.receiver.specs.Call.{nothing, handed, Took, heard_of, Receives}
-use Rattle.receiver.specs.declared.Receiver.{Receiver}
+use Rattle.receiver.specs.Held.{Held, held_of}
+use Rattle.receiver.specs.Call.{nothing, handed, Took, handed_of, heard_of, count_of, Receives}
 use Rattle.receiver.specs.declared.Received.{Received}
-use Rattle.receiver.specs.declared.Heard.{Heard}
-use Rattle.receiver.specs.declared.Heard.TheVariants.{Nothing, HandedOut, Refused}
+use Rattle.refusal.specs.declared.Refusal.{Refusal}
 use Rattle.receiver.proofs.new.Reads as new-reads
 use Rattle.receiver.proofs.receive_in.Reads as receive-in-reads
 use Rattle.receiver.proofs.receive.Reads as receive-reads
@@ -23,41 +22,40 @@ nothing-not-handed e = let z : ◌≡◌ {A = ℕ} 0 1 = cc in omega arith
 handed-same : {A : Type 0} {a b : Answer A} → handed a ≡ handed b → a ≡ b
 handed-same e = cc
 
-pub heard-apart : (r q : Heard) → heard_of r ≡ heard_of q → r ≡ q
-unfolding heard_of
-heard-apart Nothing Nothing e = refl
-heard-apart Nothing (HandedOut b) e = absurd (nothing-not-handed (gives_same e))
-heard-apart Nothing (Refused j) e = absurd (gives-not-refuses e)
-heard-apart (HandedOut a) Nothing e = absurd (nothing-not-handed (sym (gives_same e)))
-heard-apart (HandedOut a) (HandedOut b) e = ap HandedOut (answer-apart a b (handed-same (gives_same e)))
-heard-apart (HandedOut a) (Refused j) e = absurd (gives-not-refuses e)
-heard-apart (Refused k) Nothing e = absurd (gives-not-refuses (sym e))
-heard-apart (Refused k) (HandedOut b) e = absurd (gives-not-refuses (sym e))
-heard-apart (Refused k) (Refused j) e = ap Refused (number-apart k j (refuses-same e))
+pub handed-apart : (p q : Option (Result ℕ Refusal)) → handed_of p ≡ handed_of q → p ≡ q
+unfolding handed_of
+handed-apart None None e = refl
+handed-apart None (Some b) e = absurd (nothing-not-handed e)
+handed-apart (Some a) None e = absurd (nothing-not-handed (sym e))
+handed-apart (Some a) (Some b) e = ap Some (answer-apart a b (handed-same e))
 
-made : {r q : Receiver} {k j : ℕ} {a b : Heard} → r ≡ q → k ≡ j → a ≡ b
-    → ◌≡◌ {A = Received} (record { receiver = r; taken = k; heard = a }) (record { receiver = q; taken = j; heard = b })
-made e f g = rw (e, f, g)
+-- what was heard and how many octets were taken is the whole answer
+pub heard-apart : (r q : Result Received Refusal) → heard_of r ≡ heard_of q → count_of r ≡ count_of q → r ≡ q
+unfolding heard_of count_of
+heard-apart (Ok c) (Ok d) e f =
+    ap₂ (λ (k : ℕ) (a : Option (Result ℕ Refusal)). Ok (record { taken = k; handed = a })) f
+    (handed-apart c.handed d.handed (gives_same e))
+heard-apart (Ok c) (Err j) e f = absurd (gives-not-refuses e)
+heard-apart (Err k) (Ok d) e f = absurd (gives-not-refuses (sym e))
+heard-apart (Err k) (Err j) e f = ap Err (number-apart k j (refuses-same e))
 
--- every promise by `Receives` allows one answer, one store and one output
-pub receives-only : {right : Answer Took} {h : Held} {o m n p q : List ℕ} {r s : Received}
-    → Receives right h o r m p → Receives right h o s n q → (r ≡ s) × (m ≡ n) × (p ≡ q)
-receives-only {r = r} {s = s} a b =
-    let held = only a.held b.held in (
-      made (ap (λ (g : Held). g.marks) held) (only a.count b.count)
-          (heard-apart r.heard s.heard (only a.answer b.answer)),
-      ap (λ (g : Held). g.store) held,
-      only a.octets b.octets,
-    )
+-- every promise by `Receives` allows one answer, one record and one output
+pub receives-only : {right : Answer Took} {h g f : Held} {o p q : List ℕ} {r s : Result Received Refusal}
+    → Receives right h o r g p → Receives right h o s f q → (r ≡ s) × (g ≡ f) × (p ≡ q)
+receives-only {r = r} {s = s} a b = (
+  heard-apart r s (only a.answer b.answer) (only a.count b.count),
+  only a.held b.held,
+  only a.octets b.octets,
+)
 
 pub new-only : Settles new-reads.Learnt
 new-only κs a r q s t = only
 
-pub receive-in-only : SettlesAll {O = List ℕ × List ℕ} receive-in-reads.Learnt (λ κs s. (s.1.1.1.0.now, s.1.1.1.1.0.now))
-receive-in-only κs a r q s t x y = let z = receives-only x y in (z.0, ap₂ (λ (m p : List ℕ). (m, p)) z.1 z.2)
+pub receive-in-only : SettlesAll {O = Held × List ℕ} receive-in-reads.Learnt (λ κs s. (held_of s.0.now s.1.1.1.0.now, s.1.1.1.1.0.now))
+receive-in-only κs a r q s t x y = let z = receives-only x y in (z.0, ap₂ (λ (g : Held) (p : List ℕ). (g, p)) z.1 z.2)
 
-pub receive-only : SettlesAll {O = List ℕ × List ℕ} receive-reads.Learnt (λ κs s. (s.1.1.1.0.now, s.1.1.1.1.0.now))
-receive-only κs a r q s t x y = let z = receives-only x y in (z.0, ap₂ (λ (m p : List ℕ). (m, p)) z.1 z.2)
+pub receive-only : SettlesAll {O = Held × List ℕ} receive-reads.Learnt (λ κs s. (held_of s.0.now s.1.1.1.0.now, s.1.1.1.1.0.now))
+receive-only κs a r q s t x y = let z = receives-only x y in (z.0, ap₂ (λ (g : Held) (p : List ℕ). (g, p)) z.1 z.2)
 
 pub new-asks : AsksNothing new-reads.Asked
 new-asks κs a = tt

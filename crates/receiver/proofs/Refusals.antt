@@ -1,4 +1,5 @@
 -- A call that is refused, by the tests of the code, and one that is not. Assumes nothing.
+use Rattle.std.proofs.Common.{Result, Err}
 use mathlib.Core.Path.{◌≡◌, refl, ap, ◌∙◌}
 use mathlib.Core.Bool.{true, false, not}
 use mathlib.Core.List.{List}
@@ -12,9 +13,8 @@ use Rattle.refusal.proofs.Answers.{answered-here, answered-later}
 use Rattle.refusal.proofs.Exactly.{exactly-given}
 use Rattle.limits.specs.Limits.{is_limit, frame_most}
 use Rattle.receiver.specs.Held.{Held, places}
-use Rattle.receiver.specs.Call.{Took, takes, receive_rows, received, heard_of, told_by, took_by, held_by, out_by, Receives}
+use Rattle.receiver.specs.Call.{Took, takes, receive_rows, received, heard_of, count_of, told_by, took_by, held_by, out_by, Receives}
 use Rattle.receiver.specs.declared.Received.{Received}
-use Rattle.receiver.specs.declared.Heard.TheVariants.{Refused}
 
 module _ (N : ℕ) (h : Held) (s : List ℕ) (room : ℕ) where
   pub no-limit : is_limit N ≡ false → received N h s room ≡ refuses 6
@@ -58,14 +58,14 @@ module _ (N : ℕ) (h : Held) (s : List ℕ) (room : ℕ) where
             )
 
 -- nothing is taken, and nothing is changed
-pub refused-call : {x : Answer Took} {h : Held} {o : List ℕ} (k : Refusal) {r : Received} → x ≡ refuses (number_of k)
-    → r ≡ record { receiver = h.marks; taken = 0; heard = Refused k } → Receives x h o r h.store o
-unfolding heard_of told_by took_by held_by out_by
-refused-call k e f = rw (e, f) (record { answer = refl; count = refl; held = refl; octets = refl })
+pub refused-call : {x : Answer Took} {h : Held} {o : List ℕ} (k : Refusal) → x ≡ refuses (number_of k)
+    → Receives x h o (Err k) h o
+unfolding heard_of count_of told_by took_by held_by out_by
+refused-call k e = rw e (record { answer = refl; count = refl; held = refl; octets = refl })
 
 -- the same answer, written otherwise
-pub receives-is : {x y : Answer Took} {h : Held} {o m o' : List ℕ} {r : Received} → x ≡ y → Receives x h o r m o'
-    → Receives y h o r m o'
+pub receives-is : {x y : Answer Took} {h g : Held} {o o' : List ℕ} {r : Result Received Refusal} → x ≡ y → Receives x h o r g o'
+    → Receives y h o r g o'
 receives-is e w =
     record {
       answer = rw (← e) w.answer;

@@ -6,19 +6,20 @@
 --   takes N room h s == what is taken of the octets s: up to and with the first flag that hands something out, or all
 --   receive_rows N h room == the rows of the numbers for a call that takes nothing
 --   received N h s room == the answer to the call
---   heard_of r       == what the code tells, in the paper's numbers; told_counted, told_by == what it should tell
+--   handed_of q, heard_of r == what the code tells, in the paper's numbers; told_counted, told_by == what it should tell
+--   count_of r       == how many octets the code took: of a refused call none
 --   took_by x, held_by x h, out_told, out_by x o == how many octets are taken, the record and the output after the
 --                                                   answer x
---   Receives x h o r m o' == the code's answer r, the store m and the output o', of a call with the record h and the output
+--   Receives x h o r g o' == the code's answer r, the record g and the output o', of a call with the record h and the output
 --                       o, are the answer x
 -- Assumes nothing.
+use Rattle.std.specs.Prelude.{Option, Some, None, Result, Ok, Err}
 use Rattle.std.specs.Prelude.{◌≡◌, cond, not, List, [], ◌∷◌, ℕ, suc, eqb, ltb, length}
+use Rattle.refusal.specs.declared.Refusal.{Refusal}
 use Rattle.refusal.specs.Numbers.{number_of}
 use Rattle.refusal.specs.Answer.{Answer, gives, refuses, TestRow, ◌when◌, answered, answer_of, counted, out_after}
 use Rattle.limits.specs.Limits.{is_limit, frame_most}
 use Rattle.receiver.specs.Held.{Held, places, after_octet, closes, stretch_says}
-use Rattle.receiver.specs.declared.Heard.{Heard}
-use Rattle.receiver.specs.declared.Heard.TheVariants.{Nothing, HandedOut, Refused}
 use Rattle.receiver.specs.declared.Received.{Received}
 
 pub data Told (A : Type 0) : Type 0 where
@@ -54,10 +55,17 @@ unfoldable pub received : ℕ → Held → List ℕ → ℕ → Answer Took
 received N h s room = answered (receive_rows N h room) (takes N room h s)
 
 -- what the code tells, in the paper's numbers
-unfoldable pub heard_of : Heard → Answer (Told ℕ)
-heard_of Nothing = gives nothing
-heard_of (HandedOut a) = gives (handed (answer_of a))
-heard_of (Refused r) = refuses (number_of r)
+unfoldable pub handed_of : Option (Result ℕ Refusal) → Told ℕ
+handed_of None = nothing
+handed_of (Some a) = handed (answer_of a)
+
+unfoldable pub heard_of : Result Received Refusal → Answer (Told ℕ)
+heard_of (Ok c) = gives (handed_of c.handed)
+heard_of (Err r) = refuses (number_of r)
+
+unfoldable pub count_of : Result Received Refusal → ℕ
+count_of (Ok c) = c.taken
+count_of (Err r) = 0
 
 unfoldable pub told_counted : Told (List ℕ) → Told ℕ
 told_counted nothing = nothing
@@ -86,8 +94,8 @@ unfoldable pub out_by : Answer Took → List ℕ → List ℕ
 out_by (gives t) o = out_told t.told o
 out_by (refuses k) o = o
 
-pub record Receives (right : Answer Took) (h : Held) (o : List ℕ) (r : Received) (m o' : List ℕ) : Type 0 where
-  pub answer : heard_of r.heard ≡ told_by right
-  pub count : r.taken ≡ took_by right
-  pub held : record { marks = r.receiver; store = m } ≡ held_by right h
+pub record Receives (right : Answer Took) (h : Held) (o : List ℕ) (r : Result Received Refusal) (g : Held) (o' : List ℕ) : Type 0 where
+  pub answer : heard_of r ≡ told_by right
+  pub count : count_of r ≡ took_by right
+  pub held : g ≡ held_by right h
   pub octets : o' ≡ out_by right o

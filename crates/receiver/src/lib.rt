@@ -4,12 +4,11 @@
 // (crate live). Assumes nothing of its caller: any record of the type may be handed in.
 #![tactic(auto)]
 
-ghost use Rattle.std.specs.Prelude.{◌≡◌, not, ◌&&◌, ◌<◌, eqb, length, take};
+ghost use Rattle.std.specs.Prelude.{◌≡◌, Ok, not, ◌&&◌, ◌<◌, eqb, length, take};
 ghost use Rattle.refusal.specs.Answer.{gives, Hands};
 ghost use Rattle.frame.specs.Line.{escape};
 ghost use Rattle.receiver.specs.Held.{Usable, held_of, fresh_marks, open_marks, stretched, stretch_says};
 ghost use Rattle.receiver.specs.Call.{takes, received, Receives};
-ghost use Rattle.receiver.specs.declared.Heard.TheVariants.{Refused};
 ghost use Rattle.receiver.specs.Pieces.{Plain, Copies};
 
 use frame::{ESCAPE, FLAG, TOGGLE};
@@ -36,20 +35,11 @@ pub struct Receiver {
     pub seen: bool,
 }
 
-// Nothing was handed out; what the flag that was taken last handed out; or the call is refused, and nothing was taken.
-#[derive(Clone, Copy)]
-pub enum Heard {
-    Nothing,
-    HandedOut(Result<usize, Refusal>),
-    Refused(Refusal),
-}
-
-// A call's answer: the record after it, and how many octets were taken.
+// A call that is not refused: how many octets were taken, and what the flag that was taken last handed out, if anything.
 #[derive(Clone, Copy)]
 pub struct Received {
-    pub receiver: Receiver,
     pub taken: usize,
-    pub heard: Heard,
+    pub handed: Option<Result<usize, Refusal>>,
 }
 
 // The record before any octet.
@@ -79,7 +69,7 @@ fn opened() -> Receiver
 fn opens(escaping: bool, b: u8) -> bool
     ensures { result ≡ (not escaping && eqb b escape) }
 {
-    if escaping { false } else { b == ESCAPE }
+    !escaping && b == ESCAPE
 }
 
 // Copies octets of `s` into `store` from `at` on, up to a flag or an escape, of which the first is neither, and tells how many.
@@ -87,20 +77,15 @@ fn copy(s: &[u8], store: &mut [u8], at: usize) -> usize
     requires { (0 < length s.now) × (at < length store.old) × Plain (take 1 s.now) }
     ensures { Copies s.now store.old at result store.new }
 {
-    let most = octets::fewer(s.len(), store.len() - at);
-    let mut i = 0;
-    while i < most {
+    let most = s.len().min(store.len() - at);
+    for i in 0..most {
         let b = s[i];
-        if b == FLAG {
-            return i;
-        }
-        if b == ESCAPE {
+        if b == FLAG || b == ESCAPE {
             return i;
         }
         store[at + i] = b;
-        i += 1;
     }
-    i
+    most
 }
 
 // What is handed out where a flag closes the stretch.
@@ -123,117 +108,109 @@ fn close(limit: usize, receiver: Receiver, store: &[u8], out: &mut [u8]) -> Resu
 fn closing(receiver: Receiver) -> bool
     ensures { result ≡ stretched receiver }
 {
-    if receiver.seen { receiver.any } else { false }
-}
-
-fn told(receiver: Receiver, taken: usize, heard: Heard) -> Received
-    ensures { result ≡ record { receiver = receiver; taken = taken; heard = heard } }
-{
-    Received {
-        receiver,
-        taken,
-        heard,
-    }
-}
-
-// Nothing is taken, and nothing is changed.
-fn refuse(receiver: Receiver, refusal: Refusal) -> Received
-    ensures { result ≡ record { receiver = receiver; taken = 0; heard = Refused refusal } }
-{
-    told(receiver, 0, Heard::Refused(refusal))
+    receiver.seen && receiver.any
 }
 
 // Works through the run: up to and with the first flag that hands something out, or to its end. Most octets stand for
 // themselves: those are copied as many at once as there are.
 fn listen(
-    receiver: Receiver,
+    receiver: &mut Receiver,
     limit: usize,
     run: &[u8],
     store: &mut [u8],
     out: &mut [u8],
 ) -> Received
-    requires { Usable (held_of receiver store.old) }
+    requires { Usable (held_of receiver.old store.old) }
     ensures { Receives (gives (takes limit (length out.old)
-        (held_of receiver store.old) run.now))
-        (held_of receiver store.old) out.old result store.new out.new }
+        (held_of receiver.old store.old) run.now))
+        (held_of receiver.old store.old) out.old (Ok result)
+        (held_of receiver.new store.new) out.new }
 {
-    let mut r = receiver;
     let mut at = 0;
     while at < run.len() {
         let b = run[at];
         if b == FLAG {
             at += 1;
-            if closing(r) {
-                let handed = close(limit, r, store, out);
-                return told(opened(), at, Heard::HandedOut(handed));
+            if closing(*receiver) {
+                let handed = close(limit, *receiver, store, out);
+                *receiver = opened();
+                return Received {
+                    taken: at,
+                    handed: Some(handed),
+                };
             }
-            r = opened();
-        } else if !r.seen {
+            *receiver = opened();
+        } else if !receiver.seen {
             at += 1;
         } else {
-            let n = r.count;
-            r.any = true;
-            r.last = b == ESCAPE;
-            if opens(r.escaping, b) {
-                r.escaping = true;
+            let n = receiver.count;
+            receiver.any = true;
+            receiver.last = b == ESCAPE;
+            if opens(receiver.escaping, b) {
+                receiver.escaping = true;
                 at += 1;
             } else if n == PLACES {
-                r.escaping = false;
-                r.more = true;
+                receiver.escaping = false;
+                receiver.more = true;
                 at += 1;
-            } else if r.escaping {
-                r.escaping = false;
+            } else if receiver.escaping {
+                receiver.escaping = false;
                 store[n] = b ^ TOGGLE;
-                r.count = n + 1;
+                receiver.count = n + 1;
                 at += 1;
             } else {
                 let taken = copy(&run[at..], store, n);
-                r.count = n + taken;
+                receiver.count = n + taken;
                 at += taken;
             }
         }
     }
-    told(r, at, Heard::Nothing)
+    Received {
+        taken: at,
+        handed: None,
+    }
 }
 
 // As `receive`, over a store that is part of something larger: any other number of places is no receiver's.
 pub fn receive_in(
-    receiver: Receiver,
+    receiver: &mut Receiver,
     limit: usize,
     run: &[u8],
     store: &mut [u8],
     out: &mut [u8],
-) -> Received
-    ensures { Receives (received limit (held_of receiver store.old) run.now
+) -> Result<Received, Refusal>
+    ensures { Receives (received limit (held_of receiver.old store.old) run.now
         (length out.old))
-        (held_of receiver store.old) out.old result store.new out.new }
+        (held_of receiver.old store.old) out.old result
+        (held_of receiver.new store.new) out.new }
 {
     if !limits::is_limit(limit) {
-        return refuse(receiver, Refusal::NotAllowed);
+        return Err(Refusal::NotAllowed);
     }
     if store.len() != PLACES {
-        return refuse(receiver, Refusal::NotAllowed);
+        return Err(Refusal::NotAllowed);
     }
     if PLACES < receiver.count {
-        return refuse(receiver, Refusal::NotAllowed);
+        return Err(Refusal::NotAllowed);
     }
     if out.len() < limits::frame_most(limit) {
-        return refuse(receiver, Refusal::NoRoom);
+        return Err(Refusal::NoRoom);
     }
-    listen(receiver, limit, run, store, out)
+    Ok(listen(receiver, limit, run, store, out))
 }
 
 // Octets received: takes them up to and with the first flag that hands something out, and tells how many.
 pub fn receive(
-    receiver: Receiver,
+    receiver: &mut Receiver,
     limit: usize,
     run: &[u8],
     store: &mut [u8; PLACES],
     out: &mut [u8],
-) -> Received
-    ensures { Receives (received limit (held_of receiver store.old) run.now
+) -> Result<Received, Refusal>
+    ensures { Receives (received limit (held_of receiver.old store.old) run.now
         (length out.old))
-        (held_of receiver store.old) out.old result store.new out.new }
+        (held_of receiver.old store.old) out.old result
+        (held_of receiver.new store.new) out.new }
 {
     receive_in(receiver, limit, run, store, out)
 }

@@ -1,4 +1,5 @@
 -- What an event changes, whole, and what a fresh device is, whole. Assumes nothing.
+use Rattle.octets.specs.Text.{laid}
 use mathlib.Core.Path.{◌≡◌, refl, ◌∙◌}
 use mathlib.Core.Bool.{Bool, true, false}
 use mathlib.Core.List.{List}
@@ -20,7 +21,7 @@ use Rattle.antenna.specs.Events.{Runs, rested_of, rested_at, is_alarm, with_alar
 use Rattle.antenna.proofs.Angles.{same-exactly}
 use Rattle.antenna.proofs.Can.{stop-exactly, alarm-exactly}
 use Rattle.antenna.proofs.Codes.{raise-exactly, clear-exactly}
-use Rattle.record.specs.Fresh.{identity_from, product_from, version_from, plate_from, fresh_from, antenna_from, fresh_of}
+use Rattle.record.specs.Fresh.{plate_from, fresh_from, antenna_from, fresh_of}
 use Rattle.record.specs.Changes.{can_be, after_event, with_antenna, event_rows, happened}
 use Rattle.record.specs.Accounts.{EventAccount, FreshAccount}
 use Rattle.record.specs.declared.Span.{Span}
@@ -118,7 +119,7 @@ event-account d b e g =
 
 -- "A fresh device has address 0 and no alarms, subscription or movement", and is who it is made to be
 fresh-account : (i p h s : List ℕ) (w : Span) → FreshAccount i p h s w (fresh_from (plate_from i p h s) (antenna_from w))
-unfolding fresh_from plate_from identity_from product_from version_from codes_among
+unfolding fresh_from plate_from laid codes_among
 fresh-account i p h s w =
     record {
       address = refl;

@@ -9,15 +9,15 @@ use Rattle.octets.proofs.Words.{and_parts}
 use Rattle.antenna.specs.declared.Antenna.{Antenna}
 use Rattle.record.specs.Fresh.{identity_from, product_from, version_from, plate_from}
 use Rattle.record.specs.Fresh.{fresh_from, texts_allowed, data_allowed, antenna_from, fresh_of}
-use Rattle.record.specs.declared.Identity.{Identity}
-use Rattle.record.specs.declared.Product.{Product}
-use Rattle.record.specs.declared.Version.{Version}
+use Rattle.octets.specs.declared.Text.{Text}
+use Rattle.identity.specs.Identity.{width}
+use Rattle.record.specs.Allowed.{product_most, version_most}
 use Rattle.record.specs.declared.Plate.{Plate}
 use Rattle.record.specs.declared.Span.{Span}
 use Rattle.record.specs.declared.Device.{Device}
 
 -- the plate of four texts
-pub plated : (i p h s : List ℕ) {a : Identity} {b : Product} {c d : Version}
+pub plated : (i p h s : List ℕ) {a : Text width} {b : Text product_most} {c d : Text version_most}
     → a ≡ identity_from i → b ≡ product_from p → c ≡ version_from h → d ≡ version_from s
     → record { identity = a; product = b; hardware = c; software = d } ≡ plate_from i p h s
 unfolding plate_from

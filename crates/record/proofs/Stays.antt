@@ -1,5 +1,6 @@
 -- An allowed record stays allowed: under every event, and at a session's end; and a fresh device is allowed.
 -- Assumes nothing.
+use Rattle.octets.specs.Text.{laid}
 use mathlib.Core.Path.{◌≡◌, refl, ap, ◌∙◌}
 use mathlib.Core.Bool.{Bool, true, false, not}
 use mathlib.Core.List.{List}
@@ -25,7 +26,7 @@ use Rattle.antenna.specs.Events.{can_stop, rested_at, with_alarm, rested_of}
 use Rattle.antenna.proofs.Movements.{unowed-owes}
 use Rattle.record.specs.Allowed.{limit_of, identity_allowed, plates_allowed, link_allowed}
 use Rattle.record.specs.Allowed.{station_allowed, owed_allowed, allowed_device}
-use Rattle.record.specs.Fresh.{identity_from, product_from, version_from, plate_from, fresh_from}
+use Rattle.record.specs.Fresh.{plate_from, fresh_from}
 use Rattle.record.specs.Fresh.{texts_allowed, data_allowed}
 use Rattle.record.specs.Changes.{unsaid_at, emptied_as, ended_as, can_be, after_event, with_antenna, event_rows, happened}
 use Rattle.record.proofs.Laid.{texts-parts}
@@ -156,7 +157,7 @@ text-back : (n : ℕ) (s : List ℕ) → take (length s) (s at_start_of replicat
 text-back n s = take-start s (replicate n 0)
 
 pub plate-allowed : (i p h s : List ℕ) → texts_allowed i p h s ≡ true → plates_allowed (plate_from i p h s) ≡ true
-unfolding plates_allowed identity_allowed plate_from identity_from product_from version_from
+unfolding plates_allowed identity_allowed plate_from laid
 plate-allowed i p h s e =
     let t = texts-parts i p h s e in
     let short : leb (length i) width ≡ true = le-leb (length i) width (allowed-parts i t.0).most in

@@ -1,6 +1,7 @@
 -- A desk with one of its fields changed. A desk is spelt out here and where a fresh one is made, and nowhere else.
 --   with_address k a, with_limit k n, with_subscription k b, with_told k a, with_said k a, with_reply k p == the desk k with another
 --     address, frame limit, subscription, what was told, what an indication says, reply
+--   Payload == an answer's payload, as a desk holds it
 --   calm, no_reply == no alarm; nothing lies in the reply
 --   unsaid k == the desk k with nothing pending: what a pending answer or indication left is erased
 -- Assumes nothing.
@@ -8,11 +9,15 @@ use Rattle.std.specs.Prelude.{Bool, ℕ, replicate}
 use Rattle.antenna.specs.declared.Alarms.{Alarms}
 use Rattle.antenna.specs.Alarms.{no_alarms}
 use Rattle.record.specs.Allowed.{reply_most}
-use Rattle.record.specs.declared.Payload.{Payload}
+use Rattle.octets.specs.declared.Text.{Text}
 use Rattle.record.specs.declared.Desk.{Desk}
 
 abbrev pub calm : Alarms
 calm = record { flags = no_alarms }
+
+-- the payload of an answer
+abbrev pub Payload : Type 0
+Payload = Text reply_most
 
 -- nothing is pending, so nothing lies in the reply
 abbrev pub no_reply : Payload

@@ -6,8 +6,9 @@
 --   fresh_from ..      == the fresh device; fresh_of .. == what is answered
 --   blank_device       == the record beside a refusal
 -- Assumes nothing.
-use Rattle.std.specs.Prelude.{Bool, false, not, ◌&&◌, List, [], ◌∷◌, ℕ, ◌≤◌, leb, pos, length, replicate, ◌≤ℤ◌}
-use Rattle.octets.specs.Octets.{◌at_start_of◌}
+use Rattle.std.specs.Prelude.{Bool, false, not, ◌&&◌, List, [], ◌∷◌, ℕ, ◌≤◌, leb, pos, length, ◌≤ℤ◌}
+use Rattle.octets.specs.Text.{laid}
+use Rattle.octets.specs.declared.Text.{Text}
 use Rattle.refusal.specs.Answer.{Answer, ◌when◌, answered}
 use Rattle.limits.specs.Limits.{limit_least}
 use Rattle.identity.specs.Identity.{width, allowed_identity, AnIdentity}
@@ -17,23 +18,20 @@ use Rattle.antenna.specs.declared.Motion.TheVariants.{Still}
 use Rattle.antenna.specs.Motions.{in_range}
 use Rattle.record.specs.Allowed.{product_most, version_most}
 use Rattle.record.specs.Desk.{calm, no_reply}
-use Rattle.record.specs.declared.Identity.{Identity}
-use Rattle.record.specs.declared.Product.{Product}
-use Rattle.record.specs.declared.Version.{Version}
 use Rattle.record.specs.declared.Span.{Span}
 use Rattle.record.specs.declared.Plate.{Plate}
 use Rattle.record.specs.declared.Link.TheVariants.{NoAddress}
 use Rattle.record.specs.declared.Station.{Station}
 use Rattle.record.specs.declared.Device.{Device}
 
-unfoldable pub identity_from : List ℕ → Identity
-identity_from s = record { octets = s at_start_of replicate width 0; len = length s }
+abbrev pub identity_from : List ℕ → Text width
+identity_from = laid width
 
-unfoldable pub product_from : List ℕ → Product
-product_from s = record { octets = s at_start_of replicate product_most 0; len = length s }
+abbrev pub product_from : List ℕ → Text product_most
+product_from = laid product_most
 
-unfoldable pub version_from : List ℕ → Version
-version_from s = record { octets = s at_start_of replicate version_most 0; len = length s }
+abbrev pub version_from : List ℕ → Text version_most
+version_from = laid version_most
 
 unfoldable pub plate_from : List ℕ → List ℕ → List ℕ → List ℕ → Plate
 plate_from i p h s =

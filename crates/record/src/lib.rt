@@ -4,13 +4,15 @@
 // Headline: an allowed record stays allowed under every event and at a session's end (proofs/Stays.antt).
 #![tactic(auto)]
 
-ghost use Rattle.std.specs.Prelude.{◌≡◌, leb};
+ghost use Rattle.std.specs.Prelude.{◌≡◌};
 ghost use Rattle.antenna.specs.Motions.{in_range, owes_of};
-ghost use Rattle.record.specs.Allowed.{reply_most, identity_allowed, plates_allowed, numbers_allowed, pending_fits};
+ghost use Rattle.record.specs.Allowed.{identity_allowed, plates_allowed, numbers_allowed, pending_fits};
 ghost use Rattle.record.specs.Allowed.{addressed, session_allowed, link_allowed, station_allowed, owed_allowed};
 ghost use Rattle.record.specs.Allowed.{allowed_device};
 
 use antenna::{Alarms, Angle, Antenna, Motion};
+use identity::OCTETS;
+use octets::Text;
 use refusal::Refusal;
 
 // The most octets of the product text, and of the hardware and the software text.
@@ -18,24 +20,12 @@ pub const PRODUCT: usize = 20;
 
 pub const VERSION: usize = 14;
 
-// Vendor and serial number: the first `len` octets.
-#[derive(Clone, Copy)]
-pub struct Identity {
-    pub octets: [u8; identity::OCTETS],
-    pub len: usize,
-}
+// Vendor and serial number; what the device is, and what is in it.
+pub type Identity = Text<OCTETS>;
 
-#[derive(Clone, Copy)]
-pub struct Product {
-    pub octets: [u8; PRODUCT],
-    pub len: usize,
-}
+pub type Product = Text<PRODUCT>;
 
-#[derive(Clone, Copy)]
-pub struct Version {
-    pub octets: [u8; VERSION],
-    pub len: usize,
-}
+pub type Version = Text<VERSION>;
 
 // The device's fixed data.
 #[derive(Clone, Copy)]
@@ -72,15 +62,11 @@ pub enum Link {
 // The most octets of a pending answer's payload.
 pub const REPLY: usize = 74;
 
-// The payload of an answer: the first `len` octets.
-#[derive(Clone, Copy)]
-pub struct Payload {
-    pub octets: [u8; REPLY],
-    pub len: usize,
-}
+// The payload of an answer.
+pub type Payload = Text<REPLY>;
 
 // Nothing is pending, so nothing lies in the reply.
-pub const NO_REPLY: Payload = Payload {
+pub const NO_REPLY: Payload = Text {
     octets: [0u8; REPLY],
     len: 0,
 };
@@ -134,156 +120,101 @@ pub struct Changed {
 
 // ---- allowed or not
 
-fn identity_allowed(octets: [u8; identity::OCTETS], len: usize) -> bool
-    ensures { result ≡ identity_allowed octets len }
+#[tactic(auto, unfolding(crate::specs::Allowed::identity_allowed))]
+fn identity_allowed(identity: Identity) -> bool
+    ensures { result ≡ identity_allowed identity.octets identity.len }
 {
-    if identity::OCTETS < len {
-        return false;
-    }
-    identity::allowed(&octets[..len])
+    identity.len <= OCTETS && identity::allowed(identity.octets())
 }
 
+#[tactic(auto, unfolding(crate::specs::Allowed::plates_allowed))]
 fn plate_allowed(plate: Plate) -> bool
     ensures { result ≡ plates_allowed plate }
 {
-    let identity = plate.identity;
-    let octets = identity.octets;
-    let product = plate.product;
-    let hardware = plate.hardware;
-    let software = plate.software;
-    if identity_allowed(octets, identity.len) {
-        if PRODUCT < product.len {
-            return false;
-        }
-        if VERSION < hardware.len {
-            return false;
-        }
-        return software.len <= VERSION;
-    }
-    false
+    identity_allowed(plate.identity)
+        && plate.product.len <= PRODUCT
+        && plate.hardware.len <= VERSION
+        && plate.software.len <= VERSION
 }
 
+#[tactic(auto, unfolding(crate::specs::Allowed::numbers_allowed))]
 fn numbers_allowed(session: Session) -> bool
     ensures { result ≡ numbers_allowed session }
 {
-    if session.r < 8 { session.s < 8 } else { false }
+    session.r < 8 && session.s < 8
 }
 
-fn reply_allowed(reply: Payload) -> bool
-    ensures { result ≡ leb reply.len reply_most }
-{
-    reply.len <= REPLY
-}
-
+#[tactic(auto, unfolding(crate::specs::Allowed::pending_fits))]
 fn pending_allowed(desk: Desk, pending: Pending) -> bool
     ensures { result ≡ pending_fits desk pending }
 {
     match pending {
         Pending::Nothing => true,
-        Pending::Answer => {
-            let reply = desk.reply;
-            reply_allowed(reply)
-        }
-        Pending::Indication => {
-            let said = desk.said;
-            let told = desk.told;
-            let now = said.flags;
-            let then = told.flags;
-            antenna::differ(now, then)
-        }
+        Pending::Answer => desk.reply.len <= REPLY,
+        Pending::Indication => antenna::differ(desk.said.flags, desk.told.flags),
     }
 }
 
 // Whether an address is one that a device may have: 1 to 254.
+#[tactic(auto, unfolding(crate::specs::Allowed::addressed))]
 pub fn is_addressed(address: u8) -> bool
     ensures { result ≡ addressed address }
 {
-    if 0 < address { address < 255 } else { false }
+    0 < address && address < 255
 }
 
+#[tactic(auto, unfolding(crate::specs::Allowed::session_allowed))]
 fn session_allowed(desk: Desk, session: Session) -> bool
     ensures { result ≡ session_allowed desk session }
 {
-    let pending = session.pending;
-    if numbers_allowed(session) {
-        pending_allowed(desk, pending)
-    } else {
-        false
-    }
+    numbers_allowed(session) && pending_allowed(desk, session.pending)
 }
 
+#[tactic(auto, unfolding(crate::specs::Allowed::link_allowed))]
 fn link_allowed(desk: Desk, link: Link) -> bool
     ensures { result ≡ link_allowed desk link }
 {
     match link {
         Link::NoAddress => desk.address == 0,
         Link::AddressAssigned => is_addressed(desk.address),
-        Link::Connected(session) => {
-            if is_addressed(desk.address) {
-                return session_allowed(desk, session);
-            }
-            false
-        }
+        Link::Connected(session) => is_addressed(desk.address) && session_allowed(desk, session),
     }
 }
 
+#[tactic(auto, unfolding(crate::specs::Allowed::station_allowed))]
 fn station_allowed(station: Station) -> bool
     ensures { result ≡ station_allowed station }
 {
-    let link = station.link;
-    let desk = station.desk;
-    if limits::is_limit(desk.limit) {
-        link_allowed(desk, link)
-    } else {
-        false
-    }
+    limits::is_limit(station.desk.limit) && link_allowed(station.desk, station.link)
 }
 
 // Whether a tilt result is owed: a running movement's, or one that waits.
 fn owes(motion: Motion) -> bool
     ensures { result ≡ owes_of motion }
 {
-    match motion {
-        Motion::Still => false,
-        Motion::Moving => false,
-        Motion::Owing { asked: _ } => true,
-        Motion::Stopped { reached: _ } => true,
-    }
+    matches!(motion, Motion::Owing { .. } | Motion::Stopped { .. })
 }
 
+#[tactic(auto, unfolding(crate::specs::Allowed::owed_allowed))]
 fn owed_allowed(link: Link, motion: Motion) -> bool
     ensures { result ≡ owed_allowed link motion }
 {
-    match link {
-        Link::NoAddress => !owes(motion),
-        Link::AddressAssigned => !owes(motion),
-        Link::Connected(_) => true,
-    }
+    matches!(link, Link::Connected(_)) || !owes(motion)
 }
 
 fn antenna_allowed(antenna: Antenna) -> bool
     ensures { result ≡ in_range antenna antenna.drive.tilt }
 {
-    let drive = antenna.drive;
-    let tilt = drive.tilt;
-    aim::in_range(antenna, tilt)
+    aim::in_range(antenna, antenna.drive.tilt)
 }
 
 // Whether a record may be handed in.
+#[tactic(auto, unfolding(crate::specs::Allowed::allowed_device))]
 pub fn allowed(device: Device) -> bool
     ensures { result ≡ allowed_device device }
 {
-    let plate = device.plate;
-    let station = device.station;
-    let antenna = device.antenna;
-    let link = station.link;
-    let motion = antenna.motion;
-    if plate_allowed(plate) {
-        if antenna_allowed(antenna) {
-            if station_allowed(station) {
-                return owed_allowed(link, motion);
-            }
-        }
-    }
-    false
+    plate_allowed(device.plate)
+        && antenna_allowed(device.antenna)
+        && station_allowed(device.station)
+        && owed_allowed(device.station.link, device.antenna.motion)
 }

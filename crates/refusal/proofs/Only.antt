@@ -11,7 +11,7 @@ use Rattle.refusal.specs.Answer.{Answer, answer_of, Hands}
 use Rattle.refusal.specs.declared.Refusal.{Refusal}
 use Rattle.refusal.specs.declared.Refusal.TheVariants.{TooShort, TooLong, WrongCheck, Broken, NoRoom}
 use Rattle.refusal.specs.declared.Refusal.TheVariants.{NotAllowed, ScanOver, CannotBe, PayloadTooLong}
-use Rattle.refusal.specs.Answer.{outcome_of, Changes}
+use Rattle.refusal.specs.Answer.{outcome_of, made_of, Changes}
 use Rattle.refusal.proofs.Answers.{gives-not-refuses, refuses-same, gives_same}
 use Rattle.octets.proofs.Only.{AsksNothing, Settles, SettlesAll}
 use Rattle.refusal.proofs.number.Reads as number-reads
@@ -78,3 +78,11 @@ number-asks κs a = tt
 
 pub hand-out-asks : AsksNothing hand-out-reads.Asked
 hand-out-asks κs a = tt
+
+-- so does one that hands over what was made
+pub made-only : {S : Type 0} {right : Answer S} (r q : Result S Refusal) → made_of r ≡ right → made_of q ≡ right → r ≡ q
+unfolding made_of
+made-only (Ok s) (Ok t) e f = ap Ok (gives_same (e ∙ sym f))
+made-only (Ok s) (Err k) e f = absurd (gives-not-refuses (e ∙ sym f))
+made-only (Err k) (Ok s) e f = absurd (gives-not-refuses (f ∙ sym e))
+made-only (Err k) (Err j) e f = ap Err (number-apart k j (refuses-same (e ∙ sym f)))

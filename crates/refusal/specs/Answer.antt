@@ -9,6 +9,7 @@
 --   shorter room b    == a lent output of so many octets is shorter than the octets b
 --   handed_out b room == the octets b, into a lent output of so many octets
 --   Hands x o r o'    == the code's answer r, and the output o' that was o, are the answer x
+--   made_of r         == the code's answer r that hands over what it made
 --   Changes x s r s'  == the code's outcome r, and the state s' that was s, are the answer x
 -- Assumes nothing.
 use Rattle.std.specs.Prelude.{Result, Ok, Err}
@@ -74,6 +75,11 @@ pub record Hands (right : Answer (List ℕ)) (o : List ℕ) (r : Result ℕ Refu
 unfoldable pub outcome_of : Result (Unit {0}) Refusal → Answer (Unit {0})
 outcome_of (Ok _) = gives tt
 outcome_of (Err r) = refuses (number_of r)
+
+-- what is made, or the paper's number, for each case of the code's answer
+unfoldable pub made_of : {S : Type 0} → Result S Refusal → Answer S
+made_of (Ok s) = gives s
+made_of (Err r) = refuses (number_of r)
 
 unfoldable pub settled : {S : Type 0} → Answer S → Answer (Unit {0})
 settled (gives s) = gives tt

@@ -1,7 +1,7 @@
 -- The octets up to the next flag, at once and one by one: what is carried behind them, and what becomes of the open stretch.
 --   AllIs c p d == d is c with the octets p more, but for the receiver's record
 -- Assumes nothing.
-use Rattle.std.proofs.Common.{Result, Ok, Err}
+use Rattle.std.proofs.Common.{Option, Some, None, Result, Ok, Err}
 use Rattle.refusal.specs.declared.Refusal.{Refusal}
 use Rattle.std.proofs.Common.{◌≡◌, ℕ, suc, ◌+◌, ◌%◌, ◌^◌, ◌<◌, ◌≤◌, min, Bool, true, false, cond, eqb, ltb, List, [], ◌∷◌, ◌++◌, length, take, set, sym, refl, ap, ◌∙◌, ap₂, append-nil, suc-add, zero-add, arith, length-set, length-take, take_all, ltb-false, ltb-true, ne_eqb, eqb-true}
 use lib.Seq.{sets, length-sets}
@@ -14,7 +14,7 @@ use Rattle.limits.specs.Limits.{is_limit, limit_most, frame_most}
 use Rattle.limits.proofs.Exactly.{is-limit-exactly}
 use Rattle.frame.specs.Line.{flag}
 use Rattle.receiver.specs.Held.{Held, held_of, after_flag, after_octet, stretched, closes, stretch_says}
-use Rattle.receiver.specs.Call.{nothing, handed, Took, further, takes, received, heard_of, told_counted, told_by, took_by, held_by}
+use Rattle.receiver.specs.Call.{nothing, handed, Took, further, takes, received, handed_of, heard_of, count_of, told_counted, told_by, took_by, held_by}
 use Rattle.receiver.specs.Call.{Receives}
 use Rattle.receiver.specs.Pieces.{further_by}
 use Rattle.receiver.proofs.After.{after-flag, closes-other}
@@ -22,8 +22,6 @@ use Rattle.receiver.proofs.Only.{nothing-not-handed}
 use Rattle.receiver.proofs.Refusals.{in_order}
 use Rattle.receiver.specs.declared.Receiver.{Receiver}
 use Rattle.receiver.specs.declared.Received.{Received}
-use Rattle.receiver.specs.declared.Heard.{Heard}
-use Rattle.receiver.specs.declared.Heard.TheVariants.{Nothing, HandedOut, Refused}
 use Rattle.salvage.specs.Holding.{Holding, holding_of, receiver_in, Workable, raw_most, add64, grown_by, with_octet}
 use Rattle.salvage.specs.Holding.{said_verdict, verdict_of, past_flag}
 use Rattle.salvage.specs.Pieces.{with_all, up_to, gathered_in, verdict_in, Gathers, handed_verdict, passed_verdict, heard_verdict}
@@ -179,11 +177,10 @@ module _ (N room : ℕ) where
 
 -- what becomes of a stretch, by what the receiver told
 module _ (closed : Bool) (n : ℕ) where
-  pub heard-quiet : (q : Heard) → heard_of q ≡ gives nothing → heard_verdict q closed n ≡ cond closed (passed_verdict n) Still
-  unfolding heard_of
-  heard-quiet Nothing e = refl
-  heard-quiet (HandedOut q) e = absurd (nothing-not-handed (sym (gives_same e)))
-  heard-quiet (Refused r) e = absurd (gives-not-refuses (sym e))
+  pub heard-quiet : (q : Option (Result ℕ Refusal)) → handed_of q ≡ nothing → heard_verdict q closed n ≡ cond closed (passed_verdict n) Still
+  unfolding handed_of
+  heard-quiet None e = refl
+  heard-quiet (Some q) e = absurd (nothing-not-handed (sym e))
 
   said-handed : (q : Result ℕ Refusal) (a : Answer (List ℕ)) → answer_of q ≡ counted a → handed_verdict q ≡ said_verdict a
   unfolding answer_of counted said_verdict
@@ -192,16 +189,15 @@ module _ (closed : Bool) (n : ℕ) where
   said-handed (Err r) (gives b) e = absurd (gives-not-refuses (sym e))
   said-handed (Err r) (refuses j) e = ap Dropped (refuses-same e)
 
-  pub heard-said : (q : Heard) (a : Answer (List ℕ)) → heard_of q ≡ gives (handed (counted a))
+  pub heard-said : (q : Option (Result ℕ Refusal)) (a : Answer (List ℕ)) → handed_of q ≡ handed (counted a)
       → heard_verdict q closed n ≡ said_verdict a
-  unfolding heard_of
-  heard-said Nothing a e = absurd (nothing-not-handed (gives_same e))
-  heard-said (HandedOut q) a e = said-handed q a (handed-same (gives_same e))
-  heard-said (Refused r) a e = absurd (gives-not-refuses (sym e))
+  unfolding handed_of
+  heard-said None a e = absurd (nothing-not-handed e)
+  heard-said (Some q) a e = said-handed q a (handed-same e)
 
   -- of what is told at a flag
-  pub heard-flag : (q : Heard) (t : Bool) (a : Answer (List ℕ))
-      → heard_of q ≡ gives (told_counted (cond t (handed a) nothing))
+  pub heard-flag : (q : Option (Result ℕ Refusal)) (t : Bool) (a : Answer (List ℕ))
+      → handed_of q ≡ told_counted (cond t (handed a) nothing)
       → heard_verdict q closed n ≡ cond t (said_verdict a) (cond closed (passed_verdict n) Still)
   unfolding told_counted
   heard-flag q true a e = heard-said q a e
@@ -215,29 +211,35 @@ holding-is : {r r' : Receiver} {t t' : OpenStretch} {b b' : Bool} {u u' : Totals
 holding-is er et eb eu em ew = rw (er, et, eb, eu, em, ew)
 
 -- what the code makes of what the receiver said
-abbrev pub code-says : Received → OpenStretch → ℕ → Verdict → Gathered
-code-says r t k f = record { receiver = r.receiver; stretch = t; taken = k; verdict = f }
+abbrev pub code-says : Receiver → OpenStretch → ℕ → Verdict → Gathered
+code-says r t k f = record { receiver = r; stretch = t; taken = k; verdict = f }
 
 -- what a call of the receiver tells, and what it leaves, where it is not refused
-pub record Heeds (t : Took) (r : Received) (m' : List ℕ) : Type 0 where
-  pub answer : heard_of r.heard ≡ gives (told_counted t.told)
-  pub held : held_of r.receiver m' ≡ t.held
+pub record Heeds (t : Took) (q : Option (Result ℕ Refusal)) (g : Held) : Type 0 where
+  pub answer : handed_of q ≡ told_counted t.told
+  pub held : g ≡ t.held
 
-module _ (N : ℕ) (c : Holding) (q : List ℕ) (limit : is_limit N ≡ true) (fits : Workable c) {o o' m' : List ℕ}
-    (room : length o ≡ frame_most limit_most) {r : Received}
-    (took : Receives (received N (receiver_in c) q (length o)) (receiver_in c) o r m' o') where
+module _ (N : ℕ) (c : Holding) (q : List ℕ) (limit : is_limit N ≡ true) (fits : Workable c) (o : List ℕ)
+    (room : length o ≡ frame_most limit_most) where
   not-refused : received N (receiver_in c) q (length o) ≡ gives (takes N (frame_most limit_most) (receiver_in c) q)
   not-refused =
       let most = (is-limit-exactly N).0 limit in
       rw room (in_order N (receiver_in c) q (frame_most limit_most) limit fits.0.0 fits.0.1 (omega arith))
 
-  pub heeds : Heeds (takes N (frame_most limit_most) (receiver_in c) q) r m'
-  unfolding told_by held_by
-  heeds = record { answer = rw not-refused at took.answer; held = rw not-refused at took.held }
+  pub heeds-some : {k : Refusal} {o' : List ℕ} {g : Held}
+      → Receives (received N (receiver_in c) q (length o)) (receiver_in c) o (Err k) g o' → ⊥
+  unfolding heard_of told_by
+  heeds-some took = gives-not-refuses (sym (rw not-refused at took.answer))
 
-  pub heeds-count : r.taken ≡ (takes N (frame_most limit_most) (receiver_in c) q).count
-  unfolding took_by
-  heeds-count = rw not-refused at took.count
+  module _ {r : Received} {o' : List ℕ} {g : Held}
+      (took : Receives (received N (receiver_in c) q (length o)) (receiver_in c) o (Ok r) g o') where
+    pub heeds : Heeds (takes N (frame_most limit_most) (receiver_in c) q) r.handed g
+    unfolding heard_of told_by held_by
+    heeds = record { answer = gives_same (rw not-refused at took.answer); held = rw not-refused at took.held }
+
+    pub heeds-count : r.taken ≡ (takes N (frame_most limit_most) (receiver_in c) q).count
+    unfolding count_of took_by
+    heeds-count = rw not-refused at took.count
 
 -- the octets up to the next flag, and the flag
 module _ (N : ℕ) (c : Holding) (s : List ℕ) (limit : is_limit N ≡ true) (fits : Workable c)
@@ -270,11 +272,11 @@ module _ (N : ℕ) (c : Holding) (s : List ℕ) (limit : is_limit N ≡ true) (f
       ∙ takes-piece N (frame_most limit_most) (up_to s) (flag ∷ []) c (up-flagless s)
       ∙ ap (further_by (length (up_to s))) (takes-flag N (frame_most limit_most) (receiver_in (with_all c (up_to s))))
 
-  heeds-is : {t u : Took} {m' : List ℕ} {r : Received} → t ≡ further_by (length (up_to s)) u → Heeds t r m' → Heeds u r m'
+  heeds-is : {t u : Took} {q : Option (Result ℕ Refusal)} {g : Held} → t ≡ further_by (length (up_to s)) u → Heeds t q g → Heeds u q g
   unfolding further_by
   heeds-is e h =
       record {
-        answer = h.answer ∙ ap (λ (t : Took). gives (told_counted t.told)) e;
+        answer = h.answer ∙ ap (λ (t : Took). told_counted t.told) e;
         held = h.held ∙ ap (λ (t : Took). t.held) e;
       }
 
@@ -310,14 +312,14 @@ module _ (N : ℕ) (c : Holding) (s : List ℕ) (limit : is_limit N ≡ true) (f
   behind-still e = rw e
 
   -- the answer of the code, of its parts
-  pub gathered : {m' w' p : List ℕ} {r : Received} {t : OpenStretch} {k : ℕ} {f : Verdict}
-      → Heeds (takes N (frame_most limit_most) (receiver_in c) (take (place_of flag s + 1) s)) r m'
+  pub gathered : {m' w' p : List ℕ} {r : Receiver} {q : Option (Result ℕ Refusal)} {t : OpenStretch} {k : ℕ} {f : Verdict}
+      → Heeds (takes N (frame_most limit_most) (receiver_in c) (take (place_of flag s + 1) s)) q (held_of r m')
       → k ≡ min (place_of flag s + 1) (length s) → t ≡ grown_by (place_of flag s) c.salvage.stretch
       → w' ≡ sets c.raw c.salvage.stretch.held p → p ≡ part_of 0 (place_of flag s) s
-      → f ≡ heard_verdict r.heard (holds flag s) t.length
+      → f ≡ heard_verdict q (holds flag s) t.length
       → Gathers N c s (code-says r t k f) m' w'
   unfolding told_counted after_flag past_flag
-  gathered {m'} {w'} {p} {r} {t} {k} {f} call count grown stored held verdict = go (holds flag s) refl
+  gathered {m'} {w'} {p} {r} {q} {t} {k} {f} call count grown stored held verdict = go (holds flag s) refl
     where
       d : Holding
       d = with_all c (up_to s)
@@ -328,9 +330,9 @@ module _ (N : ℕ) (c : Holding) (s : List ℕ) (limit : is_limit N ≡ true) (f
       raw-is : w' ≡ d.raw
       raw-is = stored ∙ ap (sets c.raw c.salvage.stretch.held) held ∙ sym all.raw
 
-      parts : {g : Held} → held_of r.receiver m' ≡ g
+      parts : {g : Held} → held_of r m' ≡ g
           → holding_of
-          (record { receiver = r.receiver; stretch = t; begun = c.salvage.begun; totals = c.salvage.totals }) m' w'
+          (record { receiver = r; stretch = t; begun = c.salvage.begun; totals = c.salvage.totals }) m' w'
           ≡ holding_of (record { receiver = g.marks; stretch = d.salvage.stretch; begun = d.salvage.begun; totals = d.salvage.totals })
           g.store d.raw
       parts e =
@@ -342,8 +344,8 @@ module _ (N : ℕ) (c : Holding) (s : List ℕ) (limit : is_limit N ≡ true) (f
           let h = heeds-is (flagged-is e) call in
           record {
             count = count;
-            verdict = verdict ∙ ap₂ (λ (b : Bool) (n : ℕ). heard_verdict r.heard b n) e (ap (λ (u : OpenStretch). u.length) stretch-is)
-                ∙ heard-flag true d.salvage.stretch.length r.heard (stretched d.salvage.receiver) _ h.answer
+            verdict = verdict ∙ ap₂ (λ (b : Bool) (n : ℕ). heard_verdict q b n) e (ap (λ (u : OpenStretch). u.length) stretch-is)
+                ∙ heard-flag true d.salvage.stretch.length q (stretched d.salvage.receiver) _ h.answer
                 ∙ sym (verdict-flag e);
             holding = parts h.held ∙ sym (behind-flag e);
           }
@@ -351,8 +353,8 @@ module _ (N : ℕ) (c : Holding) (s : List ℕ) (limit : is_limit N ≡ true) (f
           let h = heeds-is (still-is e) call in
           record {
             count = count;
-            verdict = verdict ∙ ap₂ (λ (b : Bool) (n : ℕ). heard_verdict r.heard b n) e (ap (λ (u : OpenStretch). u.length) stretch-is)
-                ∙ heard-quiet false d.salvage.stretch.length r.heard h.answer
+            verdict = verdict ∙ ap₂ (λ (b : Bool) (n : ℕ). heard_verdict q b n) e (ap (λ (u : OpenStretch). u.length) stretch-is)
+                ∙ heard-quiet false d.salvage.stretch.length q h.answer
                 ∙ sym (verdict-still e);
             holding = parts h.held ∙ sym (behind-still e);
           }

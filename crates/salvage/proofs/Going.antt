@@ -2,7 +2,7 @@
 --   Gone N c₀ s o₀ at put c o == up to the place at of s a call that began with c₀ and the output o₀ has put octets into o up
 --                 to the place put, carries c, and has left out nothing
 -- Assumes nothing.
-use Rattle.std.proofs.Common.{◌≡◌, ℕ, suc, ◌+◌, ◌-◌, ◌<◌, ◌≤◌, Bool, true, false, cond, eqb, ◌⊎◌, List, [], ◌∷◌, ◌++◌, length, take, drop, sym, refl, ap, ◌∙◌, ap₂, inl, inr, ⊎_elim, append_assoc, append-nil, add-zero, add_assoc, zero-add, arith, length-append, length-drop, take-append-drop, drop_of_length-le, length-take, drop-drop, ltb-true, ne_eqb}
+use Rattle.std.proofs.Common.{Option, Some, None, Ok, ◌≡◌, ℕ, suc, ◌+◌, ◌-◌, ◌<◌, ◌≤◌, Bool, true, false, cond, eqb, ◌⊎◌, List, [], ◌∷◌, ◌++◌, length, take, drop, sym, refl, ap, ◌∙◌, ap₂, inl, inr, ⊎_elim, append_assoc, append-nil, add-zero, add_assoc, zero-add, arith, length-append, length-drop, take-append-drop, drop_of_length-le, length-take, drop-drop, ltb-true, ne_eqb}
 use denote.Enum.Declared.{tag_of}
 use types.Run.{OneOf}
 use lib.Seq.{sets, length-sets}
@@ -19,15 +19,14 @@ use Rattle.receiver.proofs.After.{after-usable}
 use Rattle.salvage.specs.Holding.{Holding, holding_of, receiver_in, Workable, grown_by, with_octet, said_verdict, verdict_of}
 use Rattle.salvage.specs.Holding.{onward_from, flag_counted, stretch_over, behind_flag, past_flag, behind_flag_in, closed_by, first_flag, kept_octets}
 use Rattle.salvage.specs.Work.{a_stretch, Progress, in_front, at_flag, works, spare_most, stretch_of}
-use Rattle.salvage.specs.Work.{listing_of, left_by, taken_by, wrote_by, holding_by, Salvages}
+use Rattle.salvage.specs.Work.{dropping_of, listing_of, taken_of, written_of, left_by, taken_by, wrote_by, holding_by, Salvages}
 use Rattle.salvage.specs.Pieces.{with_all, up_to, gathered_in, verdict_in, written_by, joined, Gathers, GathersAny}
 use Rattle.salvage.specs.Pieces.{followed, begun_by, flags_added, counted_by, settled_by, listed_by, goes_until}
 use Rattle.salvage.specs.declared.Salvage.{Salvage}
 use Rattle.salvage.specs.declared.Gathered.{Gathered}
 use Rattle.salvage.specs.declared.Verdict.{Verdict}
 use Rattle.salvage.specs.declared.Verdict.TheVariants.{Still, Empty, Kept, Dropped}
-use Rattle.salvage.specs.declared.Listing.{Listing}
-use Rattle.salvage.specs.declared.Listing.TheVariants.{Nothing, LeftOut}
+use Rattle.salvage.specs.declared.Stretch.{Stretch}
 use Rattle.salvage.specs.contracts.Verdict.{the_type}
 use Rattle.salvage.proofs.Writing.{nothing_put, first-length, kept-length}
 use Rattle.salvage.proofs.Gathering.{up-flagless, up-all, up-flag, place-most}
@@ -395,16 +394,15 @@ module _ {N : ℕ} {c₀ : Holding} {s o₀ : List ℕ} {at put : ℕ} {c : Hold
 
     -- one that leaves out a stretch: the call is over
     pub gone-stops : {k : ℕ} → r.verdict ≡ Dropped k → Salvages (gives (works N c₀ s)) c₀ o₀
-        (record {
-          salvage = behind_flag r.verdict (joined c.salvage r);
+        (Ok (record {
           taken = at + r.taken;
           written = put';
-          listing =
-              LeftOut
+          left_out =
+              Some
               (record { offset = r.stretch.offset; length = r.stretch.length; number = k });
-        })
-        m w o'
-    unfolding listing_of left_by taken_by wrote_by holding_by in_front stretch_of
+        }))
+        (holding_of (behind_flag r.verdict (joined c.salvage r)) m w) o'
+    unfolding dropping_of listing_of taken_of written_of left_by taken_by wrote_by holding_by in_front stretch_of
     gone-stops {k} e =
         let nothing : written_by r.verdict c.salvage.begun r.stretch.held w ≡ [] = rw e in
         let over = gone.same ∙ ap (in_front at gone.written) (stops N c (drop at s) g e) in
@@ -422,8 +420,8 @@ module _ {N : ℕ} {c₀ : Holding} {s o₀ : List ℕ} {at put : ℕ} {c : Hold
 -- all octets are taken
 pub gone-all : {N : ℕ} {c₀ : Holding} {s o₀ : List ℕ} {at put : ℕ} {c : Holding} {o : List ℕ} → Gone N c₀ s o₀ at put c o
     → length s ≤ at → Salvages (gives (works N c₀ s)) c₀ o₀
-    (record { salvage = c.salvage; taken = at; written = put; listing = Nothing }) c.store c.raw o
-unfolding listing_of left_by taken_by wrote_by holding_by in_front works
+    (Ok (record { taken = at; written = put; left_out = None })) c o
+unfolding dropping_of listing_of taken_of written_of left_by taken_by wrote_by holding_by in_front works
 gone-all {N} {s = s} {o₀ = o₀} {at = at} {c = c} gone all =
     let none : drop at s ≡ [] = drop_of_length-le s {i = at} all in
     let over = gone.same ∙ ap (λ (u : List ℕ). in_front at gone.written (works N c u)) none in
@@ -446,27 +444,27 @@ settled_is Kept v r = refl
 settled_is (Dropped k) v r = refl
 
 -- it goes on, or is over
-abbrev pub Stands : ℕ → Holding → List ℕ → List ℕ → ℕ → ℕ → Holding → List ℕ → Listing → ℕ → Type 0
+abbrev pub Stands : ℕ → Holding → List ℕ → List ℕ → ℕ → ℕ → Holding → List ℕ → Option Stretch → ℕ → Type 0
 Stands N c₀ s o₀ at put c o l end =
-    (Gone N c₀ s o₀ at put c o × (l ≡ Nothing) × (end ≡ length s))
+    (Gone N c₀ s o₀ at put c o × (l ≡ None) × (end ≡ length s))
     ⊎ ((end ≤ at)
-    × Salvages (gives (works N c₀ s)) c₀ o₀ (record { salvage = c.salvage; taken = at; written = put; listing = l }) c.store c.raw o)
+    × Salvages (gives (works N c₀ s)) c₀ o₀ (Ok (record { taken = at; written = put; left_out = l })) c o)
 
-pub record Turns (N : ℕ) (c₀ : Holding) (s o₀ : List ℕ) (at put : ℕ) (c : Holding) (o : List ℕ) (l : Listing) (end : ℕ) : Type 0 where
+pub record Turns (N : ℕ) (c₀ : Holding) (s o₀ : List ℕ) (at put : ℕ) (c : Holding) (o : List ℕ) (l : Option Stretch) (end : ℕ) : Type 0 where
   pub store : length c.store ≡ length c₀.store
   pub raw : length c.raw ≡ length c₀.raw
   pub out : length o ≡ length o₀
   pub state : Stands N c₀ s o₀ at put c o l end
 
 pub turns-none : {N : ℕ} {c : Holding} {s o : List ℕ} → Workable c → is_limit N ≡ true → spare_most + length s ≤ length o
-    → Turns N c s o 0 0 c o Nothing (length s)
+    → Turns N c s o 0 0 c o None (length s)
 turns-none fits limit wide =
     record { store = refl; raw = refl; out = refl; state = inl (gone-none fits limit wide, refl, refl) }
 
-module _ {N : ℕ} {c₀ : Holding} {s o₀ : List ℕ} {at put : ℕ} {c : Holding} {o : List ℕ} {l : Listing} {end : ℕ}
+module _ {N : ℕ} {c₀ : Holding} {s o₀ : List ℕ} {at put : ℕ} {c : Holding} {o : List ℕ} {l : Option Stretch} {end : ℕ}
     (turns : Turns N c₀ s o₀ at put c o l end) where
   pub turns-over : end ≤ at → Salvages (gives (works N c₀ s)) c₀ o₀
-      (record { salvage = c.salvage; taken = at; written = put; listing = l }) c.store c.raw o
+      (Ok (record { taken = at; written = put; left_out = l })) c o
   turns-over over =
       ⊎_elim
       (λ g. rw g.1 (gone-all g.0 (omega (arith, g.2))))
@@ -474,7 +472,7 @@ module _ {N : ℕ} {c₀ : Holding} {s o₀ : List ℕ} {at put : ℕ} {c : Hold
       turns.state
 
   module _ (more : at < end) where
-    pub going : Gone N c₀ s o₀ at put c o × (l ≡ Nothing) × (end ≡ length s)
+    pub going : Gone N c₀ s o₀ at put c o × (l ≡ None) × (end ≡ length s)
     going = ⊎_elim (λ g. g) (λ g. absurd (omega (arith, g.0))) turns.state
 
     pub inside : at ≤ length s
@@ -484,7 +482,7 @@ module _ {N : ℕ} {c₀ : Holding} {s o₀ : List ℕ} {at put : ℕ} {c : Hold
     rest_some = rw (take_rest at s) (omega (arith, length-drop at s, going.2))
 
     module _ {r : Gathered} {m w : List ℕ}
-        (any : GathersAny N c.salvage.receiver c.salvage.stretch c.store c.raw (take (length s - at) (drop at s)) r m w) where
+        (any : GathersAny N c.salvage.receiver c.salvage.stretch c.store c.raw (take (length s - at) (drop at s)) (Ok r) m w) where
       these : Gathers N c (drop at s) r m w
       these = rw (take_rest at s) at (any c.salvage.begun c.salvage.totals)
 
@@ -504,7 +502,7 @@ module _ {N : ℕ} {c₀ : Holding} {s o₀ : List ℕ} {at put : ℕ} {c : Hold
 
       pub turn_on : {put' : ℕ} {o' : List ℕ}
           → Puts o put (written_by r.verdict c.salvage.begun r.stretch.held w) put' o'
-          → {k : Listing} {e : ℕ} {v : Salvage} → k ≡ listed_by r.stretch r.verdict → e ≡ goes_until r.verdict (at + r.taken) end
+          → {k : Option Stretch} {e : ℕ} {v : Salvage} → k ≡ listed_by r.stretch r.verdict → e ≡ goes_until r.verdict (at + r.taken) end
           → v ≡ settled_by 1 r.verdict r.receiver r.stretch c.salvage
           → Turns N c₀ s o₀ (at + r.taken) put' (holding_of v m w) o' k e
       unfolding listed_by goes_until

@@ -1,5 +1,5 @@
 -- How many octets the receiver is lent: it takes those up to and with the next flag, or all. Assumes nothing.
-use Rattle.std.proofs.Common.{◌≡◌, ℕ, suc, ◌+◌, ◌-◌, ◌^◌, ◌<◌, ◌≤◌, min, Bool, true, false, cond, not, ◌&&◌, eqb, ltb, List, [], ◌∷◌, ◌++◌, length, get_or, take, drop, sym, refl, ap, ◌∙◌, ap₂, ⊎_elim, append_assoc, arith, take-append-drop, length-take, take_all, ltb-true, le-ltb, lt-ltb, eq-eqb, ne_eqb, eqb-true}
+use Rattle.std.proofs.Common.{Ok, ◌≡◌, ℕ, suc, ◌+◌, ◌-◌, ◌^◌, ◌<◌, ◌≤◌, min, Bool, true, false, cond, not, ◌&&◌, eqb, ltb, List, [], ◌∷◌, ◌++◌, length, get_or, take, drop, sym, refl, ap, ◌∙◌, ap₂, ⊎_elim, append_assoc, arith, take-append-drop, length-take, take_all, ltb-true, le-ltb, lt-ltb, eq-eqb, ne_eqb, eqb-true}
 use borrow.Author.Tests.{not-true}
 use lib.Seq.{sets}
 use Rattle.octets.specs.Octets.{holds, place_of, part_of}
@@ -155,34 +155,34 @@ pub within : (s : List ℕ) {k : ℕ} → 0 < length s → k ≡ min (place_of f
 within s some count = (omega arith, omega arith)
 
 -- what the code lent, and what came of it
-module _ (N : ℕ) (c : Holding) (s : List ℕ) (limit : is_limit N ≡ true) (fits : Workable c)
-    (small : c.salvage.stretch.length < 2 ^ 64) (some : 0 < length s) {o o' m' q : List ℕ} {r : Received} {lent : ℕ}
-    (room : length o ≡ frame_most limit_most)
-    (took : Receives (received N (receiver_in c) q (length o)) (receiver_in c) o r m' o')
-    (part : q ≡ part_of 0 lent s) (reach : lent ≡ reach_of c.salvage.receiver s) where
+module _ (N : ℕ) (c : Holding) (s : List ℕ) (limit : is_limit N ≡ true) (fits : Workable c) {q : List ℕ} {lent : ℕ}
+    (part : q ≡ part_of 0 lent s) (reach : lent ≡ reach_of c.salvage.receiver s) (o : List ℕ)
+    (room : length o ≡ frame_most limit_most) where
   same_takes : takes N (frame_most limit_most) (receiver_in c) q
       ≡ takes N (frame_most limit_most) (receiver_in c) (take (place_of flag s + 1) s)
   same_takes =
       ap (takes N (frame_most limit_most) (receiver_in c)) (part ∙ ap (λ (i : ℕ). take i s) reach)
       ∙ reach-takes N (frame_most limit_most) c s
 
-  pub reached-count : r.taken ≡ min (place_of flag s + 1) (length s)
-  reached-count =
-      heeds-count N c q limit fits room took ∙ ap (λ (t : Took). t.count) same_takes ∙ taken-count N c s limit fits small
+  module _ (small : c.salvage.stretch.length < 2 ^ 64) (some : 0 < length s) {o' : List ℕ} {g : Held} {r : Received}
+      (took : Receives (received N (receiver_in c) q (length o)) (receiver_in c) o (Ok r) g o') where
+    pub reached-count : r.taken ≡ min (place_of flag s + 1) (length s)
+    reached-count =
+        heeds-count N c q limit fits o room took ∙ ap (λ (t : Took). t.count) same_takes ∙ taken-count N c s limit fits small
 
-  pub reached : {w' p : List ℕ} {t : OpenStretch} {n : ℕ} {f : Verdict} → n ≡ before_flag s r.taken
-      → t ≡ grown_by (length p) c.salvage.stretch → w' ≡ sets c.raw c.salvage.stretch.held p → p ≡ part_of 0 n s
-      → f ≡ heard_verdict r.heard (ltb n r.taken) t.length
-      → Gathers N c s (code-says r t r.taken f) m' w'
-  reached {w'} {p} {t} {n} {f} before grown stored held verdict =
-      let at = before-flag s reached-count some in
-      let place : n ≡ place_of flag s = before ∙ at.0 in
-      let up : p ≡ up_to s = held ∙ ap (λ (i : ℕ). take i s) place in
-      let long : length p ≡ place_of flag s = ap length up ∙ omega (arith, length-take (place_of flag s) s, place-most s) in
-      gathered N c s limit fits small
-      (rw same_takes at (heeds N c q limit fits room took))
-      reached-count
-      (grown ∙ ap (λ (i : ℕ). grown_by i c.salvage.stretch) long)
-      stored
-      up
-      (verdict ∙ ap (λ (b : Bool). heard_verdict r.heard b t.length) (ap (λ (i : ℕ). ltb i r.taken) before ∙ at.1))
+    pub reached : {w' p : List ℕ} {t : OpenStretch} {n : ℕ} {f : Verdict} → n ≡ before_flag s r.taken
+        → t ≡ grown_by (length p) c.salvage.stretch → w' ≡ sets c.raw c.salvage.stretch.held p → p ≡ part_of 0 n s
+        → f ≡ heard_verdict r.handed (ltb n r.taken) t.length
+        → Gathers N c s (code-says g.marks t r.taken f) g.store w'
+    reached {w'} {p} {t} {n} {f} before grown stored held verdict =
+        let at = before-flag s reached-count some in
+        let place : n ≡ place_of flag s = before ∙ at.0 in
+        let up : p ≡ up_to s = held ∙ ap (λ (i : ℕ). take i s) place in
+        let long : length p ≡ place_of flag s = ap length up ∙ omega (arith, length-take (place_of flag s) s, place-most s) in
+        gathered N c s limit fits small
+        (rw same_takes at (heeds N c q limit fits o room took))
+        reached-count
+        (grown ∙ ap (λ (i : ℕ). grown_by i c.salvage.stretch) long)
+        stored
+        up
+        (verdict ∙ ap (λ (b : Bool). heard_verdict r.handed b t.length) (ap (λ (i : ℕ). ltb i r.taken) before ∙ at.1))

@@ -1,5 +1,5 @@
 -- The returns of the functions without a loop, by the tests of the code. Assumes nothing.
-use Rattle.std.proofs.Common.{◌≡◌, ◌≢◌, ℕ, ◌+◌, ◌-◌, ◌%◌, ◌^◌, ◌<◌, ◌≤◌, Bool, true, false, cond, not, ◌&&◌, eqb, ltb, leb, List, [], ◌∷◌, length, sym, refl, ap, ◌∙◌, ap₂, arith, ltb-false, le-ltb, lt-ltb, leb-false, leb-true}
+use Rattle.std.proofs.Common.{Option, None, Result, Ok, Err, ◌≡◌, ◌≢◌, ℕ, ◌+◌, ◌-◌, ◌%◌, ◌^◌, ◌<◌, ◌≤◌, Bool, true, false, cond, not, ◌&&◌, eqb, ltb, leb, List, [], ◌∷◌, length, sym, refl, ap, ◌∙◌, arith, ltb-false, le-ltb, lt-ltb, leb-false, leb-true}
 use borrow.Author.Tests.{not-true, not-false}
 use Rattle.octets.specs.Octets.{◌at_start_of◌}
 use Rattle.octets.proofs.Words.{and_parts}
@@ -13,7 +13,7 @@ use Rattle.receiver.specs.Held.{places, fresh_marks}
 use Rattle.receiver.specs.declared.Receiver.{Receiver}
 use Rattle.salvage.specs.Holding.{Holding, raw_most, add64, tallied, onward_from}
 use Rattle.salvage.specs.Work.{spare_most, stretch_of, end_verdict, end_left, emptied, at_end, finish_rows, finished}
-use Rattle.salvage.specs.Work.{listing_of, end_listing, end_salvage, Finishes, works, salvage_rows, salvaged}
+use Rattle.salvage.specs.Work.{dropping_of, listing_of, taken_of, written_of, ending_of, end_listing, end_salvage, Finishes, works, salvage_rows, salvaged}
 use Rattle.salvage.specs.Work.{left_by, taken_by, wrote_by, holding_by, Salvages}
 use Rattle.salvage.specs.Pieces.{followed, begun_by, flags_added, counted_by, settled_by, sound_by, listed_by, goes_until, written_by}
 use Rattle.salvage.specs.Pieces.{passed_verdict}
@@ -23,8 +23,7 @@ use Rattle.salvage.specs.declared.Salvage.{Salvage}
 use Rattle.salvage.specs.declared.Salvaged.{Salvaged}
 use Rattle.salvage.specs.declared.Verdict.{Verdict}
 use Rattle.salvage.specs.declared.Verdict.TheVariants.{Still, Empty, Kept, Dropped}
-use Rattle.salvage.specs.declared.Listing.{Listing}
-use Rattle.salvage.specs.declared.Listing.TheVariants.{Nothing, Refused}
+use Rattle.salvage.specs.declared.Stretch.{Stretch}
 
 -- an output that is shorter than what may be written beside the run, and one that is not
 pub no_room : (out run : ℕ) → out < spare_most → false ≡ not (ltb out (spare_most + run))
@@ -52,7 +51,7 @@ written-other Empty b n w g = refl
 written-other Kept b n w g = absurd (g refl)
 written-other (Dropped k) b n w g = refl
 
-pub listed-other : (f : Verdict) (o : OpenStretch) → ((k : ℕ) → f ≢ Dropped k) → Nothing ≡ listed_by o f
+pub listed-other : (f : Verdict) (o : OpenStretch) → ((k : ℕ) → f ≢ Dropped k) → None ≡ listed_by o f
 unfolding listed_by
 listed-other Still o g = refl
 listed-other Empty o g = refl
@@ -127,35 +126,36 @@ none-flagged t h =
 -- the last call
 module _ (v : Salvage) where
   pub finish-refused : sound_by v.receiver.count v.stretch.held ≡ false
-      → Finishes (finished v) v (record { salvage = v; listing = Refused NotAllowed })
-  unfolding finished finish_rows listing_of end_listing end_salvage
+      → Finishes (finished v) v (Err NotAllowed) v
+  unfolding finished finish_rows ending_of end_listing end_salvage
   finish-refused e =
       rw (unsound-rows v.receiver.count v.stretch.held [] (at_end v) e) (record { answer = refl; salvage = refl })
 
-  module _ (small : v.totals.flags < 2 ^ 64) where
-    emptied-is : (t : Bool)
-        → settled_by 0 (cond t Empty (Dropped 0)) fresh_marks v.stretch v ≡ emptied (cond t Empty (Dropped 0)) v
-    unfolding settled_by emptied followed begun_by counted_by tallied
-    emptied-is true = rw (none-flagged v.totals small)
-    emptied-is false = rw (none-flagged (tallied v.totals v.stretch.length (Dropped 0)) small)
+  pub emptied-is : v.totals.flags < 2 ^ 64 → {f : Verdict} {m : Receiver} → f ≡ end_verdict v → m ≡ fresh_marks
+      → settled_by 0 f m v.stretch v ≡ emptied f v
+  unfolding end_verdict settled_by emptied followed begun_by counted_by tallied
+  emptied-is small e marks = rw (e, marks) (by-length (eqb v.stretch.length 0))
+    where
+      by-length : (t : Bool)
+          → settled_by 0 (cond t Empty (Dropped 0)) fresh_marks v.stretch v ≡ emptied (cond t Empty (Dropped 0)) v
+      by-length true = rw (none-flagged v.totals small)
+      by-length false = rw (none-flagged (tallied v.totals v.stretch.length (Dropped 0)) small)
 
-    listed-is : (t : Bool)
-        → listing_of (listed_by v.stretch (cond t Empty (Dropped 0))) ≡ gives (end_left v (cond t Empty (Dropped 0)))
-    unfolding listing_of listed_by end_left stretch_of
-    listed-is true = refl
-    listed-is false = refl
+  listed-is : (t : Bool)
+      → dropping_of (listed_by v.stretch (cond t Empty (Dropped 0))) ≡ end_left v (cond t Empty (Dropped 0))
+  unfolding dropping_of listed_by end_left stretch_of
+  listed-is true = refl
+  listed-is false = refl
 
-    pub finish-ends : sound_by v.receiver.count v.stretch.held ≡ true → {f : Verdict} {m : Receiver} {u : Salvage} {l : Listing}
-        → f ≡ passed_verdict v.stretch.length → m ≡ fresh_marks → u ≡ settled_by 0 f m v.stretch v
-        → l ≡ listed_by v.stretch f → Finishes (finished v) v (record { salvage = u; listing = l })
-    unfolding finished finish_rows answered end_listing end_salvage at_end end_verdict
-    finish-ends e {f} {m} {u} {l} verdict marks settled listed =
-        let t : Bool = eqb v.stretch.length 0 in
-        rw (sound-rows v.receiver.count v.stretch.held [] (at_end v) e)
-        (record {
-          answer = ap listing_of (listed ∙ ap (listed_by v.stretch) verdict) ∙ listed-is t;
-          salvage = settled ∙ ap₂ (λ (g : Verdict) (n : Receiver). settled_by 0 g n v.stretch v) verdict marks ∙ emptied-is t;
-        })
+  pub finish-ends : sound_by v.receiver.count v.stretch.held ≡ true → {f : Verdict} {u : Salvage} {l : Option Stretch}
+      → f ≡ passed_verdict v.stretch.length → u ≡ emptied f v → l ≡ listed_by v.stretch f → Finishes (finished v) v (Ok l) u
+  unfolding finished finish_rows answered ending_of end_listing end_salvage at_end end_verdict
+  finish-ends e {f} {u} {l} verdict ended listed =
+      rw (sound-rows v.receiver.count v.stretch.held [] (at_end v) e)
+      (record {
+        answer = ap gives (ap dropping_of (listed ∙ ap (listed_by v.stretch) verdict) ∙ listed-is (eqb v.stretch.length 0));
+        salvage = ended ∙ ap (λ (g : Verdict). emptied g v) verdict;
+      })
 
 -- a call: its numbers in their order
 module _ (N : ℕ) (c : Holding) (s o : List ℕ) where
@@ -169,18 +169,17 @@ module _ (N : ℕ) (c : Holding) (s o : List ℕ) where
   held = c.salvage.stretch.held
 
   refused-is : (k : Refusal) → salvaged N c s (length o) ≡ refuses (number_of k)
-      → Salvages (salvaged N c s (length o)) c o (record { salvage = c.salvage; taken = 0; written = 0; listing = Refused k })
-      c.store c.raw o
-  unfolding listing_of left_by taken_by wrote_by holding_by ◌at_start_of◌
+      → Salvages (salvaged N c s (length o)) c o (Err k) c o
+  unfolding listing_of taken_of written_of left_by taken_by wrote_by holding_by ◌at_start_of◌
   refused-is k e = rw e (record { answer = refl; count = refl; written = refl; holding = refl; octets = refl })
 
   pub read-refused : (is_limit N && sound_by count held) ≡ false → Salvages (salvaged N c s (length o)) c o
-      (record { salvage = c.salvage; taken = 0; written = 0; listing = Refused NotAllowed }) c.store c.raw o
+      (Err NotAllowed) c o
   unfolding salvaged salvage_rows
   read-refused = by-limit (is_limit N) refl
     where
       by-limit : (t : Bool) → is_limit N ≡ t → (t && sound_by count held) ≡ false → Salvages (salvaged N c s (length o)) c o
-          (record { salvage = c.salvage; taken = 0; written = 0; listing = Refused NotAllowed }) c.store c.raw o
+          (Err NotAllowed) c o
       by-limit false t e = refused-is NotAllowed (answered-here 6 _ (works N c s) (ap not t))
       by-limit true t e =
           refused-is NotAllowed
@@ -194,11 +193,11 @@ module _ (N : ℕ) (c : Holding) (s o : List ℕ) where
         answered-later 6 _ (works N c s) (ap not parts.0) ∙ sound-rows count held last_row (works N c s) parts.1
 
     pub read-room : not (ltb (length o) (spare_most + length s)) ≡ false → Salvages (salvaged N c s (length o)) c o
-        (record { salvage = c.salvage; taken = 0; written = 0; listing = Refused NoRoom }) c.store c.raw o
+        (Err NoRoom) c o
     read-room h = refused-is NoRoom (last_row_lem ∙ answered-here 5 _ (works N c s) (not-false _ h))
 
-    pub read-works : not (ltb (length o) (spare_most + length s)) ≡ true → {r : Salvaged} {m w o' : List ℕ}
-        → Salvages (gives (works N c s)) c o r m w o' → Salvages (salvaged N c s (length o)) c o r m w o'
+    pub read-works : not (ltb (length o) (spare_most + length s)) ≡ true → {r : Result Salvaged Refusal} {d : Holding} {o' : List ℕ}
+        → Salvages (gives (works N c s)) c o r d o' → Salvages (salvaged N c s (length o)) c o r d o'
     unfolding answered
     read-works h done =
         let given : salvaged N c s (length o) ≡ gives (works N c s) =

@@ -6,7 +6,7 @@
 --   joined v r       == v with what the octets touched;
 --                       holding_with, parts_of == a record of which only that is of interest
 --   Gathers N c s r m w == the code's answer r, and the stores m and w, are that, over the octets s up to and with a flag;
---                       GathersAny == whatever else the record holds
+--                       GathersAny == whatever else the record holds; no call is refused
 --   written_by f b k w == what is written of a stretch with the verdict f, of which k raw octets are held in w
 --   goes_until f at end == how far a call goes that is at the place at: to end, or no further
 --   handed_verdict q, passed_verdict n, heard_verdict q closed n == what becomes of a stretch of n octets, by what was
@@ -18,15 +18,13 @@
 --                       stretch with the verdict f and n flags: one at a flag, none at the end
 --   listed_by o f    == what is told of it; sound_by count held == a record that is not refused
 -- Assumes nothing.
-use Rattle.std.specs.Prelude.{Result, Ok, Err}
+use Rattle.std.specs.Prelude.{Option, Some, None, Result, Ok, Err}
 use Rattle.refusal.specs.declared.Refusal.{Refusal}
 use Rattle.std.specs.Prelude.{◌≡◌, ℕ, ◌+◌, ◌-◌, min, Bool, true, false, cond, not, ◌&&◌, ◌||◌, List, [], ◌∷◌, length, take, ◌==◌, nat_lt, slice_index}
 use Rattle.octets.specs.Octets.{holds, place_of}
 use Rattle.refusal.specs.Numbers.{number_of}
 use Rattle.receiver.specs.Held.{places}
 use Rattle.receiver.specs.declared.Receiver.{Receiver}
-use Rattle.receiver.specs.declared.Heard.{Heard}
-use Rattle.receiver.specs.declared.Heard.TheVariants.{Nothing, HandedOut, Refused}
 use Rattle.frame.specs.Line.{flag}
 use Rattle.salvage.specs.Holding.{Holding, holding_of, no_totals, raw_most, add64, onward_from, tallied, with_octet, verdict_of, past_flag, kept_octets}
 use Rattle.salvage.specs.declared.OpenStretch.{OpenStretch}
@@ -35,8 +33,7 @@ use Rattle.salvage.specs.declared.Salvage.{Salvage}
 use Rattle.salvage.specs.declared.Verdict.{Verdict}
 use Rattle.salvage.specs.declared.Verdict.TheVariants.{Still, Empty, Kept, Dropped}
 use Rattle.salvage.specs.declared.Gathered.{Gathered}
-use Rattle.salvage.specs.declared.Listing.{Listing}
-use Rattle.salvage.specs.declared.Listing.TheVariants.{LeftOut}
+use Rattle.salvage.specs.declared.Stretch.{Stretch}
 
 unfoldable pub with_all : Holding → List ℕ → Holding
 with_all c [] = c
@@ -65,8 +62,9 @@ abbrev pub holding_with : Bool → Totals → Receiver → OpenStretch → List 
 holding_with b t r o m w = holding_of (record { receiver = r; stretch = o; begun = b; totals = t }) m w
 
 -- whatever else the record holds
-abbrev pub GathersAny : ℕ → Receiver → OpenStretch → List ℕ → List ℕ → List ℕ → Gathered → List ℕ → List ℕ → Type 0
-GathersAny N r₀ o m₀ w₀ s r m w = (b : Bool) (t : Totals) → Gathers N (holding_with b t r₀ o m₀ w₀) s r m w
+abbrev pub GathersAny : ℕ → Receiver → OpenStretch → List ℕ → List ℕ → List ℕ → Result Gathered Refusal → List ℕ → List ℕ → Type 0
+GathersAny N r₀ o m₀ w₀ s (Ok r) m w = (b : Bool) (t : Totals) → Gathers N (holding_with b t r₀ o m₀ w₀) s r m w
+GathersAny N r₀ o m₀ w₀ s (Err k) m w = ⊥
 
 abbrev pub parts_of : Receiver → OpenStretch → List ℕ → List ℕ → Holding
 parts_of = holding_with false no_totals
@@ -90,10 +88,9 @@ handed_verdict (Err r) = Dropped (number_of r)
 abbrev pub passed_verdict : ℕ → Verdict
 passed_verdict n = cond (n == 0) Empty (Dropped 0)
 
-abbrev pub heard_verdict : Heard → Bool → ℕ → Verdict
-heard_verdict Nothing closed n = cond closed (passed_verdict n) Still
-heard_verdict (HandedOut q) closed n = handed_verdict q
-heard_verdict (Refused r) closed n = Still
+abbrev pub heard_verdict : Option (Result ℕ Refusal) → Bool → ℕ → Verdict
+heard_verdict None closed n = cond closed (passed_verdict n) Still
+heard_verdict (Some q) closed n = handed_verdict q
 
 -- the receiver stops behind a flag that closes octets: where some have come, or come first
 unfoldable pub stops_at : Receiver → List ℕ → Bool
@@ -148,8 +145,8 @@ unfoldable pub sound_by : ℕ → ℕ → Bool
 sound_by count held = not (nat_lt places count) && not (nat_lt raw_most held)
 
 -- what the code tells of the stretch o
-unfoldable pub listed_by : OpenStretch → Verdict → Listing
-listed_by o Still = Listing.Nothing
-listed_by o Empty = Listing.Nothing
-listed_by o Kept = Listing.Nothing
-listed_by o (Dropped k) = LeftOut (record { offset = o.offset; length = o.length; number = k })
+unfoldable pub listed_by : OpenStretch → Verdict → Option Stretch
+listed_by o Still = None
+listed_by o Empty = None
+listed_by o Kept = None
+listed_by o (Dropped k) = Some (record { offset = o.offset; length = o.length; number = k })

@@ -7,29 +7,31 @@
 --   salvage_rows, salvaged N c s room == the rows of the numbers, and the answer to the call
 --   AtEnd            == the last call: the record after it, and what it left out
 --   finish_rows, finished v == the rows of its numbers, and the answer to it
---   listing_of r     == what the code tells, in the paper's numbers; left_by x == what it should tell
+--   dropping_of q    == a stretch that the code leaves out, or none
+--   listing_of r, ending_of r == what the code tells, in the paper's numbers, and at the last call; left_by x == what it
+--                       should tell
+--   taken_of, written_of == what the code has taken and written: of a refused call nothing
 --   taken_by, wrote_by, holding_by == what is taken and written, and what is carried after an answer
---   Salvages x c o r m w o' == the code's answer r, the stores m and w and the output o', of a call with the record c and
---                       the output o, are the answer x
---   Finishes x v r   == the code's answer r to the last call with the record v is the answer x
+--   Salvages x c o r d o' == the code's answer r, the record d and the output o', of a call with the record c and the output
+--                       o, are the answer x
+--   Finishes x v r u == the code's answer r to the last call with the record v, and the record u after it, are the answer x
 -- Assumes nothing.
+use Rattle.std.specs.Prelude.{Option, Some, None, Result, Ok, Err}
 use Rattle.std.specs.Prelude.{◌≡◌, ℕ, ◌+◌, cond, not, List, [], ◌∷◌, ◌++◌, length, ◌==◌, nat_lt}
 use Rattle.octets.specs.Octets.{◌at_start_of◌}
 use Rattle.refusal.specs.Numbers.{number_of}
+use Rattle.refusal.specs.declared.Refusal.{Refusal}
 use Rattle.refusal.specs.Answer.{Answer, gives, refuses, TestRow, ◌when◌, answered}
 use Rattle.limits.specs.Limits.{is_limit}
 use Rattle.frame.specs.Line.{flag}
 use Rattle.receiver.specs.Held.{places, fresh_marks}
-use Rattle.salvage.specs.Holding.{Holding, holding_of, raw_most, with_octet, verdict_of, closed_by, kept_octets, onward_from}
+use Rattle.salvage.specs.Holding.{Holding, raw_most, with_octet, verdict_of, closed_by, kept_octets, onward_from}
 use Rattle.salvage.specs.Holding.{tallied}
 use Rattle.salvage.specs.declared.Salvage.{Salvage}
 use Rattle.salvage.specs.declared.Stretch.{Stretch}
 use Rattle.salvage.specs.declared.Verdict.{Verdict}
 use Rattle.salvage.specs.declared.Verdict.TheVariants.{Still, Empty, Kept, Dropped}
-use Rattle.salvage.specs.declared.Listing.{Listing}
-use Rattle.salvage.specs.declared.Listing.TheVariants.{Nothing, LeftOut, Refused}
 use Rattle.salvage.specs.declared.Salvaged.{Salvaged}
-use Rattle.salvage.specs.declared.Finished.{Finished}
 
 pub data Dropping : Type 0 where
   no_stretch : Dropping
@@ -115,10 +117,21 @@ finish_rows v = 6 when nat_lt places v.receiver.count ∷ 6 when nat_lt raw_most
 unfoldable pub finished : Salvage → Answer AtEnd
 finished v = answered (finish_rows v) (at_end v)
 
-unfoldable pub listing_of : Listing → Answer Dropping
-listing_of Nothing = gives no_stretch
-listing_of (LeftOut s) = gives (a_stretch s)
-listing_of (Refused r) = refuses (number_of r)
+unfoldable pub dropping_of : Option Stretch → Dropping
+dropping_of None = no_stretch
+dropping_of (Some s) = a_stretch s
+
+unfoldable pub listing_of : Result Salvaged Refusal → Answer Dropping
+listing_of (Ok r) = gives (dropping_of r.left_out)
+listing_of (Err k) = refuses (number_of k)
+
+unfoldable pub taken_of : Result Salvaged Refusal → ℕ
+taken_of (Ok r) = r.taken
+taken_of (Err k) = 0
+
+unfoldable pub written_of : Result Salvaged Refusal → ℕ
+written_of (Ok r) = r.written
+written_of (Err k) = 0
 
 unfoldable pub left_by : Answer Progress → Answer Dropping
 left_by (gives t) = gives t.left
@@ -137,12 +150,16 @@ unfoldable pub holding_by : Answer Progress → Holding → Holding
 holding_by (gives t) c = t.holding
 holding_by (refuses k) c = c
 
-pub record Salvages (right : Answer Progress) (c : Holding) (o : List ℕ) (r : Salvaged) (m w o' : List ℕ) : Type 0 where
-  pub answer : listing_of r.listing ≡ left_by right
-  pub count : r.taken ≡ taken_by right
-  pub written : r.written ≡ length (wrote_by right)
-  pub holding : holding_of r.salvage m w ≡ holding_by right c
+pub record Salvages (right : Answer Progress) (c : Holding) (o : List ℕ) (r : Result Salvaged Refusal) (d : Holding) (o' : List ℕ) : Type 0 where
+  pub answer : listing_of r ≡ left_by right
+  pub count : taken_of r ≡ taken_by right
+  pub written : written_of r ≡ length (wrote_by right)
+  pub holding : d ≡ holding_by right c
   pub octets : o' ≡ wrote_by right at_start_of o
+
+unfoldable pub ending_of : Result (Option Stretch) Refusal → Answer Dropping
+ending_of (Ok q) = gives (dropping_of q)
+ending_of (Err k) = refuses (number_of k)
 
 unfoldable pub end_listing : Answer AtEnd → Answer Dropping
 end_listing (gives e) = gives e.left
@@ -152,6 +169,6 @@ unfoldable pub end_salvage : Answer AtEnd → Salvage → Salvage
 end_salvage (gives e) v = e.salvage
 end_salvage (refuses k) v = v
 
-pub record Finishes (right : Answer AtEnd) (v : Salvage) (r : Finished) : Type 0 where
-  pub answer : listing_of r.listing ≡ end_listing right
-  pub salvage : r.salvage ≡ end_salvage right v
+pub record Finishes (right : Answer AtEnd) (v : Salvage) (r : Result (Option Stretch) Refusal) (u : Salvage) : Type 0 where
+  pub answer : ending_of r ≡ end_listing right
+  pub salvage : u ≡ end_salvage right v

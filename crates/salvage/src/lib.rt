@@ -6,22 +6,21 @@
 // Assumes nothing of its caller: any record of the type may be handed in.
 #![tactic(auto)]
 
-ghost use Rattle.std.specs.Prelude.{◌≡◌, ◌+◌, ◌<◌, ◌≤◌, min, true, not, ◌&&◌, length, nat_lt};
+ghost use Rattle.std.specs.Prelude.{Ok, ◌≡◌, ◌+◌, ◌<◌, ◌≤◌, min, true, not, ◌&&◌, length, nat_lt};
 ghost use Rattle.std.proofs.lemmas.List.Edits.{sets};
 ghost use Rattle.octets.specs.Puts.{Puts};
 ghost use Rattle.refusal.specs.Answer.{gives};
 ghost use Rattle.limits.specs.Limits.{is_limit};
 ghost use Rattle.salvage.specs.Holding.{holding_of, Workable, raw_most, fresh_salvage, grown_by};
 ghost use Rattle.salvage.specs.Holding.{first_flag, kept_octets};
-ghost use Rattle.salvage.specs.Work.{works, salvaged, finished, spare_most, Salvages, Finishes};
+ghost use Rattle.salvage.specs.Work.{works, salvaged, end_verdict, emptied, finished, spare_most, Salvages, Finishes};
 ghost use Rattle.salvage.specs.Pieces.{handed_verdict, passed_verdict, heard_verdict, stops_at, reach_of, before_flag};
 ghost use Rattle.salvage.specs.Pieces.{written_by, Gathers, sound_by, listed_by, goes_until, parts_of, GathersAny};
 ghost use Rattle.salvage.specs.Pieces.{followed, begun_by, counted_by, settled_by};
-ghost use Rattle.salvage.specs.declared.Listing.TheVariants.{Refused};
 
 use frame::FLAG;
 use limits::{LIMIT_MOST, LONGEST_FRAME};
-use receiver::{Heard, PLACES, Received, Receiver};
+use receiver::{PLACES, Receiver};
 use refusal::Refusal;
 
 // The most raw octets of a stretch that the receiver reads: each octet of the longest frame escaped.
@@ -70,28 +69,13 @@ pub struct Stretch {
     pub number: u8,
 }
 
-// Nothing was left out; the stretch that the octet taken last closed; or the call is refused, and nothing was taken.
-#[derive(Clone, Copy)]
-pub enum Listing {
-    Nothing,
-    LeftOut(Stretch),
-    Refused(Refusal),
-}
-
-// A call's answer: the record after it, how many octets were taken, and how many stand at the start of the output.
+// A call that is not refused: how many octets were taken, how many stand at the start of the output, and the stretch that the
+// octet taken last closed, where it is left out.
 #[derive(Clone, Copy)]
 pub struct Salvaged {
-    pub salvage: Salvage,
     pub taken: usize,
     pub written: usize,
-    pub listing: Listing,
-}
-
-// The answer to the last call.
-#[derive(Clone, Copy)]
-pub struct Finished {
-    pub salvage: Salvage,
-    pub listing: Listing,
+    pub left_out: Option<Stretch>,
 }
 
 // What becomes of the open stretch: it is still open; it ends without an octet, is kept, or left out with a number.
@@ -240,20 +224,18 @@ fn pass(length: u64) -> Verdict
     Verdict::Dropped(0)
 }
 
-// What becomes of the open stretch, by what was heard at a flag, or before one.
-fn decide(received: Received, closed: bool, length: u64) -> Verdict
-    ensures { result ≡ heard_verdict received.heard closed length }
+// What becomes of the open stretch, by what was handed out at a flag, or before one.
+fn decide(handed: Option<Result<usize, Refusal>>, closed: bool, length: u64) -> Verdict
+    ensures { result ≡ heard_verdict handed closed length }
 {
-    let heard = received.heard;
-    match heard {
-        Heard::Nothing => {
+    match handed {
+        None => {
             if closed {
                 return pass(length);
             }
             Verdict::Still
         }
-        Heard::HandedOut(handed) => judge(handed),
-        Heard::Refused(_) => Verdict::Still,
+        Some(handed) => judge(handed),
     }
 }
 
@@ -303,30 +285,35 @@ fn without_flag(run: &[u8], taken: usize) -> usize
 
 // Takes the octets up to and with the next flag, or all, and holds the raw ones before it.
 fn gather(
-    receiver: Receiver,
+    mut receiver: Receiver,
     stretch: OpenStretch,
     limit: usize,
     run: &[u8],
     store: &mut [u8],
     raw: &mut [u8],
     frame: &mut [u8; LONGEST_FRAME],
-) -> Gathered
+) -> Result<Gathered, Refusal>
     requires { Workable (parts_of receiver stretch store.old raw.old) × (is_limit limit ≡ true) × (0 < length run.now) }
     ensures { GathersAny limit receiver stretch store.old raw.old run.now result
         store.new raw.new }
 {
     let lent = reach(receiver, run);
-    let received = receiver::receive_in(receiver, limit, octets::part(run, 0, lent), store, frame);
+    let received = receiver::receive_in(
+        &mut receiver,
+        limit,
+        octets::part(run, 0, lent),
+        store,
+        frame,
+    )?;
     let taken = received.taken;
     let n = without_flag(run, taken);
     let grown = hold(stretch, octets::part(run, 0, n), raw);
-    let receiver = received.receiver;
-    Gathered {
+    Ok(Gathered {
         receiver,
         stretch: grown,
         taken,
-        verdict: decide(received, n < taken, grown.length),
-    }
+        verdict: decide(received.handed, n < taken, grown.length),
+    })
 }
 
 // The first flag, where it is not written yet.
@@ -372,17 +359,17 @@ fn write_kept(
 }
 
 // What is told of a stretch that is over.
-fn list(stretch: OpenStretch, verdict: Verdict) -> Listing
+fn list(stretch: OpenStretch, verdict: Verdict) -> Option<Stretch>
     ensures { result ≡ listed_by stretch verdict }
 {
     if let Verdict::Dropped(number) = verdict {
-        return Listing::LeftOut(Stretch {
+        return Some(Stretch {
             offset: stretch.offset,
             length: stretch.length,
             number,
         });
     }
-    Listing::Nothing
+    None
 }
 
 // How far the call goes: a stretch that is left out is the last.
@@ -397,21 +384,21 @@ fn until(verdict: Verdict, at: usize, end: usize) -> usize
 
 // Works through the run, a stretch a turn: up to and with the first flag that closes one that is left out, or to its end.
 fn work(
-    mut salvage: Salvage,
+    salvage: &mut Salvage,
     limit: usize,
     run: &[u8],
     store: &mut [u8],
     raw: &mut [u8],
     out: &mut [u8],
-) -> Salvaged
-    requires { Workable (holding_of salvage store.old raw.old) × (is_limit limit ≡ true)
+) -> Result<Salvaged, Refusal>
+    requires { Workable (holding_of salvage.old store.old raw.old) × (is_limit limit ≡ true)
         × (spare_most + length run.now ≤ length out.old) }
-    ensures { Salvages (gives (works limit (holding_of salvage store.old raw.old)
-        run.now)) (holding_of salvage store.old raw.old) out.old result
-        store.new raw.new out.new }
+    ensures { Salvages (gives (works limit (holding_of salvage.old store.old raw.old)
+        run.now)) (holding_of salvage.old store.old raw.old) out.old result
+        (holding_of salvage.new store.new raw.new) out.new }
 {
     let mut frame = [0u8; LONGEST_FRAME];
-    let mut listing = Listing::Nothing;
+    let mut left_out = None;
     let mut end = run.len();
     let mut at = 0;
     let mut put = 0;
@@ -424,32 +411,19 @@ fn work(
             store,
             raw,
             &mut frame,
-        );
+        )?;
         let verdict = gathered.verdict;
         at += gathered.taken;
         put = write_kept(verdict, salvage.begun, gathered.stretch.held, raw, out, put);
-        listing = list(gathered.stretch, verdict);
+        left_out = list(gathered.stretch, verdict);
         end = until(verdict, at, end);
-        salvage = settle(salvage, gathered.receiver, gathered.stretch, verdict, 1);
+        *salvage = settle(*salvage, gathered.receiver, gathered.stretch, verdict, 1);
     }
-    Salvaged {
-        salvage,
+    Ok(Salvaged {
         taken: at,
         written: put,
-        listing,
-    }
-}
-
-// Nothing is taken, and nothing is changed.
-fn refuse(salvage: Salvage, refusal: Refusal) -> Salvaged
-    ensures { result ≡ record { salvage = salvage; taken = 0; written = 0; listing = Refused refusal } }
-{
-    Salvaged {
-        salvage,
-        taken: 0,
-        written: 0,
-        listing: Listing::Refused(refusal),
-    }
+        left_out,
+    })
 }
 
 // Whether the numbers of a record are in their bounds.
@@ -484,40 +458,44 @@ fn has_room(out: usize, run: usize) -> bool
 
 // Octets of a capture: takes them up to and with the first flag that closes a stretch left out, and tells how many.
 pub fn read(
-    salvage: Salvage,
+    salvage: &mut Salvage,
     limit: usize,
     run: &[u8],
     store: &mut [u8; PLACES],
     raw: &mut [u8; RAW],
     out: &mut [u8],
-) -> Salvaged
-    ensures { Salvages (salvaged limit (holding_of salvage store.old raw.old)
+) -> Result<Salvaged, Refusal>
+    ensures { Salvages (salvaged limit (holding_of salvage.old store.old raw.old)
         run.now (length out.old))
-        (holding_of salvage store.old raw.old) out.old result
-        store.new raw.new out.new }
+        (holding_of salvage.old store.old raw.old) out.old result
+        (holding_of salvage.new store.new raw.new) out.new }
 {
     if !is_allowed(limit, salvage.receiver.count, salvage.stretch.held) {
-        return refuse(salvage, Refusal::NotAllowed);
+        return Err(Refusal::NotAllowed);
     }
     if !has_room(out.len(), run.len()) {
-        return refuse(salvage, Refusal::NoRoom);
+        return Err(Refusal::NoRoom);
     }
     work(salvage, limit, run, store, raw, out)
 }
 
+// The record behind all octets: nothing is open, as before any octet; the counts stay.
+fn emptied(salvage: Salvage, verdict: Verdict) -> Salvage
+    requires { verdict ≡ end_verdict salvage }
+    ensures { result ≡ emptied verdict salvage }
+{
+    settle(salvage, receiver::new(), salvage.stretch, verdict, 0)
+}
+
 // The last call, behind all octets: what stands behind the last flag, or the whole where there is none, is left out.
-pub fn finish(salvage: Salvage) -> Finished
-    ensures { Finishes (finished salvage) salvage result }
+pub fn finish(salvage: &mut Salvage) -> Result<Option<Stretch>, Refusal>
+    ensures { Finishes (finished salvage.old) salvage.old result salvage.new }
 {
     if !is_sound(salvage.receiver.count, salvage.stretch.held) {
-        return Finished {
-            salvage,
-            listing: Listing::Refused(Refusal::NotAllowed),
-        };
+        return Err(Refusal::NotAllowed);
     }
     let verdict = pass(salvage.stretch.length);
-    Finished {
-        salvage: settle(salvage, receiver::new(), salvage.stretch, verdict, 0),
-        listing: list(salvage.stretch, verdict),
-    }
+    let left_out = list(salvage.stretch, verdict);
+    *salvage = emptied(*salvage, verdict);
+    Ok(left_out)
 }

@@ -9,7 +9,7 @@ mod words;
 
 use limits::LIMIT_MOST;
 use receiver::PLACES;
-use salvage::{Listing, OpenStretch, RAW, SPARE, Salvage, Stretch, Totals};
+use salvage::{OpenStretch, RAW, SPARE, Salvage, Stretch, Totals};
 use std::fs::File;
 use std::io::{IsTerminal, Read, Write};
 use std::{env, fs, io};
@@ -87,29 +87,34 @@ fn tell(rt: &HostRuntime, turn: u64, stretch: OpenStretch) {
 // Works through a run: what a call writes goes to GOOD, and what it leaves out is listed.
 fn sift(
     rt: &impl Print,
-    salvage: Salvage,
+    salvage: &mut Salvage,
     limit: usize,
     run: &[u8],
     store: &mut [u8; PLACES],
     raw: &mut [u8; RAW],
     out: &mut [u8; ROOM],
     good: &mut File,
-) -> Result<Salvage, Failure> {
-    let mut s = salvage;
+) -> Result<(), Failure> {
     let mut at = 0;
     while at < run.len() {
-        let told = salvage::read(s, limit, &run[at..], store, raw, out);
-        s = told.salvage;
+        let told = match salvage::read(salvage, limit, &run[at..], store, raw, out) {
+            Ok(told) => told,
+            Err(_) => return Err(stuck()),
+        };
         let n = octets::fewer(told.taken, run.len() - at);
         if n == 0 {
-            // no such call is refused (crate capture)
-            return Err(Failure::Unwritten(io::Error::other("a run is refused")));
+            return Err(stuck());
         }
         at += n;
         put(good, octets::part(out, 0, told.written))?;
-        listed(rt, told.listing)?;
+        listed(rt, told.left_out)?;
     }
-    Ok(s)
+    Ok(())
+}
+
+// No call that has octets is refused or takes none of them (crate capture).
+fn stuck() -> Failure {
+    Failure::Unwritten(io::Error::other("a run is refused"))
 }
 
 fn put(good: &mut File, octets: &[u8]) -> Result<(), Failure> {
@@ -119,22 +124,21 @@ fn put(good: &mut File, octets: &[u8]) -> Result<(), Failure> {
     }
 }
 
-// Lists what is to be listed.
-fn listed(rt: &impl Print, listing: Listing) -> Result<(), Failure> {
-    match listing {
-        Listing::Nothing => Ok(()),
-        Listing::LeftOut(stretch) => match list(rt, stretch) {
+// Lists what was left out.
+fn listed(rt: &impl Print, left_out: Option<Stretch>) -> Result<(), Failure> {
+    match left_out {
+        None => Ok(()),
+        Some(stretch) => match list(rt, stretch) {
             Ok(()) => Ok(()),
             Err(e) => Err(Failure::Unlisted(e)),
         },
-        Listing::Refused(_) => Err(Failure::Unlisted(io::Error::other("a call is refused"))),
     }
 }
 
-// The next run; none at the end of CAPTURE.
+// The next run; whether there was one, or CAPTURE is at its end.
 fn read_some(
     rt: &impl Print,
-    salvage: Salvage,
+    salvage: &mut Salvage,
     limit: usize,
     from: &mut File,
     run: &mut [u8; RUN],
@@ -142,16 +146,17 @@ fn read_some(
     raw: &mut [u8; RAW],
     out: &mut [u8; ROOM],
     good: &mut File,
-) -> Result<Option<Salvage>, Failure> {
+) -> Result<bool, Failure> {
     let n = match from.read(run) {
         Ok(n) => n,
         Err(e) => return Err(Failure::Unread(e)),
     };
     if n == 0 {
-        return Ok(None);
+        return Ok(false);
     }
     let run = octets::part(run, 0, n);
-    Ok(Some(sift(rt, salvage, limit, run, store, raw, out, good)?))
+    sift(rt, salvage, limit, run, store, raw, out, good)?;
+    Ok(true)
 }
 
 // Reads the capture to its end. A proved loop has to end, and nothing says that a file does.
@@ -161,29 +166,40 @@ fn read_all(
     good: &mut File,
     limit: usize,
 ) -> Result<Salvage, Failure> {
-    let mut s = salvage::new();
+    let mut salvage = salvage::new();
     let mut store = [0u8; PLACES];
     let mut raw = [0u8; RAW];
     let mut run = [0u8; RUN];
     let mut out = [0u8; ROOM];
     for turn in 0..u64::MAX {
-        match read_some(
-            rt, s, limit, from, &mut run, &mut store, &mut raw, &mut out, good,
-        )? {
-            None => return Ok(s),
-            Some(next) => s = next,
+        let more = read_some(
+            rt,
+            &mut salvage,
+            limit,
+            from,
+            &mut run,
+            &mut store,
+            &mut raw,
+            &mut out,
+            good,
+        )?;
+        if !more {
+            return Ok(salvage);
         }
-        tell(rt, turn, s.stretch);
+        tell(rt, turn, salvage.stretch);
     }
     Err(Failure::Unread(io::Error::other("no end was found")))
 }
 
 // Behind the last octet: what is open is listed, and GOOD is on its disk.
-fn close(rt: &impl Print, salvage: Salvage, good: &File) -> Result<Salvage, Failure> {
-    let finished = salvage::finish(salvage);
-    listed(rt, finished.listing)?;
+fn close(rt: &impl Print, salvage: &mut Salvage, good: &File) -> Result<(), Failure> {
+    let left_out = match salvage::finish(salvage) {
+        Ok(left_out) => left_out,
+        Err(_) => return Err(Failure::Unlisted(io::Error::other("a call is refused"))),
+    };
+    listed(rt, left_out)?;
     match good.sync_all() {
-        Ok(()) => Ok(finished.salvage),
+        Ok(()) => Ok(()),
         Err(e) => Err(Failure::Unwritten(e)),
     }
 }
@@ -192,8 +208,9 @@ fn close(rt: &impl Print, salvage: Salvage, good: &File) -> Result<Salvage, Fail
 fn work(rt: &HostRuntime, from: File, to: File, limit: usize) -> Result<Salvage, Failure> {
     let mut from = from;
     let mut to = to;
-    let salvage = read_all(rt, &mut from, &mut to, limit)?;
-    close(rt, salvage, &to)
+    let mut salvage = read_all(rt, &mut from, &mut to, limit)?;
+    close(rt, &mut salvage, &to)?;
+    Ok(salvage)
 }
 
 // GOOD gets its name.

@@ -11,21 +11,13 @@ use record::{Pending, Session};
 pub fn is_pending(pending: Pending) -> bool
     ensures { result ≡ pends pending }
 {
-    match pending {
-        Pending::Nothing => false,
-        Pending::Answer => true,
-        Pending::Indication => true,
-    }
+    !matches!(pending, Pending::Nothing)
 }
 
 // Whether N(R) acknowledges the pending answer.
+#[tactic(auto, unfolding(crate::specs::Session::acknowledges))]
 pub fn is_acknowledged(session: Session, nr: u8) -> bool
     ensures { result ≡ acknowledges session nr }
 {
-    let pending = session.pending;
-    if is_pending(pending) {
-        nr == control::next(session.s)
-    } else {
-        false
-    }
+    is_pending(session.pending) && nr == control::next(session.s)
 }

@@ -2,10 +2,9 @@
 use mathlib.Core.Path.{◌≡◌, sym, ap, ap₂, ◌∙◌}
 use mathlib.Core.Bool.{true, false}
 use mathlib.Core.List.{List, ◌∷◌}
-use mathlib.Core.Option.{some}
-use Prim.Native.Nat.{ℕ, suc, ◌+◌, ◌≤◌, min}
+use Prim.Native.Nat.{ℕ, suc, ◌+◌, ◌≤◌}
 use native.Mathlib.Omega.{arith}
-use lib.ListN.{length, set, take, replicate, length-take, length-replicate}
+use lib.ListN.{length, set, replicate, length-replicate}
 use lib.Seq.{sets}
 use Rattle.octets.specs.Octets.{◌at_start_of◌}
 use Rattle.octets.proofs.Stores.{sets-start}
@@ -13,17 +12,18 @@ use Rattle.record.specs.declared.Pending.{Pending}
 use Rattle.record.specs.declared.Pending.TheVariants.{Indication}
 use Rattle.record.specs.declared.Desk.{Desk}
 use Rattle.record.specs.declared.Device.{Device}
-use Rattle.record.specs.declared.Payload.{Payload}
+use Rattle.record.specs.Desk.{Payload}
 use Rattle.record.specs.Allowed.{identity_of, limit_of, reply_most}
 use Rattle.payload.specs.Payloads.{payload_of}
 use Rattle.payload.proofs.Laws.{payload-says}
 use Rattle.report.specs.Reports.{indication_of}
-use Rattle.octets.proofs.Takes.{take_within}
 use Rattle.control.specs.declared.AskedFor.{AskedFor}
 use Rattle.xid_answer.specs.Answer.{scan_answer, assignment_answer, negotiation_answer}
 use Rattle.station.specs.declared.Say.{Say}
 use Rattle.station.specs.declared.Say.TheVariants.{Scanned, Assigned, Negotiated}
-use Rattle.speech.specs.declared.Spoken.{Spoken}
+use Rattle.std.specs.Prelude as Spoken
+use Rattle.octets.specs.Text.{laid}
+use Rattle.octets.specs.declared.Text.{Text}
 use Rattle.speech.specs.Speech.{octets_held, pending_octets, is_silent, control_by, payload_by, frame_by}
 use Rattle.speech.specs.Speech.{spoken_most, spoken_of}
 
@@ -52,37 +52,26 @@ module _ (d : Device) (x : Say) (r : Payload) where
   unfolding payload_by
   negotiation-said a e h = holds-said r (negotiation_answer a (limit_of d)) h ∙ sym (ap (payload_by d) e)
 
--- address and control are stored in front of a row
-module _ (a c : ℕ) (row : List ℕ) (len : ℕ) (size : length row ≡ reply_most) {o : List ℕ} {n : ℕ}
-    (count : n ≡ min len reply_most)
-    (stored : o ≡ sets (set (set (replicate spoken_most 0) 0 a) 1 c) 2 (take n row)) where
-  within : take n row ≡ take len row
-  within = rw count (take_within len reply_most row (omega (arith, size)))
-
-  pub laid-is : (◌≡◌ {A = Spoken} (record { octets = o; len = n + 2 }) (spoken_of (some (a ∷ c ∷ take len row))))
-      × (n + 2 ≤ spoken_most)
-  unfolding spoken_of
+-- address and control are stored in front of a payload
+module _ (a c : ℕ) (b : List ℕ) (few : length b ≤ reply_most) {o : List ℕ}
+    (stored : o ≡ sets (set (set (replicate spoken_most 0) 0 a) 1 c) 2 b) where
+  pub laid-is : record { octets = o; len = length b + 2 } ≡ laid spoken_most (a ∷ c ∷ b)
+  unfolding laid
   laid-is =
-      let m : length (take n row) ≡ n = simp length-take (omega (arith, size, count)) in
-      let b = a ∷ c ∷ take n row in
       let zeros : List ℕ = replicate spoken_most 0 in
-      let room : length b ≤ length zeros =
-      rw (length-replicate {A = ℕ} spoken_most 0) (omega (arith, m, count)) in
-      let k : n + 2 ≡ suc (suc n) = omega arith in
-      let at : o ≡ b at_start_of zeros = stored ∙ sets-start b zeros room in
-      (rw (← within, m) (ap₂ (λ (x : List ℕ) (j : ℕ). record { octets = x; len = j }) at k), omega (arith, count))
+      let room : length (a ∷ c ∷ b) ≤ length zeros = rw (length-replicate {A = ℕ} spoken_most 0) (omega (arith, few)) in
+      let k : length b + 2 ≡ suc (suc (length b)) = omega arith in
+      let at : o ≡ (a ∷ c ∷ b) at_start_of zeros = stored ∙ sets-start (a ∷ c ∷ b) zeros room in
+      ap₂ (λ (x : List ℕ) (j : ℕ). record { octets = x; len = j }) at k
 
 -- silence, and what is not
 module _ (d : Device) (x : Say) where
-  pub silent-spoken : is_silent x ≡ true
-      → (◌≡◌ {A = Spoken} (record { octets = replicate spoken_most 0; len = 0 }) (spoken_of (frame_by d x)))
-      × (0 ≤ spoken_most)
+  pub silent-spoken : is_silent x ≡ true → Spoken.None ≡ spoken_of (frame_by d x)
   unfolding frame_by spoken_of
-  silent-spoken e = (rw e, omega arith)
+  silent-spoken e = rw e
 
-  pub laid-spoken : is_silent x ≡ false → (p : Payload) {c : ℕ} {r : Spoken} → c ≡ control_by x
-      → octets_held p ≡ payload_by d x
-      → (r ≡ spoken_of (some (d.station.desk.address ∷ c ∷ take p.len p.octets))) × (r.len ≤ spoken_most)
-      → (r ≡ spoken_of (frame_by d x)) × (r.len ≤ spoken_most)
-  unfolding frame_by
-  laid-spoken e p f g h = (h.0 ∙ rw (e, f, g), h.1)
+  pub laid-spoken : is_silent x ≡ false → {c : ℕ} {b : List ℕ} {r : Text spoken_most} → c ≡ control_by x
+      → b ≡ payload_by d x → r ≡ laid spoken_most (d.station.desk.address ∷ c ∷ b)
+      → Spoken.Some r ≡ spoken_of (frame_by d x)
+  unfolding frame_by spoken_of
+  laid-spoken e f g h = ap Spoken.Some h ∙ rw (e, f, g)

@@ -3,11 +3,13 @@
 --   is_silent x        == x is silence; control_by x == the control of what is said; payload_by d x == its payload
 --   frame_by d x       == address, control and payload, where the device d says x; none for silence
 --   spoken_most        == 76: the most octets of a frame that is said, address, control and the longest payload
---   spoken_of f        == the frame f, as it lies in the code's record
+--   spoken_of f        == the frame f, as the code hands it over
 -- Assumes nothing.
-use Rattle.std.specs.Prelude.{Bool, true, false, cond, List, [], ◌∷◌, ℕ, ◌+◌, length, take, replicate}
+use Rattle.std.specs.Prelude.{Bool, true, false, cond, List, [], ◌∷◌, ℕ, ◌+◌, length}
 use Rattle.std.proofs.Math.Option.{Option, none, some}
-use Rattle.octets.specs.Octets.{◌at_start_of◌}
+use Rattle.octets.specs.Text.{content, laid}
+use Rattle.octets.specs.declared.Text.{Text}
+use Rattle.std.specs.Prelude as Spoken
 use Rattle.control.specs.Control.{xid_control}
 use Rattle.record.specs.declared.Pending.{Pending}
 use Rattle.record.specs.declared.Pending.TheVariants.{Nothing, Answer, Indication}
@@ -15,17 +17,16 @@ use Rattle.record.specs.declared.Link.{Link}
 use Rattle.record.specs.declared.Link.TheVariants.{NoAddress, AddressAssigned, Connected}
 use Rattle.record.specs.declared.Desk.{Desk}
 use Rattle.record.specs.declared.Device.{Device}
-use Rattle.record.specs.declared.Payload.{Payload}
+use Rattle.record.specs.Desk.{Payload}
 use Rattle.record.specs.Allowed.{reply_most, identity_of, limit_of}
 use Rattle.report.specs.Reports.{indication_of}
 use Rattle.xid_answer.specs.Answer.{scan_answer, assignment_answer, negotiation_answer}
 use Rattle.station.specs.declared.Say.{Say}
 use Rattle.station.specs.declared.Say.TheVariants.{Silence, Bare, Reject, Pend, Scanned, Assigned, Negotiated}
-use Rattle.speech.specs.declared.Spoken.{Spoken}
 
 -- the octets of a payload: as many as its length says, as far as they go
 abbrev pub octets_held : Payload → List ℕ
-octets_held p = take p.len p.octets
+octets_held = content
 
 unfoldable pub pending_octets : Desk → Pending → List ℕ
 pending_octets k Nothing = []
@@ -74,7 +75,7 @@ frame_by d x = cond (is_silent x) none (some (d.station.desk.address ∷ control
 abbrev pub spoken_most : ℕ
 spoken_most = reply_most + 2
 
--- at the start of as many zeros as a frame that is said has octets at most; silence has no octet
-unfoldable pub spoken_of : Option (List ℕ) → Spoken
-spoken_of none = record { octets = replicate spoken_most 0; len = 0 }
-spoken_of (some f) = record { octets = f at_start_of replicate spoken_most 0; len = length f }
+-- at the start of as many zeros as a frame that is said has octets at most; silence is no frame
+unfoldable pub spoken_of : Option (List ℕ) → Spoken.Option (Text spoken_most)
+spoken_of none = Spoken.None
+spoken_of (some f) = Spoken.Some (laid spoken_most f)

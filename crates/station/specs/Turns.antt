@@ -4,7 +4,7 @@
 --   answering d s p  == the device d in its session s, with the payload p as the pending answer, which it says
 -- Assumes nothing.
 use Rattle.control.specs.Control.{info_of, rr_of}
-use Rattle.record.specs.declared.Payload.{Payload}
+use Rattle.record.specs.Desk.{Payload}
 use Rattle.record.specs.declared.Session.{Session}
 use Rattle.record.specs.declared.Device.{Device}
 use Rattle.record.specs.Changes.{device_of}

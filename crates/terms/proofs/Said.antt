@@ -1,6 +1,6 @@
 -- What is said of a name is the word itself, and `complete` is said of a scan that is complete and of no other. Assumes
 -- nothing.
-use Rattle.std.proofs.Common.{Result, Ok, Err, Some, None}
+use Rattle.std.proofs.Common.{Option, Some, None, Result, Ok, Err}
 use Rattle.refusal.specs.declared.Refusal.{Refusal}
 use mathlib.Core.Path.{◌≡◌, refl, ap}
 use mathlib.Core.Bool.{Bool, true, false, cond}
@@ -11,8 +11,7 @@ use native.Mathlib.Omega.{arith}
 use lib.Dec.{eqb}
 use lib.ListN.{get_or}
 use Rattle.octets.specs.Octets.{place_of, ◌at_start_of◌}
-use Rattle.receiver.specs.declared.Heard.{Heard}
-use Rattle.receiver.specs.declared.Heard.TheVariants as heard
+use Rattle.receiver.specs.declared.Received.{Received}
 use Rattle.antenna.specs.declared.Motion.{Motion}
 use Rattle.antenna.specs.declared.Motion.TheVariants.{Still, Moving, Owing, Stopped}
 use Rattle.record.specs.declared.Link.{Link}
@@ -31,7 +30,7 @@ use Rattle.drives.specs.declared.Response.TheVariants as reply
 use Rattle.terms.specs.declared.Term.{Term}
 use Rattle.terms.specs.declared.Term.TheVariants as term
 use Rattle.terms.specs.Terms.{name_of, letters_of, fault_word, outcome_word, said_word, reply_word, given_word}
-use Rattle.terms.specs.Terms.{handed_word, heard_word, end_word, link_word, pending_word, drive_word, word_of}
+use Rattle.terms.specs.Terms.{handed_word, told_word, heard_word, end_word, link_word, pending_word, drive_word, word_of}
 
 -- the octets that are written of a word's name
 abbrev Spoken : List ℕ → Type 0
@@ -80,11 +79,15 @@ handed-said c (Ok n) =
     (either-said (eqb c command.decode) refl (either-said (eqb c command.decode_n) refl refl))
 handed-said c (Err k) = refl
 
-heard-said : (x : Heard) → Spoken (heard_word x)
+told-said : (q : Option (Result ℕ Refusal)) → Spoken (told_word q)
+unfolding name_of letters_of told_word spelled place_of ◌at_start_of◌
+told-said None = refl
+told-said (Some x) = handed-said command.decode x
+
+heard-said : (x : Result Received Refusal) → Spoken (heard_word x)
 unfolding name_of letters_of heard_word spelled place_of ◌at_start_of◌
-heard-said heard.Nothing = refl
-heard-said (heard.HandedOut x) = handed-said command.decode x
-heard-said (heard.Refused k) = refl
+heard-said (Ok c) = told-said c.handed
+heard-said (Err k) = refl
 
 end-said : (s : State) → Spoken (end_word s)
 unfolding name_of letters_of end_word spelled place_of ◌at_start_of◌

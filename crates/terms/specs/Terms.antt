@@ -4,18 +4,17 @@
 --   reply_word x     == the answer x of the row of devices; outcome_word x, said_word x == its parts
 --   handed_word c x  == the command c, of `probe`, `decode`, `write`, `decode-n` and `write-n`, that was to hand out octets
 --                       and answers x; given_word c == where it did
---   heard_word x     == what a call of the receiver told, x
+--   heard_word x     == what a call of the receiver told, x; told_word q == one that is not refused, what it handed out
 --   end_word s       == a scan that stands at s; behind_of s == how many words stand behind its count
 --   link_word, pending_word, drive_word == LINK, PENDING and DRIVE of `show`, up to a number or octets
 --   word_of t        == the word for t
 -- Assumes nothing.
-use Rattle.std.specs.Prelude.{Result, Ok, Err, Some, None}
+use Rattle.std.specs.Prelude.{Option, Some, None, Result, Ok, Err}
 use Rattle.refusal.specs.declared.Refusal.{Refusal}
 use Rattle.std.specs.Prelude.{cond, List, ℕ, eqb, replicate, take}
 use Prim.Native.Char.{code}
 use Rattle.octets.specs.Octets.{place_of, ◌at_start_of◌}
-use Rattle.receiver.specs.declared.Heard.{Heard}
-use Rattle.receiver.specs.declared.Heard.TheVariants as heard
+use Rattle.receiver.specs.declared.Received.{Received}
 use Rattle.antenna.specs.declared.Motion.{Motion}
 use Rattle.antenna.specs.declared.Motion.TheVariants.{Still, Moving, Owing, Stopped}
 use Rattle.record.specs.declared.Link.{Link}
@@ -84,10 +83,13 @@ handed_word c (Err k) = spelled "refused"
 
 -- "`took T frame LEN BUFFER`, `took T refused R BUFFER` .., `took T nothing BUFFER`; or `refused R BUFFER`": at a closing
 -- flag, as `decode`
-unfoldable pub heard_word : Heard → List ℕ
-heard_word heard.Nothing = spelled "nothing"
-heard_word (heard.HandedOut x) = handed_word command.decode x
-heard_word (heard.Refused k) = spelled "refused"
+unfoldable pub told_word : Option (Result ℕ Refusal) → List ℕ
+told_word None = spelled "nothing"
+told_word (Some x) = handed_word command.decode x
+
+unfoldable pub heard_word : Result Received Refusal → List ℕ
+heard_word (Ok c) = told_word c.handed
+heard_word (Err k) = spelled "refused"
 
 -- "`going COUNT`, one of the four ends": "`complete COUNT LIST`, `doubtful COUNT LIST`, `limit COUNT LIST NEXT` or
 -- `full COUNT LIST NEXT`"

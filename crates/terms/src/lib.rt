@@ -10,7 +10,7 @@ ghost use Rattle.terms.specs.Terms.{behind_of};
 
 use antenna::Motion;
 use drives::Response;
-use receiver::Heard;
+use receiver::Received;
 use record::{Link, Pending};
 use refusal::Refusal;
 use scan::State;
@@ -27,8 +27,11 @@ pub enum Term {
     Fault(Fault),
     Reply(Response),
     Outcome(Result<(), Refusal>),
-    Handed { command: usize, handed: Result<usize, Refusal> },
-    Heard(Heard),
+    Handed {
+        command: usize,
+        handed: Result<usize, Refusal>,
+    },
+    Heard(Result<Received, Refusal>),
     End(State),
     Link(Link),
     Pending(Pending),
@@ -192,13 +195,15 @@ fn handed_word(command: usize, handed: Result<usize, Refusal>) -> Name
 }
 
 // A closing flag hands out what the decoder says.
-fn heard_word(heard: Heard) -> Name
+fn heard_word(heard: Result<Received, Refusal>) -> Name
     ensures { result ≡ name_of (heard_word heard) }
 {
     match heard {
-        Heard::Nothing => NOTHING,
-        Heard::HandedOut(handed) => handed_word(script::DECODE, handed),
-        Heard::Refused(_) => REFUSED,
+        Ok(received) => match received.handed {
+            None => NOTHING,
+            Some(handed) => handed_word(script::DECODE, handed),
+        },
+        Err(_) => REFUSED,
     }
 }
 

@@ -3,10 +3,10 @@
 // between its flags decodes to what was put in (frame/proofs/Trip.antt). Assumes nothing of its caller.
 #![tactic(auto)]
 
-ghost use Rattle.std.specs.Prelude.{◌≡◌, ◌∷◌, ◌+◌, ◌≤◌, length, drop};
+ghost use Rattle.std.specs.Prelude.{◌≡◌, ◌∷◌, ◌+◌, ◌≤◌, length};
 ghost use Rattle.octets.specs.Puts.{Puts};
 ghost use Rattle.refusal.specs.Answer.{Hands, handed_out, shorter};
-ghost use Rattle.limits.specs.Limits.{limit_least, limit_most, payload_most};
+ghost use Rattle.limits.specs.Limits.{limit_most};
 ghost use Rattle.frame.specs.Line.{special, escaped, on_line, between};
 ghost use Rattle.frame.specs.Write.{frame_of, line_of, written};
 
@@ -37,16 +37,14 @@ fn put_octet(b: u8, line: &mut [u8], at: usize) -> usize
     n + 1
 }
 
-// Puts the octets of `d` from `from` on, with their escapes, into `line` at `at`, and gives the place behind them.
-fn put_rest(d: &[u8], from: usize, line: &mut [u8], at: usize) -> usize
-    requires { at + length (on_line (drop from d.now)) ≤ length line.old }
-    ensures { Puts line.old at (on_line (drop from d.now)) result line.new }
+// Puts the octets of `d`, with their escapes, into `line` at `at`, and gives the place behind them.
+fn put_rest(d: &[u8], line: &mut [u8], at: usize) -> usize
+    requires { at + length (on_line d.now) ≤ length line.old }
+    ensures { Puts line.old at (on_line d.now) result line.new }
 {
     let mut n = at;
-    let mut i = from;
-    while i < d.len() {
-        n = put_octet(d[i], line, n);
-        i += 1;
+    for &b in d {
+        n = put_octet(b, line, n);
     }
     n
 }
@@ -57,17 +55,12 @@ fn put_between(d: &[u8], line: &mut [u8]) -> usize
     ensures { Puts line.old 0 (between d.now) result line.new }
 {
     line[0] = FLAG;
+    let (fours, rest) = d.as_chunks::<4>();
     let mut n = 1;
-    let mut i = 0;
-    let whole = d.len() / 4 * 4;
-    while i < whole {
-        n = put_octet(d[i], line, n);
-        n = put_octet(d[i + 1], line, n);
-        n = put_octet(d[i + 2], line, n);
-        n = put_octet(d[i + 3], line, n);
-        i += 4;
+    for four in fours {
+        n = put_rest(four, line, n);
     }
-    let end = put_rest(d, i, line, n);
+    let end = put_rest(rest, line, n);
     line[end] = FLAG;
     end + 1
 }
@@ -81,9 +74,9 @@ fn assemble(address: u8, control: u8, payload: &[u8], d: &mut [u8]) -> usize
     octets::put(d, 1, control);
     octets::put_all(d, 2, payload);
     let n = payload.len() + 2;
-    let check = fcs::check(&d[..n]);
-    octets::put(d, n, (check % 256) as u8);
-    octets::put(d, n + 1, (check / 256 % 256) as u8);
+    let [low, high] = fcs::check(&d[..n]).to_le_bytes();
+    octets::put(d, n, low);
+    octets::put(d, n + 1, high);
     n + 2
 }
 
@@ -97,15 +90,13 @@ fn is_short(d: &[u8], room: usize) -> bool
         return false;
     }
     let mut len = d.len() + 2;
-    let mut i = 0;
-    while i < d.len() {
-        if is_special(d[i]) {
+    for &b in d {
+        if is_special(b) {
             len += 1;
             if room < len {
                 return true;
             }
         }
-        i += 1;
     }
     room < len
 }
@@ -122,24 +113,14 @@ fn hand_line(d: &[u8], out: &mut [u8]) -> Result<usize, Refusal>
     Ok(put_between(d, out))
 }
 
-// A payload that the least limit has room for: a small store, which is soon set to zero.
-fn write_short(address: u8, control: u8, payload: &[u8], out: &mut [u8]) -> Result<usize, Refusal>
-    requires { length payload.now ≤ payload_most limit_least }
+// Writes a frame that a store of so many places has room for: the fewer there are, the sooner they are set to zero. The compiler
+// knows how many.
+fn write_in<const PLACES: usize>(address: u8, control: u8, payload: &[u8], out: &mut [u8]) -> Result<usize, Refusal>
+    requires { (length payload.now + 4 ≤ PLACES) × (PLACES ≤ limit_most) }
     ensures { Hands (handed_out (line_of (address ∷ control ∷ payload.now)) (length out.old))
         out.old result out.new }
 {
-    let mut d = [0u8; LIMIT_LEAST];
-    let n = assemble(address, control, payload, &mut d);
-    hand_line(&d[..n], out)
-}
-
-// A longer one. Apart from the other, so that the compiler knows how long each store is.
-fn write_long(address: u8, control: u8, payload: &[u8], out: &mut [u8]) -> Result<usize, Refusal>
-    requires { length payload.now ≤ payload_most limit_most }
-    ensures { Hands (handed_out (line_of (address ∷ control ∷ payload.now)) (length out.old))
-        out.old result out.new }
-{
-    let mut d = [0u8; LIMIT_MOST];
+    let mut d = [0u8; PLACES];
     let n = assemble(address, control, payload, &mut d);
     hand_line(&d[..n], out)
 }
@@ -153,7 +134,7 @@ pub fn write(limit: usize, address: u8, control: u8, payload: &[u8], out: &mut [
         return Err(Refusal::NotAllowed);
     }
     if payload.len() <= PAYLOAD_MOST {
-        return write_short(address, control, payload, out);
+        return write_in::<LIMIT_LEAST>(address, control, payload, out);
     }
     // Only for the compiler: a caller with the constant 78 does without the long store.
     if limit <= LIMIT_LEAST {
@@ -162,5 +143,5 @@ pub fn write(limit: usize, address: u8, control: u8, payload: &[u8], out: &mut [
     if limit - AROUND < payload.len() {
         return Err(Refusal::PayloadTooLong);
     }
-    write_long(address, control, payload, out)
+    write_in::<LIMIT_MOST>(address, control, payload, out)
 }

@@ -1,20 +1,23 @@
 -- An identity padded, a row under a mask, and the end of a row: by a loop, octet by octet. Assumes nothing.
-use mathlib.Core.Path.{◌≡◌, refl, ◌∙◌}
-use mathlib.Core.Bool.{Bool, true, false}
+use mathlib.Core.Path.{◌≡◌, refl, sym, ap, ◌∙◌}
+use mathlib.Core.Bool.{Bool, true, false, ◌&&◌}
 use mathlib.Core.List.{List, [], ◌∷◌, ◌++◌, append-nil}
-use Prim.Native.Nat.{ℕ, suc, ◌+◌, ◌-◌, ◌<◌, ◌≤◌, min}
-use native.Mathlib.Numerals.{add-one}
+use Prim.Native.Nat.{ℕ, ◌-◌, ◌<◌, min}
 use native.Mathlib.Omega.{arith}
-use borrow.Author.Tests.{eq-eqb, ne_eqb, le-leb, lt-leb, leb-true, leb-false}
+use borrow.Author.Tests.{leb-false}
 use lib.Bits.{bit_and}
-use lib.Dec.{leb}
-use lib.ListN.{length, get_or, take, drop, set, replicate, drop_of_length-le, length-drop, length-replicate}
-use lib.Seq.{sets, sets-eq, take_all, length-take-le}
-use Rattle.octets.proofs.Takes.{take_rest}
-use Rattle.octets.proofs.Rest.{rest}
+use lib.Dec.{eqb, leb}
+use Rattle.std.specs.List.{list_all, zip}
+use lib.ListN.{length, take, drop, replicate, drop_of_length-le, length-drop, length-take}
+use lib.Seq.{length-take-le}
+use borrow.Rule.Slice.PartMut.{put_mid}
+use Rattle.octets.proofs.Takes.{take_within}
 use Rattle.identity.specs.Bits.{masked}
 use Rattle.identity.specs.Identity.{width, blank, padded, same}
-use Rattle.xid.specs.Match.{ends_with}
+use Rattle.std.specs.Prelude.{bytes_eq}
+use Rattle.compare.proofs.Laws.{same_pointwise}
+use Rattle.identity.proofs.Scans.{same-is}
+use Rattle.xid.specs.Match.{rightmost, ends_with}
 
 -- ---- under a mask
 
@@ -25,74 +28,54 @@ length-masked [] (y ∷ m) = omega arith
 length-masked (x ∷ s) [] = omega arith
 length-masked (x ∷ s) (y ∷ m) = omega (arith, length-masked s m)
 
-module _ (s m b : List ℕ) (i : ℕ) {w : Bool} (v : same (masked (drop i s) (drop i m)) (drop i b) ≡ w) where
-  pub masked-not : i < length s → i < length m → i < length b
-      → (bit_and (get_or s i 0) (get_or m i 0) ≡ get_or b i 0 → ⊥) → false ≡ w
-  unfolding same masked
-  masked-not h k l n =
-      rw (rest s i h, rest m i k, rest b i l, ne_eqb (bit_and (get_or s i 0) (get_or m i 0)) (get_or b i 0) n) at v
+-- octet by octet, where the value is as long
+pub masked-zip : (s m b : List ℕ) → length b ≡ min (length s) (length m)
+    → list_all (λ (p : (ℕ × ℕ) × ℕ). eqb (bit_and p.0.0 p.0.1) p.1) (zip (zip s m) b) ≡ same (masked s m) b
+unfolding same masked
+masked-zip [] m [] e = refl
+masked-zip [] m (z ∷ b) e = let no : ⊥ = omega arith in absurd no
+masked-zip (x ∷ s) [] [] e = refl
+masked-zip (x ∷ s) [] (z ∷ b) e = let no : ⊥ = omega arith in absurd no
+masked-zip (x ∷ s) (y ∷ m) [] e = let no : ⊥ = omega arith in absurd no
+masked-zip (x ∷ s) (y ∷ m) (z ∷ b) e =
+    ap (λ (t : Bool). eqb (bit_and x y) z && t) (masked-zip s m b (omega (arith, e)))
 
-  pub masked-more : i < length s → i < length m → i < length b → bit_and (get_or s i 0) (get_or m i 0) ≡ get_or b i 0
-      → same (masked (drop (i + 1) s) (drop (i + 1) m)) (drop (i + 1) b) ≡ w
-  unfolding same masked
-  masked-more h k l e =
-      rw (rest s i h, rest m i k, rest b i l, eq-eqb (bit_and (get_or s i 0) (get_or m i 0)) (get_or b i 0) e) at v
-
-  pub masked-done : min (length s) (length m) ≤ i → length b ≤ i → true ≡ w
-  unfolding same
-  masked-done h k =
-      let none : length (masked (drop i s) (drop i m)) ≡ 0 =
-      length-masked (drop i s) (drop i m) ∙ omega (arith, length-drop i s, length-drop i m) in
-      rw (empty (masked (drop i s) (drop i m)) none, drop_of_length-le b k) at v
-    where
-      empty : (l : List ℕ) → length l ≡ 0 → l ≡ []
-      empty [] e = refl
-      empty (x ∷ l) e = let no : ⊥ = omega (arith, e) in absurd no
+-- and where it is not
+pub masked-differ : (s m b : List ℕ) → (length b ≡ min (length s) (length m) → ⊥) → false ≡ same (masked s m) b
+masked-differ s m b n = go (same (masked s m) b) refl
+  where
+    go : (t : Bool) → same (masked s m) b ≡ t → false ≡ t
+    go true e = absurd (n (ap length (sym (same-is (masked s m) b e)) ∙ length-masked s m))
+    go false e = refl
 
 -- ---- the right-most octets
 
-pub ends-longer : (s t : List ℕ) → length s < length t → false ≡ ends_with s t
+pub ends_pointwise : (s t : List ℕ) → bytes_eq t (rightmost (length t) s) ≡ ends_with s t
 unfolding ends_with
-ends-longer s t h = rw (lt-leb (length t) (length s) h)
-
-pub ends-right : (s t : List ℕ) → length t ≤ length s
-    → same t (take (length s - (length s - length t)) (drop (length s - length t) s)) ≡ ends_with s t
-unfolding ends_with
-ends-right s t h =
-    rw (
-      le-leb (length t) (length s) h,
-      take_rest (length s - length t) s,
-    )
-
--- ---- padded with 0x20 to 19, for a loop that goes on from its length
-
--- what is left to pad from i on comes to w
-module _ (row : List ℕ) (i : ℕ) {w : List ℕ} (v : sets row i (replicate (width - i) blank) ≡ w) where
-  pub pad-more : i < width → sets (set row i blank) (i + 1) (replicate (width - (i + 1)) blank) ≡ w
-  pad-more h =
-      let n : width - i ≡ suc (width - suc i) = omega arith in
-      rw add-one (rw n at v)
-
-  pub pad-done : width ≤ i → row ≡ w
-  pad-done h = let n : width - i ≡ 0 = omega arith in rw n at v
-
-pub padded-is : (octets : List ℕ) (len : ℕ) → length octets ≡ width
-    → sets octets len (replicate (width - len) blank) ≡ padded (take len octets)
-unfolding padded
-padded-is octets len l = go (leb len width) refl
+ends_pointwise s t = same_pointwise t (rightmost (length t) s) ∙ go (leb (length t) (length s)) refl
   where
-    go : (t : Bool) → leb len width ≡ t
-        → sets octets len (replicate (width - len) blank)
-        ≡ take len octets ++ replicate (width - length (take len octets)) blank
-    go true e =
-        let h = leb-true len width e in
-        let n : length (take len octets) ≡ len = length-take-le len octets (omega arith) in
-        let m : length (replicate {A = ℕ} (width - len) blank) ≡ width - len = length-replicate (width - len) blank in
-        sets-eq (replicate (width - len) blank) octets len (omega arith)
-        ∙ rw (n, drop_of_length-le octets {i = len + length (replicate {A = ℕ} (width - len) blank)} (omega arith))
-        (append-nil (take len octets ++ replicate (width - len) blank))
-    go false e =
-        let h = leb-false len width e in
-        let n : width - len ≡ 0 = omega arith in
-        let m : width - length octets ≡ 0 = omega arith in
-        rw (n, take_all len octets (omega arith), m, append-nil octets)
+    longer : (b : Bool) → length s < length t → same t (rightmost (length t) s) ≡ b → b ≡ false
+    longer true h e =
+        let long = ap length (same-is t (rightmost (length t) s) e) ∙ length-drop (length s - length t) s in
+        let no : ⊥ = omega arith in
+        absurd no
+    longer false h e = refl
+
+    go : (b : Bool) → leb (length t) (length s) ≡ b
+        → same t (rightmost (length t) s) ≡ b && same t (rightmost (length t) s)
+    go true e = refl
+    go false e = longer _ (leb-false (length t) (length s) e) refl
+
+-- ---- padded with 0x20 to 19
+
+-- the octets from n on are blanks now
+pub padded-is : (octets filled : List ℕ) (len n : ℕ) → length octets ≡ width → n ≡ min len width
+    → filled ≡ replicate (length (take (width - n) (drop n octets))) blank
+    → put_mid n (width - n) octets filled ≡ padded (take len octets)
+unfolding padded
+padded-is octets filled len n l e f =
+    let long : length (take (width - n) (drop n octets)) ≡ width - n = length-take-le (width - n) (drop n octets) (omega (arith, length-drop n octets)) in
+    let own : take n octets ≡ take len octets = rw e (take_within len width octets (omega arith)) in
+    let short : width - length (take len octets) ≡ width - n = rw length-take (omega arith) in
+    let gone : drop (width - n) (drop n octets) ≡ [] = drop_of_length-le (drop n octets) (omega (arith, length-drop n octets)) in
+    rw (f, long, own, short, gone) (ap (λ (r : List ℕ). take len octets ++ r) (append-nil _))

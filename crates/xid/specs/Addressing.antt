@@ -11,10 +11,8 @@ use Rattle.std.specs.Prelude.{List, [], ◌∷◌, ℕ}
 use Rattle.std.proofs.Math.Option.{Option}
 use Rattle.identity.specs.Identity.{vendor, width}
 use Rattle.params.specs.declared.Group.{Group}
-use Rattle.params.specs.declared.Part.{Part}
-use Rattle.params.specs.declared.Slot.{Slot}
 use Rattle.params.specs.Field.{Param, ◌has◌to◌, value_for}
-use Rattle.params.specs.Walk.{place_in, part_in, value_at}
+use Rattle.params.specs.Walk.{place_in, Part, part_in, value_at}
 use Rattle.xid.specs.declared.Parts.{Parts}
 
 -- "Identifiers 1 (identity, 1 to 19), 2 (address, 1), 3 (mask, 1 to 19), 4 (type, 1), 6 (vendor, 2)"
@@ -63,10 +61,10 @@ values_of ps =
       vendor = value_for vendor_id ps;
     }
 
-abbrev pub part_for : ℕ → List Slot → Part
+abbrev pub part_for : ℕ → List Part → Part
 part_for n s = part_in s (place_in n addressing.table)
 
-unfoldable pub parts_by : List Slot → Parts
+unfoldable pub parts_by : List Part → Parts
 parts_by s =
     record {
       identity = part_for identity_id s;

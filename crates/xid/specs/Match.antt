@@ -27,7 +27,6 @@
 --   or_silence x         == what the answer x means to the device: a number is silence
 --   meant_to i w         == what w means to the identity i: the first of its rows that holds
 --   payload_answer i m   == the same of the payload m, with the number; read_of i m == what m means
---   is_given p           == the walk found a part p
 -- Assumes nothing.
 use Rattle.std.specs.Prelude.{Bool, true, false, cond, not, ◌&&◌, ◌||◌, List, [], ◌∷◌, ℕ, ◌-◌, eqb, leb, length, get_or, take, drop}
 use Rattle.std.proofs.Math.Option
@@ -35,8 +34,6 @@ use Rattle.std.proofs.Math.Option.{Option, none, some}
 use Rattle.refusal.specs.Answer.{Answer, gives, refuses, TestRow, ◌when◌, answered}
 use Rattle.identity.specs.Identity.{vendor, same, answers_scan}
 use Rattle.record.specs.Allowed.{addressed}
-use Rattle.params.specs.declared.Part.{Part}
-use Rattle.params.specs.declared.Part.TheVariants.{Absent, At}
 use Rattle.params.specs.Field.{Param, params_of, given, octets_in}
 use Rattle.xid.specs.Addressing.{addressing, Values, values_of}
 use Rattle.xid.specs.declared.Xid.{Xid}
@@ -169,10 +166,3 @@ payload_answer i m = answered (payload_rows i m) (meaning_of (values_in m))
 
 unfoldable pub read_of : List ℕ → List ℕ → Xid
 read_of i m = or_silence (payload_answer i m)
-
--- ---- the parts that the walk finds
-
--- a part found by the walk stands for a value that is given
-abbrev pub is_given : Part → Bool
-is_given Absent = false
-is_given (At from len) = true

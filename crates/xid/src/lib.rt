@@ -3,18 +3,18 @@
 // payload is both (proofs/Exactly.antt). Assumes nothing of its caller: any plate, any octets.
 #![tactic(auto)]
 
-ghost use Rattle.std.specs.Prelude.{◌≡◌, true, take, get_or};
+ghost use Rattle.std.specs.Prelude.{◌≡◌, true, take, get_or, is_some};
 ghost use Rattle.identity.specs.Bits.{masked};
 ghost use Rattle.identity.specs.Identity.{padded, same};
 ghost use Rattle.record.specs.Allowed.{identity_of};
 ghost use Rattle.params.specs.Field.{octets_in};
 ghost use Rattle.params.specs.Walk.{value_at};
 ghost use Rattle.xid.specs.Addressing.{addressing, parts_by, values_at};
-ghost use Rattle.xid.specs.Match.{is_given, scan_shape, assignment_shape, is_scan, is_assignment, scan_matches};
+ghost use Rattle.xid.specs.Match.{scan_shape, assignment_shape, is_scan, is_assignment, scan_matches};
 ghost use Rattle.xid.specs.Match.{ends_with, identity_matches, any_or, kind_matches, vendor_matches, meant_to, read_of};
 
 use identity::{BLANK, OCTETS, VENDOR};
-use params::{Group, Identifier, Part, Slot};
+use params::{Group, Identifier, Malformed, Place};
 use record::Plate;
 
 // The device's type: a single-antenna tilt device.
@@ -41,11 +41,11 @@ const VENDOR_ID: u8 = 6;
 // One part for each identifier of the group.
 #[derive(Clone, Copy)]
 struct Parts {
-    identity: Part,
-    address: Part,
-    mask: Part,
-    kind: Part,
-    vendor: Part,
+    identity: Option<Place>,
+    address: Option<Place>,
+    mask: Option<Place>,
+    kind: Option<Place>,
+    vendor: Option<Place>,
 }
 
 // What a payload means: nothing to answer; a scan that is answered; an assignment that is taken.
@@ -96,73 +96,50 @@ fn addressing() -> Group
 }
 
 // The parts that the walk found, by name.
-fn parts_by(found: [Slot; params::ROWS]) -> Parts
+#[tactic(auto, unfolding(crate::specs::Addressing::parts_by, params::specs::Walk::place_in))]
+fn parts_by(found: [Option<Place>; params::ROWS]) -> Parts
     ensures { result ≡ parts_by found }
 {
+    let [identity, address, mask, kind, vendor] = found;
     Parts {
-        identity: params::part_at(found, 0),
-        address: params::part_at(found, 1),
-        mask: params::part_at(found, 2),
-        kind: params::part_at(found, 3),
-        vendor: params::part_at(found, 4),
-    }
-}
-
-fn is_given(part: Part) -> bool
-    ensures { result ≡ is_given part }
-{
-    match part {
-        Part::Absent => false,
-        Part::At { from: _, len: _ } => true,
+        identity,
+        address,
+        mask,
+        kind,
+        vendor,
     }
 }
 
 // The octets of a part, none where it is not given.
-fn value(payload: &[u8], part: Part) -> &[u8]
+#[tactic(auto, unfolding(params::specs::Field::octets_in, params::specs::Walk::value_at))]
+fn value(payload: &[u8], part: Option<Place>) -> &[u8]
     ensures { result.now ≡ octets_in (value_at payload.now part) }
 {
     match part {
-        Part::Absent => params::value_at(payload, 0, 0),
-        Part::At { from, len } => params::value_at(payload, from, len),
+        None => &payload[..0],
+        Some(place) => params::value_at(payload, place),
     }
 }
 
 // ---- a scan
 
+#[tactic(auto, unfolding(crate::specs::Match::scan_shape))]
 fn scan_shape(parts: Parts) -> bool
-    ensures { result ≡ scan_shape (is_given parts.identity) (is_given parts.address) (is_given parts.mask)
-        (is_given parts.kind) (is_given parts.vendor) }
+    ensures { result ≡ scan_shape (is_some parts.identity) (is_some parts.address) (is_some parts.mask)
+        (is_some parts.kind) (is_some parts.vendor) }
 {
-    let identity = parts.identity;
-    let address = parts.address;
-    let mask = parts.mask;
-    let kind = parts.kind;
-    let vendor = parts.vendor;
-    if is_given(identity) {
-        if is_given(mask) {
-            if is_given(address) {
-                return false;
-            }
-            if is_given(kind) {
-                return false;
-            }
-            return !is_given(vendor);
-        }
-    }
-    false
+    parts.identity.is_some()
+        && parts.mask.is_some()
+        && parts.address.is_none()
+        && parts.kind.is_none()
+        && parts.vendor.is_none()
 }
 
+#[tactic(auto, using(crate::proofs::Shapes::given_at), unfolding(crate::specs::Match::is_scan, crate::specs::Addressing::values_at))]
 fn is_scan(payload: &[u8], parts: Parts) -> bool
     ensures { result ≡ is_scan (values_at payload.now parts) }
 {
-    let identity = parts.identity;
-    let mask = parts.mask;
-    if scan_shape(parts) {
-        let a = value(payload, identity);
-        let b = value(payload, mask);
-        return a.len() == b.len();
-    }
-    false
+    scan_shape(parts) && value(payload, parts.identity).len() == value(payload, parts.mask).len()
 }
 
 // The identity, its first `len` octets, padded with 0x20.
@@ -170,11 +147,7 @@ fn padded(octets: [u8; OCTETS], len: usize) -> [u8; OCTETS]
     ensures { result ≡ padded (take len octets) }
 {
     let mut row = octets;
-    let mut i = len;
-    while i < OCTETS {
-        row[i] = BLANK;
-        i += 1;
-    }
+    row[len.min(OCTETS)..].fill(BLANK);
     row
 }
 
@@ -182,73 +155,54 @@ fn padded(octets: [u8; OCTETS], len: usize) -> [u8; OCTETS]
 fn under_mask(s: &[u8], mask: &[u8], value: &[u8]) -> bool
     ensures { result ≡ same (masked s.now mask.now) value.now }
 {
-    let n = octets::fewer(s.len(), mask.len());
-    if value.len() != n {
-        return false;
-    }
-    let mut i = 0;
-    while i < n {
-        if s[i] & mask[i] != value[i] {
-            return false;
-        }
-        i += 1;
-    }
-    true
+    value.len() == s.len().min(mask.len())
+        && s.iter().zip(mask).zip(value).all(|((x, m), v)| x & m == *v)
 }
 
+#[tactic(auto, unfolding(crate::specs::Match::scan_matches, identity::specs::Identity::answers_scan, crate::specs::Addressing::values_at))]
 fn scan_matches(octets: [u8; OCTETS], len: usize, payload: &[u8], parts: Parts) -> bool
     ensures { result ≡ scan_matches (take len octets) (values_at payload.now parts) }
 {
-    let identity = parts.identity;
-    let mask = parts.mask;
     let row = padded(octets, len);
-    let m = value(payload, mask);
-    let v = value(payload, identity);
-    under_mask(&row, m, v)
+    under_mask(
+        &row,
+        value(payload, parts.mask),
+        value(payload, parts.identity),
+    )
 }
 
 // ---- an assignment
 
+#[tactic(auto, unfolding(crate::specs::Match::assignment_shape))]
 fn assignment_shape(parts: Parts) -> bool
-    ensures { result ≡ assignment_shape (is_given parts.address) (is_given parts.mask) }
+    ensures { result ≡ assignment_shape (is_some parts.address) (is_some parts.mask) }
 {
-    let address = parts.address;
-    let mask = parts.mask;
-    if is_given(address) {
-        return !is_given(mask);
-    }
-    false
+    parts.address.is_some() && parts.mask.is_none()
 }
 
 fn first_octet(s: &[u8]) -> u8
     ensures { result ≡ get_or s.now 0 0 }
 {
-    if s.len() == 0 {
-        return 0;
-    }
-    s[0]
+    s.first().copied().unwrap_or(0)
 }
 
 // Whether `s` ends with `tail`.
+#[tactic(auto, using(crate::proofs::Octetwise::ends_pointwise))]
 fn ends_with(s: &[u8], tail: &[u8]) -> bool
     ensures { result ≡ ends_with s.now tail.now }
 {
-    if s.len() < tail.len() {
-        return false;
-    }
-    let start = s.len() - tail.len();
-    compare::same(tail, &s[start..])
+    s.ends_with(tail)
 }
 
-fn identity_matches(octets: [u8; OCTETS], len: usize, payload: &[u8], part: Part) -> bool
+#[tactic(auto, unfolding(crate::specs::Match::identity_matches, params::specs::Walk::value_at))]
+fn identity_matches(octets: [u8; OCTETS], len: usize, payload: &[u8], part: Option<Place>) -> bool
     ensures { result ≡ identity_matches (take len octets) (value_at payload.now part) }
 {
     match part {
-        Part::Absent => true,
-        Part::At { from, len: count } => {
-            let n = octets::fewer(len, OCTETS);
-            let tail = params::value_at(payload, from, count);
-            ends_with(&octets[..n], tail)
+        None => true,
+        Some(place) => {
+            let n = len.min(OCTETS);
+            ends_with(&octets[..n], params::value_at(payload, place))
         }
     }
 }
@@ -257,59 +211,47 @@ fn identity_matches(octets: [u8; OCTETS], len: usize, payload: &[u8], part: Part
 fn any_or(any: &[u8], own: &[u8], asked: &[u8]) -> bool
     ensures { result ≡ any_or any.now own.now asked.now }
 {
-    if compare::same(asked, any) {
-        return true;
-    }
-    compare::same(asked, own)
+    compare::same(asked, any) || compare::same(asked, own)
 }
 
-fn kind_matches(payload: &[u8], part: Part) -> bool
+#[tactic(auto, unfolding(crate::specs::Match::kind_matches, params::specs::Walk::value_at))]
+fn kind_matches(payload: &[u8], part: Option<Place>) -> bool
     ensures { result ≡ kind_matches (value_at payload.now part) }
 {
     match part {
-        Part::Absent => true,
-        Part::At { from, len } => {
-            let any = ANY_KIND;
-            let own = [KIND];
-            let asked = params::value_at(payload, from, len);
-            any_or(&any, &own, asked)
-        }
+        None => true,
+        Some(place) => any_or(&ANY_KIND, &[KIND], params::value_at(payload, place)),
     }
 }
 
-fn vendor_matches(octets: [u8; OCTETS], len: usize, payload: &[u8], part: Part) -> bool
+#[tactic(auto, using(octets::proofs::Takes::take_min), unfolding(crate::specs::Match::vendor_matches, params::specs::Walk::value_at))]
+fn vendor_matches(octets: [u8; OCTETS], len: usize, payload: &[u8], part: Option<Place>) -> bool
     ensures { result ≡ vendor_matches (take len octets) (value_at payload.now part) }
 {
     match part {
-        Part::Absent => true,
-        Part::At { from, len: count } => {
-            let any = ANY_VENDOR;
-            let n = octets::fewer(len, VENDOR);
-            let asked = params::value_at(payload, from, count);
-            any_or(&any, &octets[..n], asked)
+        None => true,
+        Some(place) => {
+            let n = len.min(VENDOR);
+            any_or(&ANY_VENDOR, &octets[..n], params::value_at(payload, place))
         }
     }
 }
 
+#[tactic(auto, using(crate::proofs::Judging::assigned_if))]
 fn assign(octets: [u8; OCTETS], len: usize, payload: &[u8], parts: Parts) -> Xid
     requires { is_assignment (values_at payload.now parts) ≡ true }
     ensures { result ≡ meant_to (take len octets) (values_at payload.now parts) }
 {
-    let identity = parts.identity;
-    let kind = parts.kind;
-    let vendor = parts.vendor;
-    let given = parts.address;
-    let address = first_octet(value(payload, given));
-    if record::is_addressed(address) {
-        if identity_matches(octets, len, payload, identity) {
-            if kind_matches(payload, kind) {
-                if vendor_matches(octets, len, payload, vendor) {
-                    return Xid::Assignment { address };
-                }
-            }
-        }
+    let address = first_octet(value(payload, parts.address));
+    if record::is_addressed(address)
+        && identity_matches(octets, len, payload, parts.identity)
+        && kind_matches(payload, parts.kind)
+        && vendor_matches(octets, len, payload, parts.vendor)
+    {
+        Xid::Assignment { address }
+    } else {
+        Xid::Silence
     }
-    Xid::Silence
 }
 
 // ---- either, or neither
@@ -319,14 +261,15 @@ fn judge(octets: [u8; OCTETS], len: usize, payload: &[u8], parts: Parts) -> Xid
 {
     if is_scan(payload, parts) {
         if scan_matches(octets, len, payload, parts) {
-            return Xid::Scan;
+            Xid::Scan
+        } else {
+            Xid::Silence
         }
-        return Xid::Silence;
+    } else if assignment_shape(parts) {
+        assign(octets, len, payload, parts)
+    } else {
+        Xid::Silence
     }
-    if assignment_shape(parts) {
-        return assign(octets, len, payload, parts);
-    }
-    Xid::Silence
 }
 
 // What the payload of an XID frame to 0xFF means to a device with this plate.
@@ -334,11 +277,8 @@ pub fn read(plate: Plate, payload: &[u8]) -> Xid
     ensures { result ≡ read_of (identity_of plate) payload.now }
 {
     let identity = plate.identity;
-    let octets = identity.octets;
-    let found = params::walk(payload, addressing());
-    let parts = found.parts;
-    if found.formed {
-        return judge(octets, identity.len, payload, parts_by(parts));
+    match params::walk(payload, addressing()) {
+        Ok(parts) => judge(identity.octets, identity.len, payload, parts_by(parts)),
+        Err(Malformed) => Xid::Silence,
     }
-    Xid::Silence
 }

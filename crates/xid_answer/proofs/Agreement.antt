@@ -19,9 +19,8 @@ use Rattle.params.specs.Field.{Param, ◌is◌, triple_of, field_of, xid_payload
 use Rattle.params.specs.Field.{WellFormed, none_twice, value_for, given}
 use Rattle.params.proofs.Exact.{once-different}
 use Rattle.control.specs.declared.AskedFor.{AskedFor}
-use Rattle.negotiation.specs.declared.Offer.TheVariants.{Agreed}
 use Rattle.negotiation.specs.Negotiation.{received_id, sending_id, receiving_id, negotiating, bits_in, smaller_of}
-use Rattle.negotiation.specs.Negotiation.{agreed_limit, asked_in, offer_of}
+use Rattle.negotiation.specs.Negotiation.{agreed_limit, asked_in, agrees_on, offer_of}
 use Rattle.negotiation.proofs.Bits.{bits-two}
 use Rattle.negotiation.proofs.Exactly.{offer-agreed, limit-kept, limit-agreed, agreed-least, never-above}
 use Rattle.xid_answer.specs.Answer.{if_asked, length_value, window_value, negotiation_params, negotiation_answer}
@@ -165,13 +164,13 @@ module _ (a : AskedFor) (N : ℕ) where
       go false false s = ⊎_elim (λ e. absurd (true-not-false (sym e))) (λ e. absurd (true-not-false (sym e))) s
 
   pub answer-read : (M : ℕ) → is_limit N ≡ true → (a.sent ≡ true) ⊎ (a.received ≡ true)
-      → offer_of M (negotiation_answer a N) ≡ Agreed N a
+      → offer_of M (negotiation_answer a N) ≡ agrees_on N a
   answer-read M ok s =
       offer-agreed M (negotiation_answer a N) (negotiation_params a N) negotiation-formed
       ∙ rw (answer-agrees M ok s, asked-again)
 
   -- and stays where none was
-  pub answer_keeps : (M : ℕ) → a.sent ≡ false → a.received ≡ false → offer_of M (negotiation_answer a N) ≡ Agreed M a
+  pub answer_keeps : (M : ℕ) → a.sent ≡ false → a.received ≡ false → offer_of M (negotiation_answer a N) ≡ agrees_on M a
   answer_keeps M s r =
       let (five, six, seven, eight) = answered-values in
       let kept = limit-kept M (negotiation_params a N) (five ∙ rw s) (six ∙ rw r) in

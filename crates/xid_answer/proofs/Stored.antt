@@ -1,11 +1,12 @@
 -- How an answer comes to stand in a payload, triple by triple. Assumes nothing.
+use Rattle.octets.specs.Text.{laid}
 use mathlib.Core.Path.{◌≡◌, refl, sym, ◌∙◌}
 use mathlib.Core.List.{List, [], ◌∷◌, ◌++◌, append-nil}
 use mathlib.Core.Bool.{Bool, true, false, cond}
-use Prim.Native.Nat.{ℕ, ◌+◌, ◌-◌, ◌*◌, ◌/◌, ◌%◌, ◌≤◌, min}
+use Prim.Native.Nat.{ℕ, ◌+◌, ◌-◌, ◌*◌, ◌/◌, ◌%◌, ◌≤◌}
 use native.Mathlib.Nat.{add-zero, zero-add}
 use native.Mathlib.Omega.{arith}
-use lib.ListN.{length, take, set, replicate, length-append, length-take}
+use lib.ListN.{length, set, replicate, length-append}
 use lib.Seq.{sets}
 use Rattle.octets.proofs.Runs.{Run, run-all, run-two, run-some, run-put, run-done}
 use Rattle.octets.proofs.Stores.{sets-start}
@@ -16,7 +17,6 @@ use Rattle.control.specs.declared.AskedFor.{AskedFor}
 use Rattle.negotiation.specs.Negotiation.{sent_id, received_id, sending_id, receiving_id, negotiating_octet}
 use Rattle.xid.specs.Addressing.{identity_id, address_id, kind_id, group_octet}
 use Rattle.xid.specs.Match.{device_type}
-use Rattle.octets.proofs.Takes.{take_within}
 use Rattle.xid_answer.specs.Answer.{opening, scan_params, assignment_params, scan_answer, assignment_answer}
 use Rattle.xid_answer.specs.Answer.{if_asked, length_value, window_value, negotiation_params, negotiation_answer}
 use Rattle.octets.specs.Puts.{Puts}
@@ -158,26 +158,17 @@ length-assignment i = omega (arith, assignment-length i)
 
 held-is : (b : List ℕ) {n : ℕ} {o : List ℕ} → Puts (replicate reply_most 0) 0 b n o → length b ≤ reply_most
     → record { octets = o; len = n } ≡ held b
-unfolding held
+unfolding laid
 held-is b w h = rw (w.octets ∙ sets-start b (replicate reply_most 0) h, w.count, zero-add (length b))
 
-module _ (row : List ℕ) (count : ℕ) (h : length row ≡ width) {n : ℕ} (e : n ≡ min count width) where
-  within : take n row ≡ take count row
-  within = rw e (take_within count width row (omega arith))
+module _ (i : List ℕ) (few : length i ≤ width) {r : ℕ} {o : List ℕ} where
+  pub scan-held : (a : ℕ) → Puts (replicate reply_most 0) 0 (scan_answer i a) r o
+      → record { octets = o; len = r } ≡ held (scan_answer i a)
+  scan-held a w = held-is (scan_answer i a) w (omega (arith, few, length-scan i a))
 
-  few : length (take count row) ≤ width
-  few = omega (arith, length-take count row)
-
-  pub scan-held : (a : ℕ) {r : ℕ} {o : List ℕ} → Puts (replicate reply_most 0) 0 (scan_answer (take n row) a) r o
-      → record { octets = o; len = r } ≡ held (scan_answer (take count row) a)
-  scan-held a w =
-      held-is (scan_answer (take count row) a) (rw within at w) (omega (arith, few, length-scan (take count row) a))
-
-  pub assignment-held : {r : ℕ} {o : List ℕ} → Puts (replicate reply_most 0) 0 (assignment_answer (take n row)) r o
-      → record { octets = o; len = r } ≡ held (assignment_answer (take count row))
-  assignment-held w =
-      held-is (assignment_answer (take count row)) (rw within at w)
-      (omega (arith, few, length-assignment (take count row)))
+  pub assignment-held : Puts (replicate reply_most 0) 0 (assignment_answer i) r o
+      → record { octets = o; len = r } ≡ held (assignment_answer i)
+  assignment-held w = held-is (assignment_answer i) w (omega (arith, few, length-assignment i))
 
 pub length-negotiation : (a : AskedFor) (N : ℕ) → length (negotiation_answer a N) ≤ 17
 unfolding negotiation_answer xid_payload

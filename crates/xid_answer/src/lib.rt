@@ -3,7 +3,7 @@
 // reads the third reads the limit agreed on (proofs/Agreement.antt). Assumes nothing of its caller: any plate, any limit.
 #![tactic(auto)]
 
-ghost use Rattle.std.specs.Prelude.{◌≡◌, cond, [], ◌+◌, ◌≤◌, length, take};
+ghost use Rattle.std.specs.Prelude.{◌≡◌, cond, [], ◌+◌, ◌≤◌, length};
 ghost use Rattle.std.proofs.lemmas.List.Edits.{sets};
 ghost use Rattle.identity.specs.Identity.{width};
 ghost use Rattle.record.specs.Allowed.{reply_most, identity_of};
@@ -13,9 +13,9 @@ ghost use Rattle.octets.specs.Puts.{Puts};
 ghost use Rattle.payload.specs.Payloads.{payload_of as held};
 
 use control::AskedFor;
-use identity::OCTETS;
 use limits::AROUND;
 use negotiation::{NEGOTIATING, RECEIVED_ID, RECEIVING_ID, SENDING_ID, SENT_ID};
+use octets::Text;
 use params::FORMAT;
 use record::{Payload, Plate, REPLY};
 use xid::{ADDRESS_ID, GROUP_OCTET, IDENTITY_ID, KIND, KIND_ID};
@@ -114,40 +114,22 @@ fn put_negotiation_answer(out: &mut [u8], asked: AskedFor, limit: usize) -> usiz
     put_if(out, c, asked.receiving, RECEIVING_ID, &window)
 }
 
-fn scan_payload(row: [u8; OCTETS], count: usize, address: u8) -> Payload
-    ensures { result ≡ held (scan_answer (take count row) address) }
-{
-    let n = octets::fewer(count, OCTETS);
-    let mut octets = [0u8; REPLY];
-    let len = put_scan_answer(&mut octets, &row[..n], address);
-    Payload { octets, len }
-}
-
-fn assignment_payload(row: [u8; OCTETS], count: usize) -> Payload
-    ensures { result ≡ held (assignment_answer (take count row)) }
-{
-    let n = octets::fewer(count, OCTETS);
-    let mut octets = [0u8; REPLY];
-    let len = put_assignment_answer(&mut octets, &row[..n]);
-    Payload { octets, len }
-}
-
 // The payload of the answer to a scan: identity, address, type.
 pub fn scan_answer(plate: Plate, address: u8) -> Payload
     ensures { result ≡ held (scan_answer (identity_of plate) address) }
 {
-    let identity = plate.identity;
-    let row = identity.octets;
-    scan_payload(row, identity.len, address)
+    let mut octets = [0u8; REPLY];
+    let len = put_scan_answer(&mut octets, plate.identity.octets(), address);
+    Text { octets, len }
 }
 
 // The payload of the answer to an assignment: identity, type.
 pub fn assignment_answer(plate: Plate) -> Payload
     ensures { result ≡ held (assignment_answer (identity_of plate)) }
 {
-    let identity = plate.identity;
-    let row = identity.octets;
-    assignment_payload(row, identity.len)
+    let mut octets = [0u8; REPLY];
+    let len = put_assignment_answer(&mut octets, plate.identity.octets());
+    Text { octets, len }
 }
 
 // The payload of the answer to a negotiation that asked these, with the frame limit that was agreed.
@@ -156,5 +138,5 @@ pub fn negotiation_answer(asked: AskedFor, limit: usize) -> Payload
 {
     let mut octets = [0u8; REPLY];
     let len = put_negotiation_answer(&mut octets, asked, limit);
-    Payload { octets, len }
+    Text { octets, len }
 }

@@ -5,10 +5,10 @@ use Rattle.capi.specs.Crossing.{crossed}
 use Rattle.capi.proofs.Crosses.{refusal-crosses}
 use Rattle.capi.proofs.crossing.Goals as goal
 
-pub returns-in-Octets : goal.returns-in-Octets
+pub returns-in-Ok : goal.returns-in-Ok
 unfolding crossed answer_of
-returns-in-Octets c = search rules
+returns-in-Ok c = search rules
 
-pub returns-in-Refused : goal.returns-in-Refused
+pub returns-in-Err : goal.returns-in-Err
 unfolding crossed answer_of
-returns-in-Refused c = refusal-crosses c.in-Refused.is c.number.ensures
+returns-in-Err c = refusal-crosses c.in-Err.is c.number.ensures

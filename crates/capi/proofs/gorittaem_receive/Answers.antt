@@ -2,14 +2,13 @@
 use Rattle.capi.proofs.Crosses.{hears-none, hears-handed, hears-refused}
 use Rattle.capi.proofs.gorittaem_receive.Goals as goal
 
-pub returns-in-Nothing : goal.returns-in-Nothing
-returns-in-Nothing c =
-    hears-none _ c.receive-told.ensures c.in-Nothing.is
+pub returns-in-None : goal.returns-in-None
+returns-in-None c = hears-none _ (rw c.in-Ok.is at c.receive.ensures) c.in-None.is
 
-pub returns-in-HandedOut : goal.returns-in-HandedOut
-returns-in-HandedOut c =
-    hears-handed _ c.receive-told.ensures c.in-HandedOut.is c.crossing.ensures
+pub returns-in-Some : goal.returns-in-Some
+returns-in-Some c =
+    hears-handed _ (rw c.in-Ok.is at c.receive.ensures) c.in-Some.is c.crossing.ensures
 
-pub returns-in-Refused : goal.returns-in-Refused
-returns-in-Refused c =
-    hears-refused _ c.receive-told.ensures c.in-Refused.is c.number.ensures
+pub returns-in-Err : goal.returns-in-Err
+returns-in-Err c =
+    hears-refused _ (rw c.in-Err.is at c.receive.ensures) c.crossing-in-Err.ensures

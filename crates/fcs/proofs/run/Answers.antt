@@ -1,24 +1,15 @@
 -- `fcs::run` meets its promise: the octets that are left, from the register as it is, give what all gave from the
 -- start. Assumes nothing.
-use borrow.Author.Rules.{rules}
-use Rattle.fcs.proofs.Register.{register-eight, register-rest}
+use native.Mathlib.Omega.{arith}
+use Rattle.octets.proofs.Chunks.{chunk-length}
+use Rattle.fcs.proofs.Register.{register-chunk, register-whole}
 use Rattle.fcs.proofs.run.Goals as goal
 
-pub loop-i-preserved : goal.loop-i-preserved
-loop-i-preserved c =
-    let three = c in
-    let two = three in
-    let one = two in
-    let now = one.loop-i in
-    let s = one.args.s.now in (
-      search rules,
-      search rules,
-      register-eight s now.i _ now.invariant.2 (search rules) one.two_on-two.ensures two.two_on-four.ensures
-          three.two_on-six.ensures c.two_on-r.ensures,
-    )
-
-pub returns : goal.returns
-returns c =
-    let now = c.loop-i in
+pub loop-a-preserved : goal.loop-a-preserved
+loop-a-preserved c =
+    let now = c.loop-a in
     let s = c.args.s.now in
-    register-rest s now.i _ now.invariant.2 c.run_by_two.ensures
+    let eights = c.as_chunks.ensures in
+    let eight = chunk-length 8 now.a-index s eights.front eights.front_len c.loop-a-test.true (omega (arith, eights.front_len)) in
+    register-chunk 8 now.a-index _ s eights.front eights.front_len c.loop-a-test.true now.invariant
+    (register-whole _ _ eight c.two_on-two.ensures c.two_on-four.ensures c.two_on-six.ensures c.two_on-r.ensures)

@@ -17,16 +17,16 @@ returns-then-is_broken c =
     let limit = sym c.is_limit.ensures ∙ c.if-not-is_limit.false in
     refused Broken (when-broken _ limit _ _ (sym c.is_broken.ensures ∙ c.if-is_broken.true))
 
-pub decode_short-requires : goal.decode_short-requires
-decode_short-requires c =
+pub decode_in-requires : goal.decode_in-requires
+decode_in-requires c =
     let whole = sym c.is_broken.ensures ∙ c.if-is_broken.false in
-    (search rules, (unbroken-parts _ whole).1)
+    (search rules, search rules, (unbroken-parts _ whole).1)
 
 pub returns-then-src-le-LINE_MOST : goal.returns-then-src-le-LINE_MOST
 returns-then-src-le-LINE_MOST c =
     let whole = sym c.is_broken.ensures ∙ c.if-is_broken.false in
     let limit = sym c.is_limit.ensures ∙ c.if-not-is_limit.false in
-    hands-is (sym (when_whole _ limit _ _ whole)) c.decode_short.ensures
+    hands-is (sym (when_whole _ limit _ _ whole)) c.decode_in.ensures
 
 -- more octets than a line has stand for more than the limit
 pub returns-then-limit-le-LIMIT_LEAST : goal.returns-then-limit-le-LIMIT_LEAST
@@ -42,13 +42,13 @@ returns-then-src-gt-LONGEST_LINE c =
     let few = (is-limit-exactly _).0 limit in
     refused TooLong (when-overlong _ limit _ _ whole (omega arith))
 
-pub decode_long-requires : goal.decode_long-requires
-decode_long-requires c =
+pub decode_in-requires-2 : goal.decode_in-requires-2
+decode_in-requires-2 c =
     let whole = sym c.is_broken.ensures ∙ c.if-is_broken.false in
-    (search rules, (unbroken-parts _ whole).1)
+    (search rules, search rules, (unbroken-parts _ whole).1)
 
 pub returns : goal.returns
 returns c =
     let whole = sym c.is_broken.ensures ∙ c.if-is_broken.false in
     let limit = sym c.is_limit.ensures ∙ c.if-not-is_limit.false in
-    hands-is (sym (when_whole _ limit _ _ whole)) c.decode_long.ensures
+    hands-is (sym (when_whole _ limit _ _ whole)) c.decode_in-2.ensures

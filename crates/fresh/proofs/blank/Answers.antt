@@ -1,10 +1,12 @@
--- `fresh::blank` meets its promise: each way out, by the tests that lead to it. Assumes nothing.
-use mathlib.Core.Path.{ap, ◌∙◌}
-use Rattle.antenna.specs.declared.Antenna.{Antenna}
-use Rattle.octets.specs.Octets.{◌at_start_of◌}
-use Rattle.record.specs.Fresh.{identity_from, product_from, version_from, plate_from, fresh_from, blank_device}
+-- `fresh::blank` meets its promise: four empty texts, and an antenna at rest. Assumes nothing.
+use mathlib.Core.Path.{ap₂, ◌∙◌}
+use mathlib.Core.List.{[]}
+use Rattle.record.proofs.Freshly.{plated}
+use Rattle.record.specs.Fresh.{fresh_from, blank_device}
 use Rattle.fresh.proofs.blank.Goals as goal
 
 pub returns : goal.returns
-unfolding blank_device plate_from identity_from product_from version_from ◌at_start_of◌
-returns c = c.fresh_from.ensures ∙ ap (λ (n : Antenna). fresh_from _ n) c.fresh_antenna.ensures
+unfolding blank_device
+returns c =
+    let plate = plated [] [] [] [] c.of.ensures c.of-2.ensures c.of-3.ensures c.of-4.ensures in
+    c.fresh_from.ensures ∙ ap₂ fresh_from plate c.fresh_antenna.ensures

@@ -1,22 +1,19 @@
--- `fresh::fresh` meets its promise: each way out, by the tests that lead to it. Assumes nothing.
+-- `fresh::fresh` meets its promise: each way out, by the test that leads to it. Assumes nothing.
 use mathlib.Core.Path.{sym, ◌∙◌}
-use Rattle.refusal.specs.declared.Refusal.TheVariants.{NotAllowed}
-use Rattle.refusal.proofs.Answers.{unchanged, changed}
+use Rattle.refusal.specs.Answer.{made_of}
 use Rattle.record.proofs.Freshly.{data-texts, data-wrong, data-right}
 use Rattle.fresh.proofs.fresh.Goals as goal
 
-pub plate_from-plate-requires : goal.plate_from-plate-requires
-plate_from-plate-requires c = data-texts _ _ _ _ _ (sym c.data_allowed.ensures ∙ c.if-data_allowed.true)
+pub returns-then-not-data_allowed : goal.returns-then-not-data_allowed
+unfolding made_of
+returns-then-not-data_allowed c =
+    sym (data-wrong _ _ _ _ _ c.fresh_antenna-antenna.ensures (sym c.data_allowed.ensures ∙ c.if-not-data_allowed.true))
 
-pub returns-then-data_allowed : goal.returns-then-data_allowed
-returns-then-data_allowed c =
-    let right = sym c.data_allowed.ensures ∙ c.if-data_allowed.true in
-    changed
-    (data-right _ _ _ _ _ c.fresh_antenna-antenna.ensures right
-    c.plate_from-plate.ensures c.fresh_from-device.ensures)
+pub plate_from-plate-requires : goal.plate_from-plate-requires
+plate_from-plate-requires c = data-texts _ _ _ _ _ (sym c.data_allowed.ensures ∙ c.if-not-data_allowed.false)
 
 pub returns : goal.returns
+unfolding made_of
 returns c =
-    let wrong = sym c.data_allowed.ensures ∙ c.if-data_allowed.false in
-    rw c.blank.ensures
-    (unchanged NotAllowed (data-wrong _ _ _ _ _ c.fresh_antenna-antenna.ensures wrong))
+    let right = sym c.data_allowed.ensures ∙ c.if-not-data_allowed.false in
+    sym (data-right _ _ _ _ _ c.fresh_antenna-antenna.ensures right c.plate_from-plate.ensures c.fresh_from.ensures)

@@ -1,18 +1,20 @@
 -- `identity::allowed` meets its promise: a law of `Identities` for each way out. Assumes nothing.
-use mathlib.Core.Path.{◌∙◌}
-use Rattle.identity.proofs.Identities.{too_short, too_long, last-blank, last-other}
+use mathlib.Core.Path.{ap, ◌∙◌}
+use mathlib.Core.Bool.{not}
+use mathlib.Core.Logic.{⊎_elim}
+use borrow.Author.Tests.{eq-eqb}
+use Rattle.identity.proofs.Identities.{too_short, too_long, last-blank, last-other, test-printable}
 use Rattle.identity.proofs.allowed.Goals as goal
 
-pub returns-then-identity-lt3 : goal.returns-then-identity-lt3
-returns-then-identity-lt3 c = too_short _ c.if-identity-lt3.true
+pub returns-then-n-lt-LEAST : goal.returns-then-n-lt-LEAST
+returns-then-n-lt-LEAST c = ⊎_elim (too_short _) (λ w. too_long _ w.1) c.then-n-lt-LEAST.either
 
-pub returns-then-identity-gt-OCTETS : goal.returns-then-identity-gt-OCTETS
-returns-then-identity-gt-OCTETS c = too_long _ c.if-identity-gt-OCTETS.true
+pub returns-then-identity-n-ne-BLANK : goal.returns-then-identity-n-ne-BLANK
+returns-then-identity-n-ne-BLANK c =
+    test-printable _ c.all_printable.ensures
+    ∙ last-other _ c.if-n-lt-LEAST.false c.if-n-gt-OCTETS.false c.if-identity-n-ne-BLANK.true
 
-pub returns-then-identity-eq-BLANK : goal.returns-then-identity-eq-BLANK
-returns-then-identity-eq-BLANK c = last-blank _ c.if-identity-lt3.false c.if-identity-eq-BLANK.true
-
-pub returns : goal.returns
-returns c =
-    let long = c in
-    c.all_printable.ensures ∙ last-other _ long.if-identity-lt3.false long.if-identity-gt-OCTETS.false c.if-identity-eq-BLANK.false
+pub returns-else-identity-n-ne-BLANK : goal.returns-else-identity-n-ne-BLANK
+returns-else-identity-n-ne-BLANK c =
+    ap not (eq-eqb _ _ c.if-identity-n-ne-BLANK.false)
+    ∙ last-blank _ c.if-n-lt-LEAST.false c.if-identity-n-ne-BLANK.false

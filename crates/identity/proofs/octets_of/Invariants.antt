@@ -1,15 +1,9 @@
--- `identity::octets_of` meets its promise: what is stored and what is left to store are the octets. Assumes nothing.
+-- `identity::octets_of` meets its promise: the octets so far are the words at their places. Assumes nothing.
 use mathlib.Core.Path.{◌≡◌}
-use Prim.Native.Nat.{◌+◌, ◌-◌, ◌≤◌}
-use lib.ListN.{length, take, drop}
-use lib.Seq.{sets}
-use Rattle.identity.specs.Identity.{octets_of, width}
+use Prim.Native.Nat.{ℕ, ◌*◌, ◌<◌}
+use lib.ListN.{take, drop, get_or}
+use Rattle.identity.specs.Bits.{word}
 use Rattle.identity.proofs.octets_of.Given as goal
 
 abbrev pub invariant-loop-j : goal.invariant-loop-j
-invariant-loop-j l =
-    (l.j ≤ width) × (length l.octets ≡ width)
-    × (sets l.octets (0 + l.j) (drop l.j (octets_of (take l.count l.beginning))) ≡ octets_of (take l.count l.beginning))
-
-abbrev pub decreases-loop-j : goal.decreases-loop-j
-decreases-loop-j l = width - l.j
+invariant-loop-j l = (k : ℕ) → k < l.j → get_or l.x-items k 0 ≡ word (drop (8 * k) (take l.count l.beginning)) 8

@@ -1,8 +1,7 @@
 -- `information::put_text` meets its promise: the length is stored, and the text behind it. Assumes nothing.
+use mathlib.Core.Path.{refl}
 use Rattle.information.proofs.Parts.{text-put}
 use Rattle.information.proofs.put_text.Goals as goal
 
 pub returns : goal.returns
-returns c =
-    let late = c in
-    text-put _ _ _ late.put.ensures late.put_all.ensures
+returns c = record { put = text-put _ _ _ c.put.ensures c.put_all.ensures; end = refl }

@@ -4,10 +4,10 @@ use Rattle.octets.proofs.Rules.{tests}
 use mathlib.Core.Path.{sym}
 use Rattle.link.proofs.agree.Goals as goal
 
-pub returns-in-Malformed : goal.returns-in-Malformed
+pub returns-in-Err : goal.returns-in-Err
 unfolding agreed_by
-returns-in-Malformed c = search (tests, sym c.say.ensures, c.in-Malformed.is)
+returns-in-Err c = search (tests, sym c.say.ensures, c.in-Err.is)
 
-pub returns-in-Agreed : goal.returns-in-Agreed
+pub returns-in-Ok : goal.returns-in-Ok
 unfolding agreed_by
-returns-in-Agreed c = search (tests, sym c.say-in-Agreed.ensures, sym c.limited.ensures, c.in-Agreed.is)
+returns-in-Ok c = search (tests, sym c.say-in-Ok.ensures, sym c.limited.ensures, c.in-Ok.is)

@@ -1,32 +1,20 @@
--- `negotiation::limit_asked` meets its promise: a case a variant, of each of the two lengths. Assumes nothing.
+-- `negotiation::limit_asked` meets its promise: a case for each of the two lengths, given or not. Assumes nothing.
 use Rattle.negotiation.proofs.Found.{none-asked, received-asked, sent-asked, both-asked}
 use Rattle.negotiation.proofs.limit_asked.Goals as goal
 
-pub returns-in-Absent-received : goal.returns-in-Absent-received
-returns-in-Absent-received c =
-    let a = c.args in
-    none-asked a.payload.now _ c.in-Absent.is c.in-Absent-received.is
+pub returns-in-None-None : goal.returns-in-None-None
+returns-in-None-None c = none-asked _ _ c.in-None-None.is-0 c.in-None-None.is-1
 
-pub returns-in-At-received : goal.returns-in-At-received
-returns-in-At-received c =
-    let received = c in
-    let sent = received in
-    received-asked sent.args.payload.now _ _ c.limit_for.ensures
-    sent.in-Absent.is received.in-At-received.is c.bits_at.ensures
+pub returns-in-None-Some : goal.returns-in-None-Some
+returns-in-None-Some c =
+    received-asked _ _ _ c.limit_for.ensures c.in-None-Some.is-0 c.in-None-Some.is-1 c.bits_at.ensures
 
-pub returns-in-Absent-received-2 : goal.returns-in-Absent-received-2
-returns-in-Absent-received-2 c =
-    let bits = c in
-    let sent = bits in
-    sent-asked sent.args.payload.now _ _ c.limit_for-in-Absent-received-2.ensures
-    sent.in-At.is c.in-Absent-received-2.is bits.bits_at-bits.ensures
+pub returns-in-Some-None : goal.returns-in-Some-None
+returns-in-Some-None c =
+    sent-asked _ _ _ c.limit_for-in-Some-None.ensures c.in-Some-None.is-0 c.in-Some-None.is-1
+    c.bits_at-in-Some-None.ensures
 
-pub returns-in-At-received-2 : goal.returns-in-At-received-2
-returns-in-At-received-2 c =
-    let more = c in
-    let received = more in
-    let bits = received in
-    let sent = bits in
-    both-asked sent.args.payload.now _ _ c.limit_for-in-At-received-2.ensures _ _
-    sent.in-At.is received.in-At-received-2.is bits.bits_at-bits.ensures more.bits_at-in-At-received-2.ensures
-    c.fewer.ensures
+pub returns-in-Some-Some : goal.returns-in-Some-Some
+returns-in-Some-Some c =
+    both-asked _ _ _ c.limit_for-in-Some-Some.ensures _ _ c.in-Some-Some.is-0 c.in-Some-Some.is-1
+    c.bits_at-in-Some-Some.ensures c.bits_at-in-Some-Some-2.ensures c.min.ensures

@@ -1,22 +1,11 @@
--- `octets::find` meets its promise: the octets passed, and the place in what is left. Assumes nothing.
-use borrow.Author.Rules.{rules}
-use native.Mathlib.Nat.{zero-add}
-use Rattle.octets.proofs.Words.{place_here, place-more, place-done}
+-- `octets::find` meets its promise: the place that the library finds. Assumes nothing.
+use Rattle.std.proofs.Common.{rules, tests, ◌∙◌}
+use Rattle.std.proofs.lemmas.Iterator.{YieldsList-from_slice}
+use Rattle.std.proofs.lemmas.Iterator.Search.{position_from_yields_List}
+use Rattle.octets.proofs.Words.{place-found}
 use Rattle.octets.proofs.find.Goals as goal
 
-pub loop-i-init : goal.loop-i-init
-loop-i-init c = (search rules, zero-add _)
-
-pub returns-then-s-i : goal.returns-then-s-i
-returns-then-s-i c =
-    place_here _ _ _ c.loop-i.invariant.1 c.loop-i-test.true c.if-s-i.true
-
-pub loop-i-preserved : goal.loop-i-preserved
-loop-i-preserved c = (
-  search rules,
-  place-more _ _ _ c.loop-i.invariant.1 c.loop-i-test.true
-      c.if-s-i.false,
-)
-
 pub returns : goal.returns
-returns c = place-done _ _ _ c.loop-i.invariant.1 c.loop-i-test.false
+returns c = c.unwrap_or.ensures ∙ place-found c.args.octet c.args.s.now
+    (position_from_yields_List _ _ _ c.position.result c.position.ensures.ran (YieldsList-from_slice c.args.s.now cc)
+    (λ x b q k. search (rules, tests)))

@@ -5,4 +5,4 @@ use Rattle.octets.proofs.part.Goals as goal
 pub returns : goal.returns
 returns c =
     let a = c.args in
-    part-is a.from a.end a.s.now c.fewer-last.ensures c.fewer-first.ensures
+    part-is a.from a.end a.s.now c.min-last.ensures c.min-first.ensures

@@ -1,33 +1,27 @@
 -- `params::room_for` meets its promise: the row of the identifier, its lengths, then whether the part is there already.
 -- Assumes nothing.
 use mathlib.Core.Path.{sym, ap, ◌∙◌}
-use Rattle.params.specs.Walk.{is_absent}
+use mathlib.Core.Bool.{not}
+use Rattle.std.specs.Prelude.{is_none}
 use Rattle.params.proofs.Kept.{room-there, room-repeat, room-length, room-none}
-use borrow.Author.Rules.{rules}
 use Rattle.params.proofs.room_for.Goals as goal
+use Rattle.params.proofs.room_for.Goals.{else-allows-via-then-allows+else-is_none, else-allows-via-else-allows}
 
-pub returns-then-is_absent : goal.returns-then-is_absent
-returns-then-is_absent c =
+pub returns-in_err-row : goal.returns-in_err-row
+returns-in_err-row c =
     let a = c.args in
-    let absent = sym (ap is_absent c.part_at.ensures) ∙ sym c.is_absent.ensures in
-    room-there a.table a.parts a.id a.len _ _ c.place_of-place.ensures (search rules) c.if-place-lt-ROWS.true
-    (sym c.allows.ensures ∙ c.if-allows.true) (absent ∙ c.if-is_absent.true)
+    rw c.from_residual.ensures (room-none a.table a.parts a.id a.len (sym c.row_of.ensures ∙ c.in_err-row.was))
 
-pub returns-else-is_absent : goal.returns-else-is_absent
-returns-else-is_absent c =
+pub returns-then-is_none : goal.returns-then-is_none
+returns-then-is_none c =
     let a = c.args in
-    let absent = sym (ap is_absent c.part_at.ensures) ∙ sym c.is_absent.ensures in
-    room-repeat a.table a.parts a.id a.len _ _ c.place_of-place.ensures (search rules) c.if-place-lt-ROWS.true
-    (sym c.allows.ensures ∙ c.if-allows.true) (absent ∙ c.if-is_absent.false)
+    room-there a.table a.parts a.id a.len _ (sym c.row_of.ensures ∙ c.in_ok-row.was) _
+    (sym c.allows.ensures ∙ c.if-allows.true) (sym (ap is_none c.part_at.ensures) ∙ ap not c.if-is_none.ensures)
 
 pub returns-else-allows : goal.returns-else-allows
 returns-else-allows c =
     let a = c.args in
-    room-length a.table a.parts a.id a.len _ _ c.place_of-place.ensures (search rules) c.if-place-lt-ROWS.true
-    (sym c.allows.ensures ∙ c.if-allows.false)
-
-pub returns-else-place-lt-ROWS : goal.returns-else-place-lt-ROWS
-returns-else-place-lt-ROWS c =
-    let a = c.args in
-    room-none a.table a.parts a.id a.len (record { id = 0; least = 0; most = 0 }) _ c.place_of-place.ensures (search rules)
-    c.if-place-lt-ROWS.false
+    elim c.else-allows.branch [
+      | else-allows-via-then-allows+else-is_none w ↦ room-repeat a.table a.parts a.id a.len _ (sym c.row_of.ensures ∙ c.in_ok-row.was) (sym (ap is_none w.part_at.ensures) ∙ ap not w.if-is_none.ensures)
+      | else-allows-via-else-allows w ↦ room-length a.table a.parts a.id a.len _ (sym c.row_of.ensures ∙ c.in_ok-row.was) _ (sym c.allows.ensures ∙ w.if-allows.false)
+    ]

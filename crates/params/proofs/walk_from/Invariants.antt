@@ -1,4 +1,4 @@
--- `params::walk_from` meets its promise: what is left from the place on comes to the same as all. The measure is what
+-- `params::walk_from` meets its promise: what is left from the cursor on comes to the same as all. The measure is what
 -- is left of the length. Assumes nothing.
 use mathlib.Core.Path.{◌≡◌}
 use Prim.Native.Nat.{◌-◌}
@@ -8,10 +8,10 @@ use Rattle.params.specs.Walk.{found_from}
 use Rattle.params.proofs.Kept.{kept_from}
 use Rattle.params.proofs.walk_from.Given as goal
 
-abbrev pub invariant-loop-parts : goal.invariant-loop-parts
-invariant-loop-parts l =
+abbrev pub invariant-loop-triple : goal.invariant-loop-triple
+invariant-loop-triple l =
     (length l.table ≡ 5)
-    × (kept_from l.table l.parts l.at (triples_of (drop l.at l.s)) ≡ found_from l.start l.table (checked l.table (triples_of (drop l.start l.s))))
+    × (kept_from l.table l.parts l.reader.cursor (triples_of (drop l.reader.cursor l.reader.frame.now)) ≡ found_from l.start l.table (checked l.table (triples_of (drop l.start l.s))))
 
-abbrev pub decreases-loop-parts : goal.decreases-loop-parts
-decreases-loop-parts l = length l.s - l.at
+abbrev pub decreases-loop-triple : goal.decreases-loop-triple
+decreases-loop-triple l = length l.reader.frame.now - l.reader.cursor

@@ -1,6 +1,5 @@
 -- `receiver::copy` meets its promise: what was copied so far stands there. Assumes nothing.
 use mathlib.Core.Path.{◌≡◌}
-use Prim.Native.Nat.{◌-◌, ◌≤◌}
 use lib.ListN.{length, take}
 use lib.Seq.{sets}
 use Rattle.receiver.specs.Pieces.{Plain}
@@ -8,7 +7,4 @@ use Rattle.receiver.proofs.copy.Given as goal
 
 abbrev pub invariant-loop-i : goal.invariant-loop-i
 invariant-loop-i l =
-    (l.i ≤ l.most) × Plain (take l.i l.s) × (l.store ≡ sets l.initial.store l.at (take l.i l.s)) × (length l.store ≡ length l.initial.store)
-
-abbrev pub decreases-loop-i : goal.decreases-loop-i
-decreases-loop-i l = l.most - l.i
+    Plain (take l.i l.s) × (l.store ≡ sets l.initial.store l.at (take l.i l.s)) × (length l.store ≡ length l.initial.store)

@@ -8,7 +8,7 @@ use Rattle.receiver.proofs.listen.Given as goal
 
 abbrev pub invariant-loop-at : goal.invariant-loop-at
 invariant-loop-at l =
-    Passes (held_of l.initial.r l.initial.store) l.run l.at (held_of l.r l.store) × (l.out ≡ l.initial.out)
+    Passes (held_of l.initial.receiver l.initial.store) l.run l.at (held_of l.receiver l.store) × (l.out ≡ l.initial.out)
 
 abbrev pub decreases-loop-at : goal.decreases-loop-at
 decreases-loop-at l = length l.run - l.at

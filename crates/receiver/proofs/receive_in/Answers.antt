@@ -8,25 +8,22 @@ pub returns-then-not-is_limit : goal.returns-then-not-is_limit
 returns-then-not-is_limit c =
     refused-call NotAllowed
     (no-limit _ _ _ _ (sym c.is_limit.ensures ∙ c.if-not-is_limit.true))
-    c.refuse.ensures
 
 pub returns-then-store-ne-PLACES : goal.returns-then-store-ne-PLACES
 returns-then-store-ne-PLACES c =
     let limit = sym c.is_limit.ensures ∙ c.if-not-is_limit.false in
-    refused-call NotAllowed (no_store _ _ _ _ limit c.if-store-ne-PLACES.true) c.refuse-then-store-ne-PLACES.ensures
+    refused-call NotAllowed (no_store _ _ _ _ limit c.if-store-ne-PLACES.true)
 
 pub returns-then-receiver-gt-PLACES : goal.returns-then-receiver-gt-PLACES
 returns-then-receiver-gt-PLACES c =
     let limit = sym c.is_limit.ensures ∙ c.if-not-is_limit.false in
     refused-call NotAllowed (no_record _ _ _ _ limit c.if-store-ne-PLACES.false c.if-receiver-gt-PLACES.true)
-    c.refuse-then-receiver-gt-PLACES.ensures
 
 pub returns-then-out-frame_most : goal.returns-then-out-frame_most
 returns-then-out-frame_most c =
     let limit = sym c.is_limit.ensures ∙ c.if-not-is_limit.false in
     let room = rw c.frame_most.ensures at c.if-out-frame_most.true in
     refused-call NoRoom (no_room _ _ _ _ limit c.if-store-ne-PLACES.false c.if-receiver-gt-PLACES.false room)
-    c.refuse-then-out-frame_most.ensures
 
 pub listen-requires : goal.listen-requires
 listen-requires c =

@@ -4,13 +4,10 @@ use Rattle.octets.proofs.Rules.{tests}
 use Rattle.salvage.proofs.decide.Goals as goal
 
 pub returns-then-closed : goal.returns-then-closed
-returns-then-closed c = search (tests, sym c.pass.ensures, c.if-closed.true, c.in-Nothing.is)
+returns-then-closed c = search (tests, sym c.pass.ensures, c.if-closed.true, c.in-None.is)
 
 pub returns-else-closed : goal.returns-else-closed
-returns-else-closed c = search (tests, c.if-closed.false, c.in-Nothing.is)
+returns-else-closed c = search (tests, c.if-closed.false, c.in-None.is)
 
-pub returns-in-HandedOut : goal.returns-in-HandedOut
-returns-in-HandedOut c = search (tests, sym c.judge.ensures, c.in-HandedOut.is)
-
-pub returns-in-Refused : goal.returns-in-Refused
-returns-in-Refused c = search (tests, c.in-Refused.is)
+pub returns-in-Some : goal.returns-in-Some
+returns-in-Some c = search (tests, sym c.judge.ensures, c.in-Some.is)

@@ -7,12 +7,11 @@ use Rattle.salvage.proofs.read.Goals as goal
 
 pub returns-then-not-is_allowed : goal.returns-then-not-is_allowed
 returns-then-not-is_allowed c =
-    rw c.refuse.ensures (read-refused _ _ _ _ (sym c.is_allowed.ensures ∙ c.if-not-is_allowed.true))
+    read-refused _ _ _ _ (sym c.is_allowed.ensures ∙ c.if-not-is_allowed.true)
 
 pub returns-then-not-has_room : goal.returns-then-not-has_room
 returns-then-not-has_room c =
-    rw c.refuse-then-not-has_room.ensures
-    (read-room _ _ _ _ (sym c.is_allowed.ensures ∙ c.if-not-is_allowed.false) (sym c.has_room.ensures ∙ c.if-not-has_room.true))
+    read-room _ _ _ _ (sym c.is_allowed.ensures ∙ c.if-not-is_allowed.false) (sym c.has_room.ensures ∙ c.if-not-has_room.true)
 
 pub work-requires : goal.work-requires
 work-requires c =

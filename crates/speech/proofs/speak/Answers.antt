@@ -1,17 +1,17 @@
--- `speech::speak` meets its promise: each way out, by the tests that lead to it. Assumes nothing.
+-- `speech::speak` meets its promise: silence, and a frame. Assumes nothing.
 use mathlib.Core.Path.{sym, ◌∙◌}
 use Rattle.speech.proofs.Said.{silent-spoken, laid-spoken}
 use Rattle.speech.proofs.speak.Goals as goal
 
 pub returns-then-is_silent : goal.returns-then-is_silent
 returns-then-is_silent c =
-    let a = c.args in
-    silent-spoken a.device a.say (sym c.is_silent.ensures ∙ c.if-is_silent.true)
+    record { all = silent-spoken c.args.device c.args.say (sym c.is_silent.ensures ∙ c.if-is_silent.true); few = tt }
 
 pub returns : goal.returns
 returns c =
-    let paid = c in
-    let test = paid in
-    let a = test.args in
-    laid-spoken a.device a.say (sym test.is_silent.ensures ∙ test.if-is_silent.false) paid.payload_of-payload.result
-    c.control_of.ensures paid.payload_of-payload.ensures c.laid.ensures
+    let silent = sym c.is_silent.ensures ∙ c.if-is_silent.false in
+    let b = c.octets.ensures.all ∙ c.payload_of-payload.ensures in
+    record {
+      all = laid-spoken c.args.device c.args.say silent c.control_of.ensures b c.laid.ensures.all;
+      few = c.laid.ensures.few;
+    }

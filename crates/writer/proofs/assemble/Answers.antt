@@ -12,5 +12,4 @@ pub returns : goal.returns
 returns c =
     assembled _ _ _ _ c.requires
     c.put.ensures c.put-2.ensures c.put_all.ensures
-    c.check-check.ensures c.put-3.ensures
-    c.put-4.ensures
+    c.check.ensures (rw c.to_le_bytes.ensures at c.put-3.ensures) (rw c.to_le_bytes.ensures at c.put-4.ensures)

@@ -18,8 +18,8 @@ returns-then-d-room c =
     let d = a.d.now in
     sym (le-ltb a.room (length (between d)) (omega (arith, length-between d, on_line-short d)))
 
-pub loop-i-init : goal.loop-i-init
-loop-i-init c = omega (arith, length-between c.args.d.now)
+pub loop-b-init : goal.loop-b-init
+loop-b-init c = omega (arith, length-between c.args.d.now)
 
 pub overflow_add-len-then-is_special : goal.overflow_add-len-then-is_special
 overflow_add-len-then-is_special c =
@@ -31,14 +31,14 @@ returns-then-room-len c =
     let a = c.args in
     let d = a.d.now in
     let two = special-two _ (sym c.is_special.ensures ∙ c.if-is_special.true) in
-    let more = more-long d c.loop-i.i c.loop-i-test.true in
-    let left = on_line-long (drop (c.loop-i.i + 1) d) in
-    sym (lt-ltb a.room (length (between d)) (omega (arith, length-drop (c.loop-i.i + 1) d)))
+    let more = more-long d c.loop-b.b-index c.loop-b-test.true in
+    let left = on_line-long (drop (c.loop-b.b-index + 1) d) in
+    sym (lt-ltb a.room (length (between d)) (omega (arith, length-drop (c.loop-b.b-index + 1) d)))
 
-pub loop-i-preserved : goal.loop-i-preserved
-loop-i-preserved c =
+pub loop-b-preserved : goal.loop-b-preserved
+loop-b-preserved c =
     let told = sym c.is_special.ensures in
-    let more = more-long c.args.d.now c.loop-i.i c.loop-i-test.true in
+    let more = more-long c.args.d.now c.loop-b.b-index c.loop-b-test.true in
     elim c.if-is_special.branch [
       | then-is_special+else-room-len w ↦ let two = special-two _ (told ∙ w.if-is_special.true) in omega arith
       | else-is_special w ↦ let one = other-one _ (told ∙ w.if-is_special.false) in omega arith
@@ -47,5 +47,5 @@ loop-i-preserved c =
 pub returns : goal.returns
 returns c =
     let a = c.args in
-    let done = line-done a.d.now c.loop-i.i c.loop-i-test.false in
+    let done = line-done a.d.now c.loop-b.b-index c.loop-b-test.false in
     ap (ltb a.room) (omega (arith, ap length done))

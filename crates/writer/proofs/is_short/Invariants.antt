@@ -6,8 +6,5 @@ use lib.ListN.{length, drop}
 use Rattle.frame.specs.Line.{on_line, between}
 use Rattle.writer.proofs.is_short.Given as goal
 
-abbrev pub invariant-loop-i : goal.invariant-loop-i
-invariant-loop-i l = l.len + length (on_line (drop l.i l.d)) ≡ length (between l.d) + (length l.d - l.i)
-
-abbrev pub decreases-loop-i : goal.decreases-loop-i
-decreases-loop-i l = length l.d - l.i
+abbrev pub invariant-loop-b : goal.invariant-loop-b
+invariant-loop-b l = l.len + length (on_line (drop l.b-index l.d)) ≡ length (between l.d) + (length l.d - l.b-index)

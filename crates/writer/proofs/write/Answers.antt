@@ -17,7 +17,7 @@ returns-then-payload-le-PAYLOAD_MOST c =
     let limit = sym c.is_limit.ensures ∙ c.if-not-is_limit.false in
     let least = (is-limit-exactly _).0 limit in
     hands-is (sym (payload-fits _ limit _ _ _ _ (omega arith)))
-    c.write_short.ensures
+    c.write_in.ensures
 
 pub returns-then-limit-le-LIMIT_LEAST : goal.returns-then-limit-le-LIMIT_LEAST
 returns-then-limit-le-LIMIT_LEAST c =
@@ -29,14 +29,14 @@ returns-then-limit-payload c =
     let limit = sym c.is_limit.ensures ∙ c.if-not-is_limit.false in
     refused PayloadTooLong (payload-long _ limit _ _ _ _ (omega arith))
 
-pub write_long-requires : goal.write_long-requires
-write_long-requires c =
+pub write_in-requires-2 : goal.write_in-requires-2
+write_in-requires-2 c =
     let limit = sym c.is_limit.ensures ∙ c.if-not-is_limit.false in
     let most = (is-limit-exactly _).0 limit in
-    omega arith
+    (omega arith, omega arith)
 
 pub returns : goal.returns
 returns c =
     let limit = sym c.is_limit.ensures ∙ c.if-not-is_limit.false in
     hands-is (sym (payload-fits _ limit _ _ _ _ (omega arith)))
-    c.write_long.ensures
+    c.write_in-2.ensures

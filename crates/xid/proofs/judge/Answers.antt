@@ -11,8 +11,8 @@ returns-then-scan_matches c =
     meant-scan _ a.payload.now a.parts (sym scan.is_scan.ensures ∙ scan.if-is_scan.true)
     (sym c.scan_matches.ensures ∙ c.if-scan_matches.true)
 
-pub returns-then-is_scan : goal.returns-then-is_scan
-returns-then-is_scan c =
+pub returns-else-scan_matches : goal.returns-else-scan_matches
+returns-else-scan_matches c =
     let scan = c in
     let a = scan.args in
     meant-other _ a.payload.now a.parts (sym scan.is_scan.ensures ∙ scan.if-is_scan.true)
@@ -26,8 +26,8 @@ assign-requires c =
 pub returns-then-assignment_shape : goal.returns-then-assignment_shape
 returns-then-assignment_shape c = c.assign.ensures
 
-pub returns : goal.returns
-returns c =
+pub returns-else-assignment_shape : goal.returns-else-assignment_shape
+returns-else-assignment_shape c =
     let scan = c in
     let a = scan.args in
     let shaped = sym (assignment-shaped a.payload.now a.parts) in

@@ -1,38 +1,24 @@
--- `xid::under_mask` meets its promise: what is left, masked, is what is left of the value exactly if all is.
--- Assumes nothing.
+-- `xid::under_mask` meets its promise: octet by octet, where the value is as long. Assumes nothing.
 use borrow.Author.Rules.{rules}
-use mathlib.Core.Path.{refl, sym, ◌∙◌}
-use Rattle.compare.proofs.Laws.{same-differ}
-use Rattle.xid.proofs.Octetwise.{length-masked, masked-not, masked-more, masked-done}
+use borrow.Author.Tests.{tests, ne_eqb}
+use mathlib.Core.Path.{◌∙◌}
+use Prim.Native.Nat.{ℕ}
+use lib.Bits.{bit_and}
+use lib.Dec.{eqb}
+use Rattle.std.proofs.lemmas.Iterator.{YieldsList-from_slice, YieldsList-from_zip}
+use Rattle.std.proofs.lemmas.Iterator.Search.{all_from_yields_List}
+use Rattle.xid.proofs.Octetwise.{masked-zip, masked-differ}
 use Rattle.xid.proofs.under_mask.Goals as goal
 
-pub returns-then-value-n : goal.returns-then-value-n
-returns-then-value-n c =
+pub returns-then-value-min : goal.returns-then-value-min
+returns-then-value-min c =
     let a = c.args in
-    let long = length-masked a.s.now a.mask.now ∙ sym c.fewer-n.ensures in
-    sym (same-differ _ _ (λ e. c.if-value-n.true (sym e ∙ long)))
+    all_from_yields_List (λ (p : (ℕ × ℕ) × ℕ). eqb (bit_and p.0.0 p.0.1) p.1) c.all.new.self _ c.all.result c.all.ensures.ran
+    (YieldsList-from_zip (YieldsList-from_zip (YieldsList-from_slice a.s.now cc) (YieldsList-from_slice a.mask.now cc)) (YieldsList-from_slice a.value.now cc))
+    (λ x b q k. search (rules, tests))
+    ∙ masked-zip a.s.now a.mask.now a.value.now (search rules)
 
-pub loop-i-init : goal.loop-i-init
-loop-i-init c = (search rules, refl)
-
-pub returns-then-s-i : goal.returns-then-s-i
-returns-then-s-i c =
-    let test = c in
-    let a = test.args in
-    masked-not a.s.now a.mask.now a.value.now _ test.loop-i.invariant.1 (search rules) (search rules)
-    (search rules) c.if-s-i.true
-
-pub loop-i-preserved : goal.loop-i-preserved
-loop-i-preserved c =
-    let test = c in
-    let a = test.args in (
-      search rules,
-      masked-more a.s.now a.mask.now a.value.now test.loop-i.i test.loop-i.invariant.1
-          (search rules) (search rules) (search rules) c.if-s-i.false,
-    )
-
-pub returns : goal.returns
-returns c =
+pub returns-else-value-min : goal.returns-else-value-min
+returns-else-value-min c =
     let a = c.args in
-    masked-done a.s.now a.mask.now a.value.now c.loop-i.i c.loop-i.invariant.1
-    (search rules) (search rules)
+    ne_eqb _ _ c.if-value-min.false ∙ masked-differ a.s.now a.mask.now a.value.now (search rules)

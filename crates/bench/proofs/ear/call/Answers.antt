@@ -10,4 +10,4 @@ returns c =
     let front = receive in
     let part = front in
     let a = part.args in
-    ear-held (ear_of a.ear) a.asked part.part-run.ensures front.front.ensures receive.receive-received.ensures
+    ear-held (ear_of a.ear) a.asked part.part-run.ensures front.front.ensures receive.receive-heard.ensures
