@@ -16,6 +16,7 @@ use Rattle.antenna.specs.declared.Alarms.{Alarms}
 use Rattle.antenna.specs.declared.Angle.{Angle}
 use Rattle.antenna.specs.declared.Antenna.{Antenna}
 use Rattle.record.specs.declared.Plate.{Plate}
+use Rattle.octets.specs.Text.{laid}
 use Rattle.payload.specs.Payloads.{payload_of, message_of, success_of, failure_of}
 use Rattle.message.specs.declared.Carried.{Carried}
 use Rattle.message.specs.Messages.{code_of, asked_of, checks}
@@ -28,7 +29,7 @@ octet_at i r = get_or (payload_in r).octets i 0
 module _ (p : Plate) (n : Antenna) (told : Alarms) (sub : Bool) where
   -- what is done is never answered by a failure: its fourth octet is 0x00
   done-says : (c : ℕ) (t : Angle) → octet_at 3 (done_by p n told sub c t) ≡ 0
-  unfolding done_by replies unanswered payload_of success_of message_of ◌at_start_of◌
+  unfolding done_by replies unanswered laid success_of message_of ◌at_start_of◌
   done-says c t =
       go (eqb c 0x04) refl (eqb c 0x05) refl (eqb c 0x06) refl (eqb c 0x12) refl (eqb c 0x33) refl (eqb c 0x34) refl
     where
@@ -44,11 +45,11 @@ module _ (p : Plate) (n : Antenna) (told : Alarms) (sub : Bool) where
       go false e₁ false e₂ false e₃ false e₄ false e₅ false e₆ = rw (e₁, e₂, e₃, e₄, e₅, e₆)
 
   failure-says : (c k : ℕ) → octet_at 3 (replies (failure_of c k) n told sub) ≡ 0x0B
-  unfolding replies payload_of failure_of ◌at_start_of◌
+  unfolding replies laid failure_of ◌at_start_of◌
   failure-says c k = refl
 
   failure-why : (c k : ℕ) → octet_at 4 (replies (failure_of c k) n told sub) ≡ k
-  unfolding replies payload_of failure_of ◌at_start_of◌
+  unfolding replies laid failure_of ◌at_start_of◌
   failure-why c k = refl
 
   module _ (m : List ℕ) (k : ℕ) where

@@ -21,6 +21,7 @@ use Rattle.antenna.specs.Alarms.{alarm_codes, codes_of}
 use Rattle.antenna.specs.Motions.{in_range, busy_of, owes_of, started, moves}
 use Rattle.record.specs.declared.Plate.{Plate}
 use Rattle.record.specs.Desk.{calm}
+use Rattle.octets.specs.Text.{laid}
 use Rattle.payload.specs.Payloads.{payload_of, success_of, failure_of}
 use Rattle.payload.proofs.Laws.{length-success}
 use Rattle.report.proofs.Counts.{length-codes}
@@ -185,7 +186,7 @@ module _ (p : Plate) (n : Antenna) (told : Alarms) (sub : Bool) (m : List ℕ) w
 
   -- every payload fits: 74 octets at most
   pub carried-fits : length (success_of 0x05 (information_of p)) ≤ 74 → (payload_in (carried_of p n told sub m)).len ≤ 74
-  unfolding replies unanswered payload_of
+  unfolding replies unanswered laid
   carried-fits h =
       carried-cases (λ r. (payload_in r).len ≤ 74) (λ few. omega arith)
       (λ b. ⊎_elim (λ few. omega (arith, few)) (λ e. omega (arith, h, ap length e)))

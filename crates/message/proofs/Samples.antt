@@ -14,6 +14,7 @@ use Rattle.antenna.specs.Angles.{at_most}
 use Rattle.antenna.specs.Motions.{in_range, started, moves}
 use Rattle.record.specs.declared.Plate.{Plate}
 use Rattle.record.specs.Desk.{calm}
+use Rattle.octets.specs.Text.{laid}
 use Rattle.payload.specs.Payloads.{payload_of, success_of, failure_of, message_of}
 use Rattle.tilt.specs.Tilts.{tilt_octets, angle_of}
 use Rattle.message.specs.declared.Carried.{Carried}
@@ -41,7 +42,7 @@ module _ (p : Plate) where
   -- "Tilt -15: get tilt gives 34 03 00 00 F1 FF"
   pub get-minus-15 : said (carried_of p (at_rest (negsuc 14)) calm false (0x34 ∷ 0x00 ∷ 0x00 ∷ []))
       ≡ 0x34 ∷ 0x03 ∷ 0x00 ∷ 0x00 ∷ 0xF1 ∷ 0xFF ∷ []
-  unfolding carried_of outcome answered checks drive_checks holds in_table taken_by done_by replies payload_of
+  unfolding carried_of outcome answered checks drive_checks holds in_table taken_by done_by replies laid
       success_of message_of tilt_octets ◌at_start_of◌
   get-minus-15 = refl
 
@@ -55,11 +56,11 @@ module _ (p : Plate) where
   -- 101 is out of range, and a data length of 1 is not the defined one
   pub set-101 : said (carried_of p (at_rest (pos 0)) calm false (0x33 ∷ 0x02 ∷ 0x00 ∷ 0x65 ∷ 0x00 ∷ []))
       ≡ 0x33 ∷ 0x02 ∷ 0x00 ∷ 0x0B ∷ 0x13 ∷ []
-  unfolding carried_of outcome answered checks drive_checks holds in_table taken_by in_range at_most replies payload_of
+  unfolding carried_of outcome answered checks drive_checks holds in_table taken_by in_range at_most replies laid
       failure_of angle_of ◌at_start_of◌
   set-101 = refl
 
   pub set-short : said (carried_of p (at_rest (pos 0)) calm false (0x33 ∷ 0x01 ∷ 0x00 ∷ 0x32 ∷ []))
       ≡ 0x33 ∷ 0x02 ∷ 0x00 ∷ 0x0B ∷ 0x24 ∷ []
-  unfolding carried_of outcome answered checks drive_checks holds in_table taken_by replies payload_of failure_of ◌at_start_of◌
+  unfolding carried_of outcome answered checks drive_checks holds in_table taken_by replies laid failure_of ◌at_start_of◌
   set-short = refl
