@@ -1,7 +1,7 @@
 -- What is answered is answered by the device as the message leaves it. Assumes nothing.
 use mathlib.Core.Path.{◌≡◌, ◌∙◌}
 use Rattle.std.specs.Prelude.{Option, Some}
-use Rattle.record.specs.declared.Payload.{Payload}
+use Rattle.record.specs.Desk.{Payload}
 use Rattle.record.specs.declared.Session.{Session}
 use Rattle.record.specs.declared.Device.{Device}
 use Rattle.record.specs.Changes.{device_of}

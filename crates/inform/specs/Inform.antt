@@ -5,7 +5,7 @@
 -- Assumes nothing.
 use Rattle.std.specs.Prelude.{Bool, cond, List, ℕ, Option, Some, None}
 use Rattle.antenna.specs.declared.Alarms.{Alarms}
-use Rattle.record.specs.declared.Payload.{Payload}
+use Rattle.record.specs.Desk.{Payload}
 use Rattle.record.specs.declared.Session.{Session}
 use Rattle.record.specs.declared.Link.TheVariants.{Connected}
 use Rattle.record.specs.declared.Station.{Station}
