@@ -3,8 +3,8 @@ use mathlib.Core.Path.{◌≡◌, ap}
 use mathlib.Core.Bool.{true, false}
 use mathlib.Core.List.{List}
 use Prim.Native.Nat.{ℕ}
+use Rattle.std.specs.Prelude.{None}
 use Rattle.control.specs.declared.Order.TheVariants.{Rr}
-use Rattle.antenna.specs.declared.Waits.TheVariants.{Nothing}
 use Rattle.antenna.specs.Motions.{waiting_of}
 use Rattle.record.specs.declared.Pending.TheVariants.{Indication}
 use Rattle.record.specs.declared.Session.{Session}
@@ -25,7 +25,7 @@ use Rattle.conduct.specs.Comes as come
 use Rattle.conduct.proofs.Comes.{comes-so}
 
 module _ (d : Device) (f : List ℕ) (r : ℕ) (s : Session) (w : Numbered d f (Rr r) r s)
-    (free : pends (session_after s r).pending ≡ false) (none : waiting_of d.antenna.motion ≡ Nothing)
+    (free : pends (session_after s r).pending ≡ false) (none : waiting_of d.antenna.motion ≡ None)
     (news : to_tell (station_after d.station s r).desk d.antenna.drive ≡ true) where
   pub indication-sent : judged_frame d f
       ≡ saying

@@ -51,6 +51,7 @@ module _ (d : Device) (f : List ℕ) where
         ns = w.ns;
         nr = w.nr;
         frame = w.frame;
+        payload = payload_of (success_of 0x06 []);
         answers = ap (λ (c : Carried). c.reply) (clear-clears _ _ _ _ (drop 2 f) w.message);
       }
 
@@ -62,6 +63,7 @@ module _ (d : Device) (f : List ℕ) where
         ns = w.ns;
         nr = w.nr;
         frame = w.frame;
+        payload = payload_of (success_of 0x12 []);
         answers = ap (λ (c : Carried). c.reply) (subscribe-subscribes _ _ _ _ (drop 2 f) w.message);
       }
 
@@ -117,7 +119,7 @@ module _ (d : Device) (f : List ℕ) where
     left-cases (Comes.subscribes s n r w m) =
         subscribed (record { session = s; ns = n; nr = r; frame = w; message = m })
     left-cases (Comes.answers s n r b w e) =
-        answered (record { session = s; ns = n; nr = r; frame = w; answers = ap (λ (c : Carried). c.reply) e }) b
+        answered (record { session = s; ns = n; nr = r; frame = w; payload = payload_of b; answers = ap (λ (c : Carried). c.reply) e }) b
     left-cases (Comes.murmurs s n r w h) = heeded s n r w
     left-cases (Comes.repeats s n r w a) = relieved (Info n r) r s refl w
     left-cases (Comes.resends s r w p) = relieved (Rr r) r s refl w

@@ -10,11 +10,11 @@ use Prim.Native.Nat.{ℕ}
 use lib.ListN.{drop}
 use Rattle.antenna.specs.declared.Alarms.{Alarms}
 use Rattle.antenna.specs.declared.Antenna.{Antenna}
-use Rattle.antenna.specs.declared.Waits.{Waits}
-use Rattle.antenna.specs.declared.Waits.TheVariants.{Nothing, Result}
+use Rattle.std.specs.Prelude.{Option, Some, None, unwrap_or}
 use Rattle.antenna.specs.Motions.{waiting_of}
 use Rattle.control.specs.declared.Order.{Order}
 use Rattle.control.specs.declared.Order.TheVariants.{Info, Rr, Rnr}
+use Rattle.record.specs.declared.Payload.{Payload}
 use Rattle.record.specs.declared.Pending.{Pending}
 use Rattle.record.specs.declared.Pending.TheVariants.{Answer, Indication}
 use Rattle.record.specs.declared.Session.{Session}
@@ -23,7 +23,7 @@ use Rattle.record.specs.Desk.{calm, no_reply}
 use Rattle.record.specs.Changes.{unsaid_at, device_of, limited_to}
 use Rattle.session.specs.Session.{pends, acknowledges, taken}
 use Rattle.payload.specs.Payloads.{payload_of, result_of}
-use Rattle.message.specs.declared.Reply.{Reply}
+use Rattle.message.specs.Carried.{payload_in}
 use Rattle.station.specs.declared.Turn.{Turn}
 use Rattle.station.specs.Station.{awaiting, answers_with}
 use Rattle.station.specs.Turns.{saying}
@@ -49,17 +49,18 @@ module _ (d : Device) (f : List ℕ) where
   -- ---- sent
 
   pub answered-pends : (w : Answered d f) → (pending_in (after d f).station.link ≡ Answer)
-      × ((after d f).station.desk.reply ≡ (carried_here (acknowledged d w.session w.nr) (drop 2 f)).payload)
+      × ((after d f).station.desk.reply ≡ payload_in (carried_here (acknowledged d w.session w.nr) (drop 2 f)))
       × ((after d f).station.desk.said ≡ (station_after d.station w.session w.nr).desk.said)
   unfolding informed_by inform_of carried_by replied_by saying acknowledged device_of answers_with awaiting heeded
   answered-pends w =
       let s = w.session in
       let e = acknowledged d s w.nr in
       let is : judged_frame d f
-      ≡ replied_by e (taken (session_after s w.nr)) (carried_here e (drop 2 f)) Reply.Answer =
+      ≡ replied_by e (taken (session_after s w.nr)) (carried_here e (drop 2 f)) (Some w.payload) =
       info-is d f s w.ns w.nr w.frame.numbered ∙ rw (w.frame.accepted, w.answers) in (
         ap (λ (t : Turn). pending_in t.device.station.link) is,
-        ap (λ (t : Turn). t.device.station.desk.reply) is,
+        ap (λ (t : Turn). t.device.station.desk.reply) is
+            ∙ sym (ap (λ (q : Option Payload). unwrap_or q no_reply) w.answers),
         ap (λ (t : Turn). t.device.station.desk.said) is,
       )
 
@@ -114,9 +115,9 @@ module _ (d : Device) (f : List ℕ) where
           subst (λ (t : Turn). Empty t.device) (sym (info-is d f s n r w))
           (inform-cases (acknowledged d s r) (session_after s r) (λ (t : Turn). Empty t.device) n (drop 2 f)
           (λ a e. heard-empty c.antenna c.told c.subscribed)
-          (λ a e. absurd
+          (λ a q e. absurd
           (unanswered
-          (record { session = s; ns = n; nr = r; frame = record { numbered = w; accepted = a }; answers = e })))
+          (record { session = s; ns = n; nr = r; frame = record { numbered = w; accepted = a }; payload = q; answers = e })))
           (λ a. relieved-empty))
 
       rr-empty : Numbered d f (Rr r) r s → Empty (after d f)
@@ -130,13 +131,13 @@ module _ (d : Device) (f : List ℕ) where
           collects = record { session = s; nr = r; numbered = w; free = free }
 
           rests : (b : Bool) → to_tell (station_after d.station s r).desk d.antenna.drive ≡ b
-              → waiting_of d.antenna.motion ≡ Nothing → Empty (after d f)
+              → waiting_of d.antenna.motion ≡ None → Empty (after d f)
           rests true t e = absurd (untold (record { collects = collects; idle = e; news = t }))
           rests false t e = rw (comes-leaves d f (Comes.rests s r w free e t)) relieved-empty
 
-          waits : (q : Waits) → waiting_of d.antenna.motion ≡ q → Empty (after d f)
-          waits (Result b) e = absurd (undelivered b (record { collects = collects; waits = e }))
-          waits Nothing e = rests (to_tell (station_after d.station s r).desk d.antenna.drive) refl e
+          waits : (q : Option Bool) → waiting_of d.antenna.motion ≡ q → Empty (after d f)
+          waits (Some b) e = absurd (undelivered b (record { collects = collects; waits = e }))
+          waits None e = rests (to_tell (station_after d.station s r).desk d.antenna.drive) refl e
 
       rnr-empty : Numbered d f (Rnr r) r s → Empty (after d f)
       unfolding left

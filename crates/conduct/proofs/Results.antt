@@ -6,11 +6,11 @@ use mathlib.Core.Bool.{Bool, true, false}
 use mathlib.Core.List.{List}
 use mathlib.Core.Logic.{◌⊎◌, inl, inr}
 use Prim.Native.Nat.{ℕ}
+use Rattle.std.specs.Prelude.{Some, None}
 use Rattle.control.specs.declared.Order.TheVariants.{Rr}
 use Rattle.octets.proofs.Words.{true-not-false}
 use Rattle.antenna.specs.declared.Motion.{Motion}
 use Rattle.antenna.specs.declared.Motion.TheVariants.{Still, Moving, Owing, Stopped}
-use Rattle.antenna.specs.declared.Waits.TheVariants.{Nothing, Result}
 use Rattle.antenna.specs.Motions.{busy_of, owes_of, waiting_of, moves}
 use Rattle.record.specs.declared.Pending.TheVariants.{Answer}
 use Rattle.record.specs.declared.Session.{Session}
@@ -38,7 +38,7 @@ use Rattle.conduct.proofs.Ends.{drops-drop}
 -- ---- sent
 
 module _ (d : Device) (f : List ℕ) (r : ℕ) (s : Session) (reached : Bool) (w : Numbered d f (Rr r) r s)
-    (free : pends (session_after s r).pending ≡ false) (waits : waiting_of d.antenna.motion ≡ Result reached) where
+    (free : pends (session_after s r).pending ≡ false) (waits : waiting_of d.antenna.motion ≡ Some reached) where
   pub result-sent : judged_frame d f
       ≡ saying
       (device_of d (answers_with (station_after d.station s r) (session_after s r) (payload_of (result_of reached)))
@@ -59,7 +59,7 @@ module _ (d : Device) (f : List ℕ) (r : ℕ) (s : Session) (reached : Bool) (w
 
 -- ---- dropped
 
-owes-waits : (m : Motion) → owes_of m ≡ false → waiting_of m ≡ Nothing
+owes-waits : (m : Motion) → owes_of m ≡ false → waiting_of m ≡ None
 unfolding waiting_of
 owes-waits Still e = refl
 owes-waits Moving e = refl
@@ -67,21 +67,21 @@ owes-waits (Owing asked) e = refl
 owes-waits (Stopped reached) e = absurd (true-not-false e)
 
 -- a session's end drops it, and so do a first SNRM and an assignment
-pub result-dropped : (d : Device) (f : List ℕ) → Drops d f → waiting_of (after d f).antenna.motion ≡ Nothing
+pub result-dropped : (d : Device) (f : List ℕ) → Drops d f → waiting_of (after d f).antenna.motion ≡ None
 result-dropped d f w = owes-waits (after d f).antenna.motion (drops-drop d f w).owed
 
 -- ---- kept
 
-waiting-busy : (m : Motion) (reached : Bool) → waiting_of m ≡ Result reached → busy_of m ≡ true
+waiting-busy : (m : Motion) (reached : Bool) → waiting_of m ≡ Some reached → busy_of m ≡ true
 unfolding waiting_of
 waiting-busy Still reached e = cc
 waiting-busy Moving reached e = refl
 waiting-busy (Owing asked) reached e = refl
 waiting-busy (Stopped by) reached e = refl
 
-module _ (d : Device) (f : List ℕ) (reached : Bool) (waits : waiting_of d.antenna.motion ≡ Result reached) where
+module _ (d : Device) (f : List ℕ) (reached : Bool) (waits : waiting_of d.antenna.motion ≡ Some reached) where
   abbrev Kept : Type 0
-  Kept = (waiting_of (after d f).antenna.motion ≡ Result reached) ⊎ (Collects d f ⊎ Drops d f)
+  Kept = (waiting_of (after d f).antenna.motion ≡ Some reached) ⊎ (Collects d f ⊎ Drops d f)
 
   -- the motion is as it was
   stands : (c : Comes d f) → (left d f c).antenna.motion ≡ d.antenna.motion → Kept
@@ -121,5 +121,5 @@ module _ (d : Device) (f : List ℕ) (reached : Bool) (waits : waiting_of d.ante
   kept_by (pauses s r w) = stands (pauses s r w) refl
 
   -- the result waits on, or f collects it, or f drops it
-  pub result-cases : (waiting_of (after d f).antenna.motion ≡ Result reached) ⊎ (Collects d f ⊎ Drops d f)
+  pub result-cases : (waiting_of (after d f).antenna.motion ≡ Some reached) ⊎ (Collects d f ⊎ Drops d f)
   result-cases = kept_by (comes d f)

@@ -78,7 +78,7 @@ module _ (d : Device) (s : Session) (r : ℕ) (l : d.station.link ≡ Connected 
         (λ (t : Turn).
         Counted t (cond (accepts (session_after s r) n) (next_of s.r) s.r) (session_after s r).s) n m
         (λ a e. record { session = _; link = refl; due = rw (a, r-kept s r); number = refl })
-        (λ a e. record { session = _; link = refl; due = rw (a, r-kept s r); number = refl })
+        (λ a q e. record { session = _; link = refl; due = rw (a, r-kept s r); number = refl })
         (λ a. rw a (kept-counted _ refl))
 
     -- an I-frame leaves the address and the frame limit
@@ -90,7 +90,7 @@ module _ (d : Device) (s : Session) (r : ℕ) (l : d.station.link ≡ Connected 
         × (limit_of (acknowledged d s r) ≡ limit_of d) = (address_kept d s r, limit-kept d s r) in
         inform-cases (acknowledged d s r) (session_after s r)
         (λ (t : Turn). (t.device.station.desk.address ≡ d.station.desk.address) × (limit_of t.device ≡ limit_of d)) n m
-        (λ a e. kept) (λ a e. kept) (λ a. kept)
+        (λ a e. kept) (λ a q e. kept) (λ a. kept)
 
 -- the session after a frame that is read in the session s with a good N(R)
 module _ (d : Device) (f : List ℕ) (s : Session) where

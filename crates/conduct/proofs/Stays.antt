@@ -1,7 +1,7 @@
 -- An allowed record stays allowed under every frame: the device never makes a record that it would refuse.
 -- Assumes nothing.
 use Rattle.octets.specs.Text.{laid}
-use mathlib.Core.Path.{◌≡◌, refl, ap, ◌∙◌}
+use mathlib.Core.Path.{◌≡◌, refl, ap, ◌∙◌, sym}
 use mathlib.Core.Bool.{Bool, true, false, ◌&&◌}
 use mathlib.Core.List.{List}
 use Prim.Native.Nat.{ℕ}
@@ -9,12 +9,14 @@ use native.Mathlib.Omega.{arith}
 use borrow.Author.Tests.{lt-ltb}
 use lib.Dec.{leb}
 use lib.ListN.{drop}
+use Rattle.std.specs.Prelude.{Option, unwrap_or}
 use Rattle.octets.proofs.Words.{and_parts}
 use Rattle.antenna.specs.declared.Motion.TheVariants.{Still}
 use Rattle.antenna.specs.Motions.{in_range, moves}
 use Rattle.limits.specs.Limits.{is_limit}
 use Rattle.record.specs.declared.Pending.{Pending}
 use Rattle.record.specs.declared.Pending.TheVariants.{Nothing, Answer, Indication}
+use Rattle.record.specs.declared.Payload.{Payload}
 use Rattle.record.specs.declared.Session.{Session}
 use Rattle.record.specs.declared.Link.{Link}
 use Rattle.record.specs.declared.Link.TheVariants.{NoAddress, AddressAssigned, Connected}
@@ -22,7 +24,7 @@ use Rattle.record.specs.declared.Desk.{Desk}
 use Rattle.record.specs.declared.Device.{Device}
 use Rattle.record.specs.Allowed.{identity_of, limit_of, numbers_allowed, pending_fits, session_allowed, addressed}
 use Rattle.record.specs.Allowed.{link_allowed, allowed_device, reply_most}
-use Rattle.record.specs.Desk.{with_limit}
+use Rattle.record.specs.Desk.{with_limit, no_reply}
 use Rattle.record.specs.Changes.{unsaid_at, emptied_as, ended_as, limited_to}
 use Rattle.record.proofs.Stays.{sound, allowed-by, limit-allowed, emptied-stays, end_stays}
 use Rattle.control.specs.declared.AskedFor.{AskedFor}
@@ -175,8 +177,8 @@ module _ (d : Device) (s : Session) (w : Within d s) where
       inform-cases d s Good n m
       (λ a e. none_stays d s (taken s) _ m allowed w.link refl refl refl (taken-numbers s w.numbers)
       (nothing-pends s.pending ((accepts-exactly s n).0 a).0))
-      (λ a e. answer-stays d s (awaiting (taken s) Answer) _ m allowed w.link refl refl refl
-      (taken-numbers s w.numbers) refl refl)
+      (λ a q e. answer-stays d s (awaiting (taken s) Answer) _ m allowed w.link refl refl refl
+      (taken-numbers s w.numbers) refl (sym (ap (λ (o : Option Payload). unwrap_or o no_reply) e)))
       (λ e. allowed)
 
 -- ---- every frame

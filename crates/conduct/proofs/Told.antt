@@ -121,7 +121,7 @@ module _ (d : Device) (f : List ℕ) where
     unfolding informed_by replied_by saying device_of acknowledged heeded answers_with
     info-settles n w =
         inform-cases (acknowledged d s r) (session_after s r) (λ t. Clears d f ⊎ Settled s r t) n (drop 2 f)
-        (λ a e. carried a) (λ a e. carried a) (λ a. inr (refl, refl))
+        (λ a e. carried a) (λ a q e. carried a) (λ a. inr (refl, refl))
       where
         carried : accepts (session_after s r) n ≡ true
             → Clears d f

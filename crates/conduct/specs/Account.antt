@@ -7,14 +7,14 @@
 --   Continues d f s t == t is the session s after f: R moved by an acceptance alone, S by an acknowledgement alone
 --   Account d f     == what f changes of d
 -- Assumes nothing.
-use Rattle.std.specs.Prelude.{◌≡◌, Bool, true, List, ℕ, drop}
+use Rattle.std.specs.Prelude.{◌≡◌, Bool, true, List, ℕ, drop, Some, None}
 use Rattle.antenna.specs.declared.Motion.TheVariants.{Still, Owing}
-use Rattle.antenna.specs.declared.Waits.TheVariants.{Nothing, Result}
 use Rattle.antenna.specs.Motions.{waiting_of, unowed_of}
 use Rattle.control.specs.Control.{next_of}
 use Rattle.control.specs.declared.Order.TheVariants.{Snrm}
 use Rattle.record.specs.declared.Pending.{Pending}
 use Rattle.record.specs.declared.Pending.TheVariants.{Answer, Indication}
+use Rattle.record.specs.declared.Payload.{Payload}
 use Rattle.record.specs.declared.Session.{Session}
 use Rattle.record.specs.declared.Link.TheVariants.{AddressAssigned, Connected}
 use Rattle.record.specs.declared.Device.{Device}
@@ -24,7 +24,7 @@ use Rattle.params.specs.Field.{Param, WellFormed}
 use Rattle.negotiation.specs.Negotiation.{negotiating, agreed_limit}
 use Rattle.payload.specs.Payloads.{payload_of, result_of}
 use Rattle.message.specs.Messages.{asked_of}
-use Rattle.message.specs.declared.Reply.{Reply}
+use Rattle.message.specs.Carried.{payload_in}
 use Rattle.acknowledge.specs.Acknowledge.{station_after, acknowledged}
 use Rattle.poll.specs.Poll.{to_tell}
 use Rattle.inform.specs.Inform.{carried_here}
@@ -40,17 +40,18 @@ pub record Answered (d : Device) (f : List ℕ) : Type 0 where
   pub ns : ℕ
   pub nr : ℕ
   pub frame : Accepted d f session ns nr
-  pub answers : (carried_here (acknowledged d session nr) (drop 2 f)).reply ≡ Reply.Answer
+  pub payload : Payload
+  pub answers : (carried_here (acknowledged d session nr) (drop 2 f)).reply ≡ Some payload
 
 -- "else a waiting tilt result"
 pub record Delivers (d : Device) (f : List ℕ) (reached : Bool) : Type 0 where
   pub collects : Collects d f
-  pub waits : waiting_of d.antenna.motion ≡ Result reached
+  pub waits : waiting_of d.antenna.motion ≡ Some reached
 
 -- "else, if subscribed and there is something to tell, an alarm indication"
 pub record Tells (d : Device) (f : List ℕ) : Type 0 where
   pub collects : Collects d f
-  pub idle : waiting_of d.antenna.motion ≡ Nothing
+  pub idle : waiting_of d.antenna.motion ≡ None
   pub news : to_tell (station_after d.station collects.session collects.nr).desk d.antenna.drive ≡ true
 
 abbrev pub Acknowledges : Device → List ℕ → Type 0
@@ -113,7 +114,7 @@ pub record Account (d : Device) (f : List ℕ) : Type 0 where
   pub dropped : Drops d f → Dropped (after d f)
   -- an answer, a result and an indication that are sent become pending
   pub answered : (w : Answered d f) → (pending_in (after d f).station.link ≡ Answer)
-      × ((after d f).station.desk.reply ≡ (carried_here (acknowledged d w.session w.nr) (drop 2 f)).payload)
+      × ((after d f).station.desk.reply ≡ payload_in (carried_here (acknowledged d w.session w.nr) (drop 2 f)))
       × ((after d f).station.desk.said ≡ (station_after d.station w.session w.nr).desk.said)
   pub delivered : (reached : Bool) (w : Delivers d f reached) → (pending_in (after d f).station.link ≡ Answer)
       × ((after d f).station.desk.reply ≡ payload_of (result_of reached))

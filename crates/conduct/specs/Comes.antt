@@ -6,12 +6,11 @@
 --                   them, and the answer b
 --   left d f c   == the device after it; says d f c == what it says
 -- Assumes nothing.
-use Rattle.std.specs.Prelude.{◌≡◌, Bool, true, false, List, [], ◌∷◌, ℕ, ◌<◌, length, drop}
+use Rattle.std.specs.Prelude.{◌≡◌, Bool, true, false, List, [], ◌∷◌, ℕ, ◌<◌, length, drop, Some, None}
 use Rattle.std.proofs.Math.Option.{some}
 use Rattle.antenna.specs.declared.Alarms.{Alarms}
 use Rattle.antenna.specs.declared.Antenna.{Antenna}
 use Rattle.antenna.specs.declared.Motion.TheVariants.{Still, Owing}
-use Rattle.antenna.specs.declared.Waits.TheVariants.{Nothing, Result}
 use Rattle.antenna.specs.Motions.{waiting_of, moves}
 use Rattle.control.specs.declared.Order.{Order}
 use Rattle.control.specs.declared.Order.TheVariants.{Snrm, Disc, Info, Rr, Rnr, Unknown}
@@ -75,12 +74,12 @@ pub data Comes (d : Device) (f : List ℕ) : Type 0 where
   -- alarm indication; else RR."
   resends : (s : Session) (r : ℕ) → Numbered d f (Rr r) r s → pends (session_after s r).pending ≡ true → Comes d f
   delivers : (s : Session) (r : ℕ) (reached : Bool) → Numbered d f (Rr r) r s
-      → pends (session_after s r).pending ≡ false → waiting_of d.antenna.motion ≡ Result reached → Comes d f
+      → pends (session_after s r).pending ≡ false → waiting_of d.antenna.motion ≡ Some reached → Comes d f
   indicates : (s : Session) (r : ℕ) → Numbered d f (Rr r) r s → pends (session_after s r).pending ≡ false
-      → waiting_of d.antenna.motion ≡ Nothing → to_tell (station_after d.station s r).desk d.antenna.drive ≡ true
+      → waiting_of d.antenna.motion ≡ None → to_tell (station_after d.station s r).desk d.antenna.drive ≡ true
       → Comes d f
   rests : (s : Session) (r : ℕ) → Numbered d f (Rr r) r s → pends (session_after s r).pending ≡ false
-      → waiting_of d.antenna.motion ≡ Nothing → to_tell (station_after d.station s r).desk d.antenna.drive ≡ false
+      → waiting_of d.antenna.motion ≡ None → to_tell (station_after d.station s r).desk d.antenna.drive ≡ false
       → Comes d f
   -- "RNR gets RR."
   pauses : (s : Session) (r : ℕ) → Numbered d f (Rnr r) r s → Comes d f

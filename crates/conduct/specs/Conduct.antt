@@ -8,13 +8,12 @@
 --   occurs d e, occur_all d es == d after the event e; after all of es, in their order
 --   meets d m, run d ms == d after the frame or event m; after all of ms
 -- Assumes nothing.
-use Rattle.std.specs.Prelude.{◌≡◌, Bool, true, not, ◌&&◌, List, [], ◌∷◌, ℕ, drop}
+use Rattle.std.specs.Prelude.{◌≡◌, Bool, true, not, ◌&&◌, List, [], ◌∷◌, ℕ, drop, Ok}
 use Rattle.std.proofs.Math.Option.{some}
 use Rattle.refusal.specs.Answer.{state_after}
 use Rattle.control.specs.Control.{next_of}
 use Rattle.control.specs.declared.Order.{Order}
 use Rattle.control.specs.declared.Order.TheVariants.{Info}
-use Rattle.antenna.specs.declared.Aim.TheVariants.{Started}
 use Rattle.antenna.specs.Motions.{runs, started}
 use Rattle.record.specs.declared.Pending.TheVariants.{Nothing}
 use Rattle.record.specs.declared.Session.{Session}
@@ -66,7 +65,7 @@ moved_on s r = record { r = next_of s.r; s = (session_after s r).s; pending = No
 -- "Set tilt is answered RR at once": what the frame f leaves of d, in its session s, with N(R) = r
 pub record TiltStarted (d : Device) (f : List ℕ) (s : Session) (r : ℕ) : Type 0 where
   pub plate : (after d f).plate ≡ d.plate
-  pub antenna : (after d f).antenna ≡ started d.antenna (asked_of (drop 2 f)) Started
+  pub antenna : (after d f).antenna ≡ started d.antenna (asked_of (drop 2 f)) (Ok tt)
   pub link : (after d f).station.link ≡ Connected (moved_on s r)
   pub station : (after d f).station
       ≡ heeded (station_after d.station s r) (moved_on s r) (station_after d.station s r).desk.told

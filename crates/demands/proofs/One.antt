@@ -16,6 +16,7 @@ use mathlib.Core.Option.{none, some}
 use Prim.Native.Nat.{ℕ, ◌-◌, ◌<◌, ◌≤◌}
 use native.Mathlib.Omega.{arith}
 use lib.ListN.{length, get_or}
+use Rattle.std.specs.Prelude.{Result}
 use Rattle.octets.specs.Octets.{OneOf, ◌at_start_of◌}
 use Rattle.octets.proofs.Words.{true-not-false}
 use Rattle.refusal.specs.Answer.{Answer, gives, refuses, handed_out, answer_of, counted, out_after, Hands}
@@ -65,7 +66,7 @@ use Rattle.drives.specs.Drives.{After, obeyed, reply_of}
 use Rattle.drives.proofs.Keeps.{is_no, no-keeps}
 use Rattle.antenna.specs.Motions.{aimed_at, aim_number, Aims}
 use Rattle.antenna.specs.declared.Antenna.{Antenna}
-use Rattle.antenna.specs.declared.Aimed.{Aimed}
+use Rattle.antenna.specs.declared.Unaimed.{Unaimed}
 use Rattle.aim.proofs.aim_at.Reads as aim-reads
 use Rattle.frame.specs.Line.{broken, plain}
 use Rattle.frame.specs.Decode.{body, right_check, decoded, framed}
@@ -316,18 +317,19 @@ pub happen-answers : (κs : _) (a : _) (r : _) (s : _) → happen-reads.Learnt �
 happen-answers κs a r s = changes-to _ r
 
 -- a tilt asked of a drive: a movement; or its return code, and the antenna as it was
-pub data Aims-at (x : Answer Antenna) (n : Antenna) (r : Aimed) : Type 0 where
-  started : x ≡ gives r.antenna → aim_number r.aim ≡ gives tt → Aims-at x n r
-  failure : (k : ℕ) → x ≡ refuses k → aim_number r.aim ≡ refuses k → r.antenna ≡ n → Aims-at x n r
+pub data Aims-at (x : Answer Antenna) (n : Antenna) (r : Result (Unit {0}) Unaimed) (m : Antenna) : Type 0 where
+  started : x ≡ gives m → aim_number r ≡ gives tt → Aims-at x n r m
+  failure : (k : ℕ) → x ≡ refuses k → aim_number r ≡ refuses k → m ≡ n → Aims-at x n r m
 
-aims-at : (x : Answer Antenna) (n : Antenna) (r : Aimed) → Aims x n r → Aims-at x n r
+aims-at : (x : Answer Antenna) (n : Antenna) (r : Result (Unit {0}) Unaimed) (m : Antenna)
+    → Aims x n r m → Aims-at x n r m
 unfolding settled state_after
-aims-at (gives m) n r w = started (ap gives (sym w.antenna)) w.aim
-aims-at (refuses k) n r w = failure k refl w.aim w.antenna
+aims-at (gives y) n r m w = started (ap gives (sym w.antenna)) w.aim
+aims-at (refuses k) n r m w = failure k refl w.aim w.antenna
 
 pub aim-answers : (κs : _) (a : _) (r : _) (s : _) → aim-reads.Learnt κs a r s
-    → Aims-at (aimed_at a.0 a.1.0) a.0 r
-aim-answers κs a r s = aims-at _ a.0 r
+    → Aims-at (aimed_at a.0.now a.1.0) a.0.now r s.0.now
+aim-answers κs a r s = aims-at _ a.0.now r s.0.now
 
 -- a command to a row of devices: the row, the answer in the script's words and every lent octet are the definition's
 pub obey-answers : (κs : _) (a : _) (r : _) (s : _) → obey-reads.Learnt κs a r s

@@ -1,13 +1,31 @@
 -- The codes and the pairs that are left to tell, for a loop that goes through the flags by i. Assumes nothing.
-use mathlib.Core.Path.{◌≡◌}
-use mathlib.Core.Bool.{Bool, true, false}
+use mathlib.Core.Path.{◌≡◌, refl, sym}
+use mathlib.Core.Bool.{Bool, true, false, beq}
 use mathlib.Core.List.{List, [], ◌∷◌}
 use Prim.Native.Nat.{ℕ, ◌+◌, ◌<◌, ◌≤◌}
 use native.Mathlib.Numerals.{add-one}
 use lib.ListN.{length, get_or, drop, drop_of_length-le}
 use lib.Seq.{drop-cons}
+use mir.Val.{bool_byte}
 use Rattle.octets.proofs.Rest.{rest}
 use Rattle.antenna.specs.Alarms.{codes_among, changes_among, differs, flag_octet}
+
+-- the code's test of two flags, and a flag as an octet
+pub told-same : (a b : Bool) → beq a b ≡ true → differs a b ≡ false
+told-same true true e = refl
+told-same true false e = sym e
+told-same false true e = sym e
+told-same false false e = refl
+
+pub told-apart : (a b : Bool) → beq a b ≡ false → differs a b ≡ true
+told-apart true true e = sym e
+told-apart true false e = refl
+told-apart false true e = refl
+told-apart false false e = sym e
+
+pub flag-number : (b : Bool) → bool_byte b ≡ flag_octet b
+flag-number true = refl
+flag-number false = refl
 
 flag-rest : (f : List Bool) (i : ℕ) → i < length f → drop i f ≡ get_or f i false ∷ drop (i + 1) f
 flag-rest f i h = rw (add-one, drop-cons f i false)

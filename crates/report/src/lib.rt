@@ -4,7 +4,7 @@
 #![tactic(auto)]
 
 ghost use Rattle.std.specs.Prelude.{◌≡◌, ◌∷◌};
-ghost use Rattle.antenna.specs.Alarms.{codes_of, changes_of, flag_octet, differs};
+ghost use Rattle.antenna.specs.Alarms.{codes_of, changes_of};
 ghost use Rattle.payload.specs.Payloads.{payload_of, success_of};
 ghost use Rattle.report.specs.Reports.{indication_of};
 ghost use Rattle.octets.specs.Puts.{Puts};
@@ -19,15 +19,12 @@ fn put_codes(flags: [bool; 6], out: &mut [u8]) -> usize
     let codes = antenna::CODES;
     octets::put(out, 0, 0x00);
     let mut n = 1;
-    let mut i = 0;
-    while i < 6 {
-        let code = codes[i];
-        let on = flags[i];
-        i += 1;
-        if on {
-            octets::put(out, n, code);
-            n += 1;
+    for i in 0..6 {
+        if !flags[i] {
+            continue;
         }
+        octets::put(out, n, codes[i]);
+        n += 1;
     }
     n
 }
@@ -36,22 +33,9 @@ fn put_codes(flags: [bool; 6], out: &mut [u8]) -> usize
 pub fn alarms(raised: Alarms) -> Payload
     ensures { result ≡ payload_of (success_of 0x04 (codes_of raised.flags)) }
 {
-    let flags = raised.flags;
     let mut body = [0u8; 71];
-    let n = put_codes(flags, &mut body);
+    let n = put_codes(raised.flags, &mut body);
     payload::laid(0x04, &body[..n])
-}
-
-fn is_apart(a: bool, b: bool) -> bool
-    ensures { result ≡ differs a b }
-{
-    if a { !b } else { b }
-}
-
-fn state(on: bool) -> u8
-    ensures { result ≡ flag_octet on }
-{
-    if on { 1 } else { 0 }
 }
 
 // The pairs of the alarms whose flags differ, ascending.
@@ -60,17 +44,15 @@ fn put_changes(present: [bool; 6], told: [bool; 6], out: &mut [u8]) -> usize
 {
     let known = antenna::CODES;
     let mut n = 0;
-    let mut i = 0;
-    while i < 6 {
-        let code = known[i];
+    for i in 0..6 {
         let on = present[i];
         let was = told[i];
-        i += 1;
-        if is_apart(on, was) {
-            octets::put(out, n, code);
-            octets::put(out, n + 1, state(on));
-            n += 2;
+        if on == was {
+            continue;
         }
+        octets::put(out, n, known[i]);
+        octets::put(out, n + 1, u8::from(on));
+        n += 2;
     }
     n
 }
@@ -79,9 +61,7 @@ fn put_changes(present: [bool; 6], told: [bool; 6], out: &mut [u8]) -> usize
 pub fn indication(present: Alarms, told: Alarms) -> Payload
     ensures { result ≡ payload_of (indication_of present told) }
 {
-    let now = present.flags;
-    let then = told.flags;
     let mut body = [0u8; 71];
-    let n = put_changes(now, then, &mut body);
+    let n = put_changes(present.flags, told.flags, &mut body);
     payload::laid(0x07, &body[..n])
 }

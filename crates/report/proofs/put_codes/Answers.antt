@@ -12,31 +12,28 @@ use Rattle.report.proofs.put_codes.Goals as goal
 pub loop-i-init : goal.loop-i-init
 loop-i-init c = (search rules, search rules, search rules, search rules, run-all)
 
-pub loop-i-preserved-then-on : goal.loop-i-preserved-then-on
-loop-i-preserved-then-on c =
-    let test = c in
-    let at = test.loop-i in
+pub loop-i-preserved-then-not-flags-i : goal.loop-i-preserved-then-not-flags-i
+loop-i-preserved-then-not-flags-i c =
+    let at = c.loop-i in
     let h : at.i < 6 = omega arith in
-    let k : at.i < length test.args.flags
-    = omega arith in (
+    let k : at.i < length c.args.flags = omega arith in (
       search rules,
       search rules,
       search rules,
       search rules,
-      run-one _ c.put-then-on.ensures (codes-on alarm_codes _ at.i h k test.if-on.true) at.invariant.4,
+      run_is (codes-off alarm_codes _ at.i h k c.if-not-flags-i.true) at.invariant.4,
     )
 
 pub loop-i-preserved : goal.loop-i-preserved
 loop-i-preserved c =
     let at = c.loop-i in
     let h : at.i < 6 = omega arith in
-    let start = c.args in
-    let k : at.i < length start.flags = omega arith in (
+    let k : at.i < length c.args.flags = omega arith in (
       search rules,
       search rules,
       search rules,
       search rules,
-      run_is (codes-off alarm_codes _ at.i h k c.if-on.false) at.invariant.4,
+      run-one _ c.put-in-loop-i.ensures (codes-on alarm_codes _ at.i h k c.if-not-flags-i.false) at.invariant.4,
     )
 
 pub returns : goal.returns
