@@ -33,7 +33,7 @@ use Rattle.script.specs.declared.Asked.{Asked}
 use Rattle.script.specs.Words.{spelled, first_of, behind_first, word_at}
 use Rattle.script.specs.Commands as command
 use Rattle.bus.specs.declared.Row.{Row}
-use Rattle.drives.specs.declared.Obeyed.{Obeyed}
+use Rattle.drives.specs.declared.Response.{Response}
 use Rattle.drives.specs.Drives.{After, Obeys, obeyed}
 use Rattle.mast.specs.Mast.{swept}
 use Rattle.bench.specs.Bench.{hex_in, value_in, lent_of, is_driven, row_driven, row_after, scan_after}
@@ -183,8 +183,8 @@ pub blank-left : (w : Span) {u : Result (Unit {0}) Refusal} {d : Device} → Cha
 unfolding fresh_of answered data_allowed texts_allowed allowed_identity state_after
 blank-left w c = c.state
 
-pub driven-is : (c : ℕ) (row : Row) (a : Asked) {os o o' : List ℕ} {r : Obeyed} → os ≡ hex_in a
-    → o ≡ lent_of (value_in a 3) → Obeys (obeyed c row a.values os o) r o' → r.row ≡ row_driven c row a
+pub driven-is : (c : ℕ) (row : Row) (a : Asked) {os o o' : List ℕ} {w : Row} {r : Response} → os ≡ hex_in a
+    → o ≡ lent_of (value_in a 3) → Obeys (obeyed c row a.values os o) w r o' → w ≡ row_driven c row a
 unfolding row_driven
 driven-is c row a e f h =
     ap (λ (x : After). x.row) h.after

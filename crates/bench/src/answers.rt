@@ -6,7 +6,6 @@ ghost use Rattle.bench.specs.Written.{digit_of, hex_row};
 
 use crate::rows;
 use antenna::Angle;
-use device::Said;
 use refusal::Refusal;
 use std::io::{self, Stdout};
 use terms::Term;
@@ -120,11 +119,16 @@ pub fn say_buffer(out: Stdout, lent: [u8; ROOM], room: usize) -> io::Result<()> 
 }
 
 // A device's answer.
-pub fn say_said(out: Stdout, said: Said, lent: [u8; ROOM], room: usize) -> io::Result<()> {
+pub fn say_said(
+    out: Stdout,
+    said: Result<Option<usize>, Refusal>,
+    lent: [u8; ROOM],
+    room: usize,
+) -> io::Result<()> {
     match said {
-        Said::Silence => {}
-        Said::Frame(n) => say_number(out, b' ', n)?,
-        Said::Refused(refusal) => say_refusal(out, refusal)?,
+        Ok(None) => {}
+        Ok(Some(n)) => say_number(out, b' ', n)?,
+        Err(refusal) => say_refusal(out, refusal)?,
     }
     say_buffer(out, lent, room)
 }

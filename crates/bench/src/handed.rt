@@ -42,7 +42,7 @@ fn by_limit(command: usize, limited: usize, plain: usize) -> usize
 }
 
 // The codec's commands.
-fn coded_by(command: usize, asked: Asked, lent: &mut [u8]) -> Result<usize, Refusal>
+fn coded_by(command: usize, asked: Asked, lent: &mut [u8]) -> std::result::Result<usize, Refusal>
     ensures { Hands (coded command asked (length lent.old)) lent.old result
         lent.new }
 {
@@ -57,7 +57,12 @@ fn coded_by(command: usize, asked: Asked, lent: &mut [u8]) -> Result<usize, Refu
     writer::write(limit, address, control, hex, lent)
 }
 
-fn handed_by(scan: Scan, command: usize, asked: Asked, lent: &mut [u8]) -> Result<usize, Refusal>
+fn handed_by(
+    scan: Scan,
+    command: usize,
+    asked: Asked,
+    lent: &mut [u8],
+) -> std::result::Result<usize, Refusal>
     ensures { Hands (hands_out command scan asked (length lent.old)) lent.old result
         lent.new }
 {

@@ -103,9 +103,14 @@ fn drive(out: Stdout, row: Row, command: usize, asked: Asked) -> Result<Row>
     let room = values[3];
     let mut lent = [answers::FILL; answers::ROOM];
     let hex = octets::part(&asked.octets, 0, asked.len as usize);
-    let obeyed = drives::obey(row, command, values, hex, rows::front(&mut lent, room));
-    let answer = obeyed.answer;
-    let next = obeyed.row;
+    let mut next = row;
+    let answer = drives::obey(
+        &mut next,
+        command,
+        values,
+        hex,
+        rows::front(&mut lent, room),
+    );
     answers::say(out, Term::Reply(answer))?;
     say_behind(out, answer, next, lent, room)?;
     Ok(next)

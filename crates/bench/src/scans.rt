@@ -14,17 +14,16 @@ use terms::Term;
 fn report(out: Stdout, scan: Scan, heard: bool) -> Result<Scan>
     ensures { IfOk result (λ after. after ≡ state_after (reported scan heard) scan) }
 {
-    let reported = scanner::report(scan, heard);
-    let outcome = reported.outcome;
-    let scan = reported.scan;
+    let mut next = scan;
+    let outcome = scanner::report(&mut next, heard);
     match outcome {
-        Ok(()) => scanned::say_scan(out, scan)?,
+        Ok(()) => scanned::say_scan(out, next)?,
         Err(refusal) => {
             answers::say(out, Term::Outcome(outcome))?;
             answers::say_refusal(out, refusal)?;
         }
     }
-    Ok(scan)
+    Ok(next)
 }
 
 // Any other command leaves the scan alone.

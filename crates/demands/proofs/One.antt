@@ -6,7 +6,7 @@
 -- octets, any record of a device and of a scan, any lent buffer. That nothing is asked of the caller (`AsksNothing`) is a
 -- lemma of every public function, FUNCTION-asks of crates/NAME/proofs/Only.antt; Index.antt has those of these functions.
 -- Proved by citation. Assumes nothing.
-use Rattle.std.proofs.Common.{Result, Ok, Err}
+use Rattle.std.proofs.Common.{Result, Ok, Err, Some, None}
 use mathlib.Core.Path.{◌≡◌, refl, sym, ap, ◌∙◌}
 use mathlib.Core.Bool.{Bool, true, false}
 use mathlib.Core.List.{List, ◌∷◌}
@@ -92,10 +92,7 @@ use Rattle.link.specs.Link.{judged_frame}
 use Rattle.conduct.proofs.Comes.{silence-keeps}
 use Rattle.speech.specs.Speech.{frame_by}
 use Rattle.device.proofs.Only.{none-not-some}
-use Rattle.device.specs.declared.Said.{Said}
-use Rattle.device.specs.declared.Said.TheVariants.{Silence, Frame, Refused}
-use Rattle.device.specs.declared.Judged.{Judged}
-use Rattle.device.specs.Judge.{Reaction, reacts, reaction_of, judged, heard, Judges}
+use Rattle.device.specs.Judge.{Said, Reaction, reacts, reaction_of, judged, heard, Judges}
 use Rattle.device.proofs.Hearing.{Readable}
 use Rattle.device.proofs.Exact.{judge-6, judge-5, judge-answer, hear-4, hear-1, hear-2, hear-3, hear-6, hear-5}
 use Rattle.device.proofs.Exact.{hear-answer, refused-keeps, silence-tells, frame-tells}
@@ -124,18 +121,18 @@ changes-to : {S : Type 0} {s s' : S} (x : Answer S) (r : Result (Unit {0}) Refus
 changes-to x (Ok tt) c = done (change-told x c) refl
 changes-to x (Err k) c = let (number, same) = unchange-told x c in refusal k number refl same
 
--- what becomes of the device d and of the answer buffer o, as the answer x has it: r and o'
-pub data Defined (x : Answer Reaction) (d : Device) (o : List ℕ) (r : Judged) (o' : List ℕ) : Type 0 where
+-- what becomes of the device d and of the answer buffer o, as the answer x has it: r, d' and o'
+pub data Defined (x : Answer Reaction) (d : Device) (o : List ℕ) (r : Said) (d' : Device) (o' : List ℕ) : Type 0 where
   -- the frame of x, of 2 to 76 octets, that carries the device's address, at the start of the buffer; and x's device
-  frame : (y : Reaction) (g : List ℕ) → x ≡ gives y → y.frame ≡ some g → r.said ≡ Frame (length g)
-      → r.device ≡ y.device → 2 ≤ length g → length g ≤ 76 → get_or g 0 0 ≡ r.device.station.desk.address
-      → o' ≡ g at_start_of o → Defined x d o r o'
+  frame : (y : Reaction) (g : List ℕ) → x ≡ gives y → y.frame ≡ some g → r ≡ Ok (Some (length g))
+      → d' ≡ y.device → 2 ≤ length g → length g ≤ 76 → get_or g 0 0 ≡ d'.station.desk.address
+      → o' ≡ g at_start_of o → Defined x d o r d' o'
   -- silence, where x has no frame: the device and the buffer as they were
-  silence : (y : Reaction) → x ≡ gives y → y.frame ≡ none → r.said ≡ Silence → r.device ≡ d → o' ≡ o
-      → Defined x d o r o'
+  silence : (y : Reaction) → x ≡ gives y → y.frame ≡ none → r ≡ Ok None → d' ≡ d → o' ≡ o
+      → Defined x d o r d' o'
   -- the number of x: the device and the buffer as they were
-  refusal : (k : Refusal) → x ≡ refuses (number_of k) → r.said ≡ Refused k → r.device ≡ d → o' ≡ o
-      → Defined x d o r o'
+  refusal : (k : Refusal) → x ≡ refuses (number_of k) → r ≡ Err k → d' ≡ d → o' ≡ o
+      → Defined x d o r d' o'
 
 -- no frame is said by silence alone, which changes no device
 unsaid : (d : Device) (f : List ℕ) → frame_by (judged_frame d f).device (judged_frame d f).say ≡ none
@@ -154,27 +151,27 @@ unsaid d f = go (judged_frame d f).say refl
     go (Say.Negotiated a) e h = absurd (none-not-some (sym h))
 
 -- by any answer that comes of a frame, judged by an allowed device
-defined : (x : Answer Reaction) (d : Device) (f o : List ℕ) {r : Judged} {o' : List ℕ}
+defined : (x : Answer Reaction) (d : Device) (f o : List ℕ) {r : Said} {d' : Device} {o' : List ℕ}
     → ((y : Reaction) → x ≡ gives y → (allowed_device d ≡ true) × (reaction_of (judged_frame d f) ≡ y))
-    → Judges x d o r o' → Defined x d o r o'
+    → Judges x d o r d' o' → Defined x d o r d' o'
 unfolding reacts
-defined x d f o {r} {o'} came w = go r.said refl
+defined x d f o {r} {d'} {o'} came w = go r refl
   where
-    go : (s : Said) → r.said ≡ s → Defined x d o r o'
-    go Silence e =
+    go : (s : Said) → r ≡ s → Defined x d o r d' o'
+    go (Ok None) e =
         let (y, is, none_said, device, octets) = silence-tells x e w in
         let (allowed, reacted) = came y is in
         let there = unsaid d f (ap (λ (z : Reaction). z.frame) reacted ∙ none_said) in
         silence y is none_said e (device ∙ sym (ap (λ (z : Reaction). z.device) reacted) ∙ there) octets
-    go (Frame n) e =
+    go (Ok (Some n)) e =
         let (y, g, is, framed, count, device, octets) = frame-tells x n e w in
         let (allowed, reacted) = came y is in
         let (least, most, address) =
         answer-fits d f g allowed (ap (λ (z : Reaction). z.frame) reacted ∙ framed) in
         let there = ap (λ (z : Reaction). z.device.station.desk.address) reacted in
-        frame y g is framed (e ∙ ap Frame count) device least most
+        frame y g is framed (e ∙ ap (λ (i : ℕ). Ok (Some i)) count) device least most
         (address ∙ there ∙ sym (ap (λ (b : Device). b.station.desk.address) device)) octets
-    go (Refused k) e =
+    go (Err k) e =
         let (number, device, octets) = refused-keeps x k e w in refusal k number e device octets
 
 -- ---- of each public function that can refuse: "a defined answer", and "A refusal changes no device, no scan and no octet
@@ -182,20 +179,20 @@ defined x d f o {r} {o'} came w = go r.said refl
 
 -- octets from between two flags, heard by a device; octets that are taken for a decoded frame
 pub hear-defined : (κs : _) (a : _) (r : _) (s : _) → hear-reads.Learnt κs a r s
-    → Defined (heard a.0 a.1.0.now (length a.1.1.0.now)) a.0 a.1.1.0.now r s.1.1.0.now
+    → Defined (heard a.0.now a.1.0.now (length a.1.1.0.now)) a.0.now a.1.1.0.now r s.0.now s.1.1.0.now
 hear-defined κs a r s =
     let line = a.1.0.now in
     let room = length a.1.1.0.now in
-    defined (heard a.0 line room) a.0 (body (plain line)) a.1.1.0.now
-    (λ y e. let g = (hear-answer a.0 line room y).0 e in (g.1, g.3))
+    defined (heard a.0.now line room) a.0.now (body (plain line)) a.1.1.0.now
+    (λ y e. let g = (hear-answer a.0.now line room y).0 e in (g.1, g.3))
 
 pub judge-defined : (κs : _) (a : _) (r : _) (s : _) → judge-reads.Learnt κs a r s
-    → Defined (judged a.0 a.1.0.now (length a.1.1.0.now)) a.0 a.1.1.0.now r s.1.1.0.now
+    → Defined (judged a.0.now a.1.0.now (length a.1.1.0.now)) a.0.now a.1.1.0.now r s.0.now s.1.1.0.now
 judge-defined κs a r s =
     let f = a.1.0.now in
     let room = length a.1.1.0.now in
-    defined (judged a.0 f room) a.0 f a.1.1.0.now
-    (λ y e. let g = (judge-answer a.0 f room y).0 e in (g.0, g.2))
+    defined (judged a.0.now f room) a.0.now f a.1.1.0.now
+    (λ y e. let g = (judge-answer a.0.now f room y).0 e in (g.0, g.2))
 
 -- the codec, with any number for the frame limit
 pub decode-answers : (κs : _) (a : _) (r : _) (s : _) → decode-reads.Learnt κs a r s
@@ -299,8 +296,8 @@ pub probe-answers : (κs : _) (a : _) (r : _) (s : _) → probe-reads.Learnt κs
 probe-answers κs a r s = hands_out _ r
 
 pub report-answers : (κs : _) (a : _) (r : _) (s : _) → report-reads.Learnt κs a r s
-    → Changes-to (reported a.0 a.1.0) a.0 r.outcome r.scan
-report-answers κs a r s = changes-to _ r.outcome
+    → Changes-to (reported a.0.now a.1.0) a.0.now r s.0.now
+report-answers κs a r s = changes-to _ r
 
 -- a device: a fresh one (there is none before it: a constant record stands beside the number), and what happens to it
 pub fresh-answers : (κs : _) (a : _) (r : _) (s : _) → fresh-reads.Learnt κs a r s
@@ -309,8 +306,8 @@ pub fresh-answers : (κs : _) (a : _) (r : _) (s : _) → fresh-reads.Learnt κs
 fresh-answers κs a r s = changes-to _ r.outcome
 
 pub happen-answers : (κs : _) (a : _) (r : _) (s : _) → happen-reads.Learnt κs a r s
-    → Changes-to (happened a.0 a.1.0) a.0 r.outcome r.device
-happen-answers κs a r s = changes-to _ r.outcome
+    → Changes-to (happened a.0.now a.1.0) a.0.now r s.0.now
+happen-answers κs a r s = changes-to _ r
 
 -- a tilt asked of a drive: a movement; or its return code, and the antenna as it was
 pub data Aims-at (x : Answer Antenna) (n : Antenna) (r : Result (Unit {0}) Unaimed) (m : Antenna) : Type 0 where
@@ -329,17 +326,17 @@ aim-answers κs a r s = aims-at _ a.0.now r s.0.now
 
 -- a command to a row of devices: the row, the answer in the script's words and every lent octet are the definition's
 pub obey-answers : (κs : _) (a : _) (r : _) (s : _) → obey-reads.Learnt κs a r s
-    → let x = obeyed a.1.0 a.0 a.1.1.0 a.1.1.1.0.now a.1.1.1.1.0.now in
-    (r.row ≡ x.after.row) × (reply_of r.answer ≡ x.after.reply) × (s.1.1.1.1.0.now ≡ x.lent)
+    → let x = obeyed a.1.0 a.0.now a.1.1.0 a.1.1.1.0.now a.1.1.1.1.0.now in
+    (s.0.now ≡ x.after.row) × (reply_of r ≡ x.after.reply) × (s.1.1.1.1.0.now ≡ x.lent)
 obey-answers κs a r s w =
     (ap (λ (x : After). x.row) w.after, ap (λ (x : After). x.reply) w.after, w.lent)
 
 -- and a "no", `error` and a word or `refused N`, leaves the row and every lent octet as they were
-pub obey-keeps : (κs : _) (a : _) (r : _) (s : _) → obey-reads.Learnt κs a r s → is_no (reply_of r.answer) ≡ true
-    → (r.row ≡ a.0) × (s.1.1.1.1.0.now ≡ a.1.1.1.1.0.now)
+pub obey-keeps : (κs : _) (a : _) (r : _) (s : _) → obey-reads.Learnt κs a r s → is_no (reply_of r) ≡ true
+    → (s.0.now ≡ a.0.now) × (s.1.1.1.1.0.now ≡ a.1.1.1.1.0.now)
 obey-keeps κs a r s w said =
     let kept =
-    no-keeps a.0 a.1.1.1.1.0.now a.1.0 a.1.1.0 a.1.1.1.0.now
+    no-keeps a.0.now a.1.1.1.1.0.now a.1.0 a.1.1.0 a.1.1.1.0.now
     (sym (ap (λ (x : After). is_no x.reply) w.after) ∙ said) in
     (ap (λ (x : After). x.row) w.after ∙ kept.0, w.lent ∙ kept.1)
 

@@ -1,7 +1,8 @@
 -- What the promises of `new`, `report` and `probe` allow: the scan of the definitions, and no other. A promise is what
 -- a caller learns of it as the source states it, at any lifetimes and exits: the `Learnt` of the function's `Reads`.
 --   NewAllows limit s       == the promise of `new` allows the result s for the limit
---   ReportAllows s a r      == the promise of `report` allows the result r for the scan s and the answer a
+--   ReportAllows s a r t    == the promise of `report` allows the result r for the lent scan that held s and the answer a,
+--                              and t in it
 --   ProbeAllows s o r o'    == the promise of `probe` allows the result r for s, and o' in the lent output that held o
 --   Reports heard n s t     == t comes of s by n reports, each with what `heard` says of the beginning that s asks
 --   ReportsAll answers s t  == t comes of s by reporting the answers, one after the other
@@ -17,19 +18,19 @@ use Prim.Native.Nat.{ℕ, zero, suc, ◌≤◌, ◌<◌}
 use native.Mathlib.Omega.{arith}
 use borrow.Author.Tests.{ltb-true, ltb-false}
 use contract.Lifetimes.{Lfts}
+use denote.MutBor.{MutBor}
 use lib.Dec.{ltb}
 use lib.ListN.{length}
 use Rattle.identity.specs.Bits.{Bits}
 use Rattle.identity.specs.Identity.{depth, octets_of}
 use Rattle.refusal.specs.declared.Refusal.TheVariants.{ScanOver}
-use Rattle.refusal.specs.Answer.{Hands}
+use Rattle.refusal.specs.Answer.{Hands, state_after}
 use Rattle.walk.specs.Machine.{step}
 use Rattle.scan.specs.declared.Scan.{Scan}
 use Rattle.scan.specs.Record.{list_most, beginning_of, walk_of, record_of}
-use Rattle.scan.specs.Scan.{fresh, ended, over, probed, reported_all, driven}
+use Rattle.scan.specs.Scan.{fresh, ended, over, probed, reported, reported_all, driven}
 use Rattle.scan.proofs.Overs.{over-ended}
 use Rattle.scan.proofs.Reports.{report-over, report-taken}
-use Rattle.scanner.specs.declared.Reported.{Reported}
 use Rattle.scanner.proofs.new.Reads as new-reads
 use Rattle.scanner.proofs.report.Reads as report-reads
 use Rattle.scan.proofs.probe.Reads as probe-reads
@@ -38,8 +39,9 @@ use Rattle.whole_scan.proofs.AnyScans.{any-scans}
 abbrev pub NewAllows : ℕ → Scan → Type 0
 NewAllows limit s = (e : _) × new-reads.Learnt tt (limit, tt) s e
 
-abbrev pub ReportAllows : Scan → Bool → Reported → Type 0
-ReportAllows s a r = (e : _) × report-reads.Learnt tt (s, (a, tt)) r e
+abbrev pub ReportAllows : Scan → Bool → Result (Unit {0}) Refusal → Scan → Type 0
+ReportAllows s a r t =
+    (κs : Lfts 1) × (scan : _) × (e : _) × report-reads.Learnt κs (scan, (a, tt)) r e × (s ≡ scan.now) × (t ≡ e.0.now)
 
 abbrev pub ProbeAllows : Scan → List ℕ → Result ℕ Refusal → List ℕ → Type 0
 ProbeAllows s o r o' =
@@ -48,11 +50,13 @@ ProbeAllows s o r o' =
 
 abbrev pub Reports : (Bits → Bool) → ℕ → Scan → Scan → Type 0
 Reports heard zero s t = t ≡ s
-Reports heard (suc n) s t = (r : Reported) × ReportAllows s (heard (beginning_of s)) r × Reports heard n r.scan t
+Reports heard (suc n) s t =
+    (r : Result (Unit {0}) Refusal) × (u : Scan) × ReportAllows s (heard (beginning_of s)) r u × Reports heard n u t
 
 abbrev pub ReportsAll : List Bool → Scan → Scan → Type 0
 ReportsAll [] s t = t ≡ s
-ReportsAll (a ∷ answers) s t = (r : Reported) × ReportAllows s a r × ReportsAll answers r.scan t
+ReportsAll (a ∷ answers) s t =
+    (r : Result (Unit {0}) Refusal) × (u : Scan) × ReportAllows s a r u × ReportsAll answers u t
 
 abbrev pub Runs : (Bits → Bool) → ℕ → ℕ → Scan → Type 0
 Runs heard limit n t = (s : Scan) × NewAllows limit s × Reports heard n s t
@@ -72,27 +76,39 @@ not-below i n h = by-test (ltb i n) refl
 new-allowed : (limit : ℕ) → NewAllows limit (fresh limit)
 new-allowed limit = ((limit, tt), refl)
 
-report-allowed : (s : Scan) (a : Bool) → (r : Reported) × ReportAllows s a r
+-- a lent scan, wherever it lies
+abbrev lent : Scan → MutBor Scan
+lent s = record { ref_ptr = (0, 0); ghost_name = 0; now = s }
+
+report-allowed : (s : Scan) (a : Bool) → (r : Result (Unit {0}) Refusal) × (t : Scan) × ReportAllows s a r t
 report-allowed s a = by-test (over s) refl
   where
-    by-test : (b : Bool) → over s ≡ b → (r : Reported) × ReportAllows s a r
-    by-test true e = (record { outcome = Err ScanOver; scan = s }, ((s, (a, tt)), report-over s a (sym e)))
+    by-test : (b : Bool) → over s ≡ b → (r : Result (Unit {0}) Refusal) × (t : Scan) × ReportAllows s a r t
+    by-test true e =
+        (Err ScanOver, s, (([], tt), lent s, (lent s, (a, tt)), report-over s a (sym e), refl, refl))
     by-test false e =
         let t : Scan = record_of s (step octets_of depth list_most (walk_of s) a) in
-        (record { outcome = (Ok tt); scan = t }, ((s, (a, tt)), report-taken s a e refl))
+        (Ok tt, t, (([], tt), lent s, (lent t, (a, tt)), report-taken s a e refl, refl, refl))
+
+-- and it leaves the scan of the definition
+report-leaves : (s t : Scan) (a : Bool) (r : Result (Unit {0}) Refusal) → ReportAllows s a r t
+    → t ≡ state_after (reported s a) s
+report-leaves s t a r (κs, scan, e, h, x, y) = rw (x, y) h.state
 
 reports-are : (heard : Bits → Bool) (n : ℕ) (s t : Scan) → Reports heard n s t → t ≡ driven heard n s
 unfolding driven
 reports-are heard zero s t h = h
-reports-are heard (suc n) s t (r, (e, h), more) = reports-are heard n r.scan t more ∙ ap (driven heard n) h.state
+reports-are heard (suc n) s t (r, u, h, more) =
+    reports-are heard n u t more ∙ ap (driven heard n) (report-leaves s u (heard (beginning_of s)) r h)
 
 reports-some : (heard : Bits → Bool) (n : ℕ) (s : Scan) → Reports heard n s (driven heard n s)
 unfolding driven
 reports-some heard zero s = refl
 reports-some heard (suc n) s =
-    let (r, (e, h)) = report-allowed s (heard (beginning_of s)) in
-    let rest = reports-some heard n r.scan in
-    (r, (e, h), subst (λ (u : Scan). Reports heard n r.scan (driven heard n u)) h.state rest)
+    let (r, u, h) = report-allowed s (heard (beginning_of s)) in
+    let rest = reports-some heard n u in
+    let is = report-leaves s u (heard (beginning_of s)) r h in
+    (r, u, h, subst (λ (v : Scan). Reports heard n u (driven heard n v)) is rest)
 
 -- by n reports from `new` on there comes the scan of the definitions, and no other
 pub runs-exactly : (heard : Bits → Bool) (limit n : ℕ) (t : Scan)
@@ -107,16 +123,16 @@ runs-exactly heard limit n t = (
 reports-all-are : (answers : List Bool) (s t : Scan) → ReportsAll answers s t → t ≡ reported_all s answers
 unfolding reported_all
 reports-all-are [] s t h = h
-reports-all-are (a ∷ answers) s t (r, (e, h), more) =
-    reports-all-are answers r.scan t more ∙ ap (λ (u : Scan). reported_all u answers) h.state
+reports-all-are (a ∷ answers) s t (r, u, h, more) =
+    reports-all-are answers u t more ∙ ap (λ (v : Scan). reported_all v answers) (report-leaves s u a r h)
 
 reports-all-some : (answers : List Bool) (s : Scan) → ReportsAll answers s (reported_all s answers)
 unfolding reported_all
 reports-all-some [] s = refl
 reports-all-some (a ∷ answers) s =
-    let (r, (e, h)) = report-allowed s a in
-    let rest = reports-all-some answers r.scan in
-    (r, (e, h), subst (λ (u : Scan). ReportsAll answers r.scan (reported_all u answers)) h.state rest)
+    let (r, u, h) = report-allowed s a in
+    let rest = reports-all-some answers u in
+    (r, u, h, subst (λ (v : Scan). ReportsAll answers u (reported_all v answers)) (report-leaves s u a r h) rest)
 
 -- and by any answers
 pub runs-by-exactly : (limit : ℕ) (answers : List Bool) (t : Scan)

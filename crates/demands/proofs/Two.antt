@@ -191,13 +191,13 @@ module _ (d : Device) (f : List ℕ) where
 
 -- and so does whatever `judge` gives for an allowed device and a buffer of N - 2 octets or more (76 with 01's limit): the
 -- device, what is said, and every octet of the buffer are those of the case
-pub judge-case : (κs : _) (a : _) (r : _) (s : _) → judge-reads.Learnt κs a r s → allowed_device a.0 ≡ true
-    → limit_of a.0 - 2 ≤ length a.1.1.0.now → (c : Comes a.0 a.1.0.now)
-    → let g = octets_said a.0 a.1.0.now c in (r.device ≡ left a.0 a.1.0.now c)
-    × (said_of r.said ≡ gives (size_of g)) × (s.1.1.0.now ≡ frame_at g a.1.1.0.now)
+pub judge-case : (κs : _) (a : _) (r : _) (s : _) → judge-reads.Learnt κs a r s → allowed_device a.0.now ≡ true
+    → limit_of a.0.now - 2 ≤ length a.1.1.0.now → (c : Comes a.0.now a.1.0.now)
+    → let g = octets_said a.0.now a.1.0.now c in (s.0.now ≡ left a.0.now a.1.0.now c)
+    × (said_of r ≡ gives (size_of g)) × (s.1.1.0.now ≡ frame_at g a.1.1.0.now)
 unfolding told_of device_after buffer_after
 judge-case κs a r s w allowed room c =
-    let d = a.0 in
+    let d = a.0.now in
     let o = a.1.1.0.now in
     let is = judged-octets d a.1.0.now (length o) allowed room c in (
       w.device ∙ ap (λ (x : Answer Reaction). device_after x d) is,

@@ -1,5 +1,5 @@
 -- The ways out of judging and hearing: a number, silence, or a frame at the start of the buffer. Assumes nothing.
-use Rattle.std.proofs.Common.{Result, Ok, Err, Some, None}
+use Rattle.std.proofs.Common.{Result, Ok, Err, Some, None, Option as Optional}
 use mathlib.Core.Path.{◌≡◌, refl, sym, ap, ◌∙◌}
 use mathlib.Core.Bool.{Bool, true, false}
 use mathlib.Core.List.{List, ◌∷◌}
@@ -19,8 +19,10 @@ use Rattle.record.proofs.Stays.{limited}
 use Rattle.station.specs.declared.Say.{Say}
 use Rattle.station.specs.declared.Turn.{Turn}
 use Rattle.link.specs.Link.{judged_frame}
-use Rattle.speech.specs.declared.Spoken.{Spoken}
-use Rattle.speech.specs.Speech.{is_silent, control_by, payload_by, frame_by, spoken_most, spoken_of}
+use Rattle.octets.specs.declared.Text.{Text}
+use Rattle.octets.specs.Text.{content, laid}
+use mathlib.Core.Option.{Option, none, some}
+use Rattle.speech.specs.Speech.{frame_by, spoken_most, spoken_of}
 use Rattle.limits.specs.Limits.{frame_most}
 use Rattle.device.specs.Judge.{Reaction, reacts, reaction_of, judge_rows, judged, heard_by, decoded_here, heard}
 use Rattle.device.specs.Judge.{Said, said_of, size_of, told_of, device_after, frame_at, buffer_after, Judges}
@@ -42,36 +44,35 @@ refused x d o k e =
 
 -- ---- what is said
 
-module _ (d : Device) (x : Say) (o : List ℕ) {r : Spoken} (e : r ≡ spoken_of (frame_by d x)) where
-  pub silent : r.len ≡ 0 → Judges (gives (reacts d x)) d o (Ok None) d o
-  unfolding frame_by spoken_of said_of told_of size_of device_after buffer_after frame_at reacts
-  silent z = go (is_silent x) refl
+module _ (d : Device) (x : Say) (o : List ℕ) {r : Optional (Text spoken_most)} (e : r ≡ spoken_of (frame_by d x)) where
+  pub silent : r ≡ None → Judges (gives (reacts d x)) d o (Ok None) d o
+  unfolding spoken_of said_of told_of size_of device_after buffer_after frame_at reacts
+  silent z = go (frame_by d x) refl
     where
-      go : (b : Bool) → is_silent x ≡ b → Judges (gives (reacts d x)) d o (Ok None) d o
-      go true q = record { said = rw q; device = refl; buffer = rw q }
-      go false q =
-          let f : List ℕ = d.station.desk.address ∷ control_by x ∷ payload_by d x in
-          let two : r.len ≡ length f = ap (λ (y : Spoken). y.len) e ∙ rw q in
-          absurd (omega (arith, two, z))
+      go : (f : Option (List ℕ)) → frame_by d x ≡ f → Judges (gives (reacts d x)) d o (Ok None) d o
+      go none q = record { said = rw q; device = refl; buffer = rw q }
+      go (some f) q =
+          let p : None ≡ Some (laid spoken_most f) = sym z ∙ e ∙ ap spoken_of q in
+          absurd (cc)
 
-  pub framed : (r.len ≡ 0 → ⊥) → r.len ≤ spoken_most → spoken_most ≤ length o → {o' : List ℕ}
-      → o' ≡ sets o 0 (take r.len r.octets)
-      → Judges (gives (reacts d x)) d o (Ok (Some r.len)) d o'
-  unfolding frame_by spoken_of said_of told_of size_of device_after buffer_after frame_at reacts
-  framed heard most room {o'} s = go (is_silent x) refl
+  pub framed : {t : Text spoken_most} → r ≡ Some t → t.len ≤ spoken_most → spoken_most ≤ length o → {o' : List ℕ}
+      → o' ≡ sets o 0 (content t) → Judges (gives (reacts d x)) d o (Ok (Some t.len)) d o'
+  unfolding spoken_of laid said_of told_of size_of device_after buffer_after frame_at reacts
+  framed {t} is most room {o'} s = go (frame_by d x) refl
     where
-      go : (b : Bool) → is_silent x ≡ b
-          → Judges (gives (reacts d x)) d o (Ok (Some r.len)) d o'
-      go true q = absurd (heard (ap (λ (y : Spoken). y.len) e ∙ rw q))
-      go false q =
-          let f : List ℕ = d.station.desk.address ∷ control_by x ∷ payload_by d x in
-          let n : r.len ≡ length f = ap (λ (y : Spoken). y.len) e ∙ rw q in
-          let t : take r.len r.octets ≡ f =
-          ap (λ (y : Spoken). take y.len y.octets) e ∙ rw q (take-start f (replicate spoken_most 0)) in
+      go : (f : Option (List ℕ)) → frame_by d x ≡ f → Judges (gives (reacts d x)) d o (Ok (Some t.len)) d o'
+      go none q =
+          let p : Some t ≡ None = sym is ∙ e ∙ ap spoken_of q in
+          absurd (cc)
+      go (some f) q =
+          let p : Some t ≡ Some (laid spoken_most f) = sym is ∙ e ∙ ap spoken_of q in
+          let same : t ≡ laid spoken_most f = cc in
+          let n : t.len ≡ length f = ap (λ (y : Text spoken_most). y.len) same in
+          let c : content t ≡ f = ap content same ∙ take-start f (replicate spoken_most 0) in
           record {
             said = rw (q, n);
             device = refl;
-            buffer = rw q (s ∙ ap (sets o 0) t ∙ sets-start f o (omega (arith, n)));
+            buffer = rw q (s ∙ ap (sets o 0) c ∙ sets-start f o (omega (arith, n)));
           }
 
 -- ---- a frame judged

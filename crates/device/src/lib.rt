@@ -18,11 +18,8 @@ fn utter(device: Device, say: Say, answer: &mut [u8]) -> Option<usize>
     requires { spoken_most ≤ length answer.old }
     ensures { Judges (gives (reacts device say)) device answer.old (Ok result) device answer.new }
 {
-    let spoken = speech::speak(device, say);
-    if spoken.len == 0 {
-        return None;
-    }
-    octets::put_all(answer, 0, &spoken.octets[..spoken.len]);
+    let spoken = speech::speak(device, say)?;
+    octets::put_all(answer, 0, spoken.octets());
     Some(spoken.len)
 }
 

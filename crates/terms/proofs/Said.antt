@@ -24,8 +24,7 @@ use Rattle.script.specs.declared.Fault.{Fault}
 use Rattle.script.specs.declared.Fault.TheVariants as fault
 use Rattle.script.specs.Words.{spelled}
 use Rattle.script.specs.Commands as command
-use Rattle.device.specs.declared.Said.{Said}
-use Rattle.device.specs.declared.Said.TheVariants.{Silence, Frame}
+use Rattle.device.specs.Judge.{Said}
 use Rattle.drives.specs.declared.Response.{Response}
 use Rattle.drives.specs.declared.Response.TheVariants as reply
 use Rattle.terms.specs.declared.Term.{Term}
@@ -54,9 +53,9 @@ outcome-said (Err k) = refl
 
 said-said : (x : Said) → Spoken (said_word x)
 unfolding name_of letters_of said_word spelled place_of ◌at_start_of◌
-said-said Silence = refl
-said-said (Frame n) = refl
-said-said (Said.Refused k) = refl
+said-said (Ok None) = refl
+said-said (Ok (Some n)) = refl
+said-said (Err k) = refl
 
 reply-said : (x : Response) → Spoken (reply_word x)
 unfolding name_of letters_of reply_word spelled place_of ◌at_start_of◌

@@ -27,8 +27,7 @@ use Rattle.script.specs.declared.Fault.{Fault}
 use Rattle.script.specs.declared.Fault.TheVariants as fault
 use Rattle.script.specs.Words.{spelled}
 use Rattle.script.specs.Commands as command
-use Rattle.device.specs.declared.Said.{Said}
-use Rattle.device.specs.declared.Said.TheVariants.{Silence, Frame}
+use Rattle.device.specs.Judge.{Said}
 use Rattle.drives.specs.declared.Response.{Response}
 use Rattle.drives.specs.declared.Response.TheVariants as reply
 use Rattle.terms.specs.declared.Term.{Term}
@@ -57,9 +56,9 @@ outcome_word (Err k) = spelled "refused"
 
 -- "`answer LEN BUFFER`, `silence BUFFER` or `refused N BUFFER`"
 unfoldable pub said_word : Said → List ℕ
-said_word Silence = spelled "silence"
-said_word (Frame n) = spelled "answer"
-said_word (Said.Refused k) = spelled "refused"
+said_word (Ok None) = spelled "silence"
+said_word (Ok (Some n)) = spelled "answer"
+said_word (Err k) = spelled "refused"
 
 -- "`device K` ..; or `refused 6`; a 33rd gets `error full`"; "`state LINK .."; "`limit N`"
 unfoldable pub reply_word : Response → List ℕ

@@ -9,7 +9,6 @@ ghost use Rattle.terms.specs.Terms.{handed_word, heard_word, end_word, link_word
 ghost use Rattle.terms.specs.Terms.{behind_of};
 
 use antenna::Motion;
-use device::Said;
 use drives::Response;
 use receiver::Received;
 use record::{Link, Pending};
@@ -145,13 +144,13 @@ fn outcome_word(outcome: Result<(), Refusal>) -> Name
     }
 }
 
-fn said_word(said: Said) -> Name
+fn said_word(said: Result<Option<usize>, Refusal>) -> Name
     ensures { result ≡ name_of (said_word said) }
 {
     match said {
-        Said::Silence => SILENCE,
-        Said::Frame(_) => ANSWER,
-        Said::Refused(_) => REFUSED,
+        Ok(None) => SILENCE,
+        Ok(Some(_)) => ANSWER,
+        Err(_) => REFUSED,
     }
 }
 

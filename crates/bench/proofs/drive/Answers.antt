@@ -9,4 +9,4 @@ returns c =
     let obey = c in
     let part = obey in
     let a = part.args in
-    driven-is a.command a.row a.asked part.part-hex.ensures obey.front.ensures obey.obey-obeyed.ensures
+    driven-is a.command a.row a.asked part.part-hex.ensures obey.front.ensures obey.obey-answer.ensures

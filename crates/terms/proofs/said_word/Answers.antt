@@ -5,14 +5,14 @@ use Rattle.script.specs.Words.{spelled}
 use Rattle.octets.proofs.Rules.{tests}
 use Rattle.terms.proofs.said_word.Goals as goal
 
-pub returns-in-Silence : goal.returns-in-Silence
+pub returns-in-Ok-None : goal.returns-in-Ok-None
 unfolding name_of said_word spelled ◌at_start_of◌
-returns-in-Silence c = search (tests, c.in-Silence.is)
+returns-in-Ok-None c = search (tests, c.in-Ok-None.is, c.in-Ok-None.field-0-is)
 
-pub returns-in-Frame : goal.returns-in-Frame
+pub returns-in-Ok-Some : goal.returns-in-Ok-Some
 unfolding name_of said_word spelled ◌at_start_of◌
-returns-in-Frame c = search (tests, c.in-Frame.is)
+returns-in-Ok-Some c = search (tests, c.in-Ok-Some.is, c.in-Ok-Some.field-0-is)
 
-pub returns-in-Refused : goal.returns-in-Refused
+pub returns-in-Err : goal.returns-in-Err
 unfolding name_of said_word spelled ◌at_start_of◌
-returns-in-Refused c = search (tests, c.in-Refused.is)
+returns-in-Err c = search (tests, c.in-Err.is)
