@@ -4,6 +4,7 @@
 #![tactic(auto)]
 
 ghost use Rattle.std.specs.Prelude.{◌≡◌, true, take, get_or, is_some};
+ghost use Rattle.octets.specs.Text.{content};
 ghost use Rattle.identity.specs.Bits.{masked};
 ghost use Rattle.identity.specs.Identity.{padded, same};
 ghost use Rattle.record.specs.Allowed.{identity_of};
@@ -15,7 +16,7 @@ ghost use Rattle.xid.specs.Match.{ends_with, identity_matches, any_or, kind_matc
 
 use identity::{BLANK, OCTETS, VENDOR};
 use params::{Group, Identifier, Malformed, Place};
-use record::Plate;
+use record::{Identity, Plate};
 
 // The device's type: a single-antenna tilt device.
 pub const KIND: u8 = 0x01;
@@ -143,12 +144,12 @@ fn is_scan(payload: &[u8], parts: Parts) -> bool
     scan_shape(parts) && value(payload, parts.identity).len() == value(payload, parts.mask).len()
 }
 
-// The identity, its first `len` octets, padded with 0x20.
-fn padded(octets: [u8; OCTETS], len: usize) -> [u8; OCTETS]
-    ensures { result ≡ padded (take len octets) }
+// The identity, padded with 0x20.
+fn padded(identity: Identity) -> [u8; OCTETS]
+    ensures { result ≡ padded (content identity) }
 {
-    let mut row = octets;
-    row[len.min(OCTETS)..].fill(BLANK);
+    let mut row = identity.octets;
+    row[identity.len.min(OCTETS)..].fill(BLANK);
     row
 }
 
@@ -161,12 +162,11 @@ fn under_mask(s: &[u8], mask: &[u8], value: &[u8]) -> bool
 }
 
 #[tactic(auto, unfolding(crate::specs::Match::scan_matches, identity::specs::Identity::answers_scan, crate::specs::Addressing::values_at))]
-fn scan_matches(octets: [u8; OCTETS], len: usize, payload: &[u8], parts: Parts) -> bool
-    ensures { result ≡ scan_matches (take len octets) (values_at payload.now parts) }
+fn scan_matches(identity: Identity, payload: &[u8], parts: Parts) -> bool
+    ensures { result ≡ scan_matches (content identity) (values_at payload.now parts) }
 {
-    let row = padded(octets, len);
     under_mask(
-        &row,
+        &padded(identity),
         value(payload, parts.mask),
         value(payload, parts.identity),
     )
@@ -196,15 +196,12 @@ fn ends_with(s: &[u8], tail: &[u8]) -> bool
 }
 
 #[tactic(auto, unfolding(crate::specs::Match::identity_matches, params::specs::Walk::value_at))]
-fn identity_matches(octets: [u8; OCTETS], len: usize, payload: &[u8], part: Option<Place>) -> bool
-    ensures { result ≡ identity_matches (take len octets) (value_at payload.now part) }
+fn identity_matches(identity: &[u8], payload: &[u8], part: Option<Place>) -> bool
+    ensures { result ≡ identity_matches identity.now (value_at payload.now part) }
 {
     match part {
         None => true,
-        Some(place) => {
-            let n = len.min(OCTETS);
-            ends_with(&octets[..n], params::value_at(payload, place))
-        }
+        Some(place) => ends_with(identity, params::value_at(payload, place)),
     }
 }
 
@@ -225,29 +222,29 @@ fn kind_matches(payload: &[u8], part: Option<Place>) -> bool
     }
 }
 
-#[tactic(auto, using(octets::proofs::Takes::take_min), unfolding(crate::specs::Match::vendor_matches, params::specs::Walk::value_at))]
-fn vendor_matches(octets: [u8; OCTETS], len: usize, payload: &[u8], part: Option<Place>) -> bool
-    ensures { result ≡ vendor_matches (take len octets) (value_at payload.now part) }
+#[tactic(auto, unfolding(crate::specs::Match::vendor_matches, params::specs::Walk::value_at))]
+fn vendor_matches(identity: &[u8], payload: &[u8], part: Option<Place>) -> bool
+    ensures { result ≡ vendor_matches identity.now (value_at payload.now part) }
 {
     match part {
         None => true,
         Some(place) => {
-            let n = len.min(VENDOR);
-            any_or(&ANY_VENDOR, &octets[..n], params::value_at(payload, place))
+            let own = octets::part(identity, 0, VENDOR);
+            any_or(&ANY_VENDOR, own, params::value_at(payload, place))
         }
     }
 }
 
 #[tactic(auto, using(crate::proofs::Judging::assigned_if))]
-fn assign(octets: [u8; OCTETS], len: usize, payload: &[u8], parts: Parts) -> Xid
+fn assign(identity: &[u8], payload: &[u8], parts: Parts) -> Xid
     requires { is_assignment (values_at payload.now parts) ≡ true }
-    ensures { result ≡ meant_to (take len octets) (values_at payload.now parts) }
+    ensures { result ≡ meant_to identity.now (values_at payload.now parts) }
 {
     let address = first_octet(value(payload, parts.address));
     if record::is_addressed(address)
-        && identity_matches(octets, len, payload, parts.identity)
+        && identity_matches(identity, payload, parts.identity)
         && kind_matches(payload, parts.kind)
-        && vendor_matches(octets, len, payload, parts.vendor)
+        && vendor_matches(identity, payload, parts.vendor)
     {
         Xid::Assignment { address }
     } else {
@@ -257,17 +254,17 @@ fn assign(octets: [u8; OCTETS], len: usize, payload: &[u8], parts: Parts) -> Xid
 
 // ---- either, or neither
 
-fn judge(octets: [u8; OCTETS], len: usize, payload: &[u8], parts: Parts) -> Xid
-    ensures { result ≡ meant_to (take len octets) (values_at payload.now parts) }
+fn judge(identity: Identity, payload: &[u8], parts: Parts) -> Xid
+    ensures { result ≡ meant_to (content identity) (values_at payload.now parts) }
 {
     if is_scan(payload, parts) {
-        if scan_matches(octets, len, payload, parts) {
+        if scan_matches(identity, payload, parts) {
             Xid::Scan
         } else {
             Xid::Silence
         }
     } else if assignment_shape(parts) {
-        assign(octets, len, payload, parts)
+        assign(identity.octets(), payload, parts)
     } else {
         Xid::Silence
     }
@@ -277,9 +274,8 @@ fn judge(octets: [u8; OCTETS], len: usize, payload: &[u8], parts: Parts) -> Xid
 pub fn read(plate: Plate, payload: &[u8]) -> Xid
     ensures { result ≡ read_of (identity_of plate) payload.now }
 {
-    let identity = plate.identity;
     match params::walk(payload, addressing()) {
-        Ok(parts) => judge(identity.octets, identity.len, payload, parts_by(parts)),
+        Ok(parts) => judge(plate.identity, payload, parts_by(parts)),
         Err(Malformed) => Xid::Silence,
     }
 }

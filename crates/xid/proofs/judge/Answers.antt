@@ -24,7 +24,7 @@ assign-requires c =
     sym (assignment-shaped a.payload.now a.parts) ∙ sym c.assignment_shape.ensures ∙ c.if-assignment_shape.true
 
 pub returns-then-assignment_shape : goal.returns-then-assignment_shape
-returns-then-assignment_shape c = c.assign.ensures
+returns-then-assignment_shape c = rw c.octets.ensures.all at c.assign.ensures
 
 pub returns-else-assignment_shape : goal.returns-else-assignment_shape
 returns-else-assignment_shape c =

@@ -5,5 +5,5 @@ use Rattle.xid.proofs.padded.Goals as goal
 
 pub returns : goal.returns
 returns c =
-    padded-is c.args.octets _ c.args.len _ (search rules) c.min.ensures
+    padded-is c.args.identity.octets _ c.args.identity.len _ (search rules) c.min.ensures
     (c.fill.ensures.after (λ y k. k))
