@@ -1,5 +1,5 @@
 -- How many octets the receiver is lent: it takes those up to and with the next flag, or all. Assumes nothing.
-use Rattle.std.proofs.Common.{Ok, ◌≡◌, ℕ, suc, ◌+◌, ◌-◌, ◌^◌, ◌<◌, ◌≤◌, min, Bool, true, false, cond, not, ◌&&◌, eqb, ltb, List, [], ◌∷◌, ◌++◌, length, get_or, take, drop, sym, refl, ap, ◌∙◌, ap₂, ⊎_elim, append_assoc, arith, take-append-drop, length-take, take_all, ltb-true, le-ltb, lt-ltb, eq-eqb, ne_eqb, eqb-true}
+use Rattle.std.proofs.Common.{Ok, ◌≡◌, ℕ, suc, ◌+◌, ◌-◌, ◌^◌, ◌<◌, ◌≤◌, min, Bool, true, false, cond, ◌&&◌, eqb, ltb, List, [], ◌∷◌, ◌++◌, length, get_or, take, drop, sym, refl, ap, ◌∙◌, ap₂, ⊎_elim, append_assoc, arith, take-append-drop, length-take, take_all, ltb-true, le-ltb, lt-ltb, eq-eqb, ne_eqb, eqb-true}
 use borrow.Author.Tests.{not-true}
 use lib.Seq.{sets}
 use Rattle.octets.specs.Octets.{holds, place_of, part_of}
@@ -11,7 +11,6 @@ use Rattle.receiver.specs.Call.{Took, takes, received, Receives}
 use Rattle.limits.specs.Limits.{is_limit, limit_most, frame_most}
 use Rattle.receiver.specs.Pieces.{further_by}
 use Rattle.receiver.proofs.After.{after-other}
-use Rattle.receiver.specs.declared.Receiver.{Receiver}
 use Rattle.receiver.specs.declared.Received.{Received}
 use Rattle.salvage.specs.Holding.{Holding, receiver_in, Workable, grown_by, with_octet}
 use Rattle.salvage.specs.declared.OpenStretch.{OpenStretch}
@@ -19,20 +18,6 @@ use Rattle.salvage.specs.declared.Verdict.{Verdict}
 use Rattle.salvage.specs.Pieces.{with_all, up_to, stops_at, reach_of, before_flag, heard_verdict, Gathers}
 use Rattle.salvage.proofs.Gathering.{up-flagless, up-all, up-flag, place-most, takes-piece, receiver-octet}
 use Rattle.salvage.proofs.Gathering.{code-says, heeds, heeds-count, taken-count, gathered}
-
--- the tests of the code
-module _ (r : Receiver) (s : List ℕ) where
-  pub stops-unseen : r.seen ≡ false → false ≡ stops_at r s
-  unfolding stops_at
-  stops-unseen e = rw e
-
-  pub stops-some : r.seen ≡ true → r.any ≡ true → true ≡ stops_at r s
-  unfolding stops_at
-  stops-some e f = rw (e, f)
-
-  pub stops-none : r.seen ≡ true → r.any ≡ false → not (eqb (get_or s 0 0) flag) ≡ stops_at r s
-  unfolding stops_at
-  stops-none e f = rw (e, f)
 
 -- an octet that is no flag opens no new stretch
 module _ (c : Holding) (x : ℕ) (other : eqb x flag ≡ false) where

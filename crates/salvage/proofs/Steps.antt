@@ -1,5 +1,5 @@
 -- The returns of the functions without a loop, by the tests of the code. Assumes nothing.
-use Rattle.std.proofs.Common.{Option, None, Result, Ok, Err, ◌≡◌, ◌≢◌, ℕ, ◌+◌, ◌-◌, ◌%◌, ◌^◌, ◌<◌, ◌≤◌, Bool, true, false, cond, not, ◌&&◌, eqb, ltb, leb, List, [], ◌∷◌, length, sym, refl, ap, ◌∙◌, arith, ltb-false, le-ltb, lt-ltb, leb-false, leb-true}
+use Rattle.std.proofs.Common.{Option, Result, Ok, Err, ◌≡◌, ℕ, ◌+◌, ◌%◌, ◌^◌, ◌<◌, ◌≤◌, Bool, true, false, cond, not, ◌&&◌, eqb, ltb, List, [], ◌∷◌, length, refl, ap, ◌∙◌, arith, ltb-false}
 use borrow.Author.Tests.{not-true, not-false}
 use Rattle.octets.specs.Octets.{◌at_start_of◌}
 use Rattle.octets.proofs.Words.{and_parts}
@@ -11,88 +11,18 @@ use Rattle.refusal.specs.declared.Refusal.TheVariants.{NotAllowed, NoRoom}
 use Rattle.limits.specs.Limits.{is_limit}
 use Rattle.receiver.specs.Held.{places, fresh_marks}
 use Rattle.receiver.specs.declared.Receiver.{Receiver}
-use Rattle.salvage.specs.Holding.{Holding, raw_most, add64, tallied, onward_from}
+use Rattle.salvage.specs.Holding.{Holding, raw_most, add64, tallied}
 use Rattle.salvage.specs.Work.{spare_most, stretch_of, end_verdict, end_left, emptied, at_end, finish_rows, finished}
 use Rattle.salvage.specs.Work.{dropping_of, listing_of, taken_of, written_of, ending_of, end_listing, end_salvage, Finishes, works, salvage_rows, salvaged}
 use Rattle.salvage.specs.Work.{left_by, taken_by, wrote_by, holding_by, Salvages}
-use Rattle.salvage.specs.Pieces.{followed, begun_by, flags_added, counted_by, settled_by, sound_by, listed_by, goes_until, written_by}
+use Rattle.salvage.specs.Pieces.{followed, begun_by, flags_added, counted_by, settled_by, sound_by, listed_by}
 use Rattle.salvage.specs.Pieces.{passed_verdict}
-use Rattle.salvage.specs.declared.OpenStretch.{OpenStretch}
 use Rattle.salvage.specs.declared.Totals.{Totals}
 use Rattle.salvage.specs.declared.Salvage.{Salvage}
 use Rattle.salvage.specs.declared.Salvaged.{Salvaged}
 use Rattle.salvage.specs.declared.Verdict.{Verdict}
-use Rattle.salvage.specs.declared.Verdict.TheVariants.{Still, Empty, Kept, Dropped}
+use Rattle.salvage.specs.declared.Verdict.TheVariants.{Empty, Dropped}
 use Rattle.salvage.specs.declared.Stretch.{Stretch}
-
--- an output that is shorter than what may be written beside the run, and one that is not
-pub no_room : (out run : ℕ) → out < spare_most → false ≡ not (ltb out (spare_most + run))
-no_room out run h = sym (ap not (lt-ltb out (spare_most + run) (omega arith)))
-
-pub room-left : (out run : ℕ) → spare_most ≤ out → leb run (out - spare_most) ≡ not (ltb out (spare_most + run))
-room-left out run h = go (leb run (out - spare_most)) refl
-  where
-    go : (t : Bool) → leb run (out - spare_most) ≡ t → t ≡ not (ltb out (spare_most + run))
-    go true e = sym (ap not (le-ltb out (spare_most + run) (omega (arith, leb-true run (out - spare_most) e))))
-    go false e = sym (ap not (lt-ltb out (spare_most + run) (omega (arith, leb-false run (out - spare_most) e))))
-
--- what the functions give of a verdict that is not the one they ask for
-
-pub begun-other : (f : Verdict) (b : Bool) → f ≢ Kept → b ≡ begun_by f b
-unfolding begun_by
-begun-other Still b g = refl
-begun-other Empty b g = refl
-begun-other Kept b g = absurd (g refl)
-begun-other (Dropped k) b g = refl
-
-pub written-other : (f : Verdict) (b : Bool) (n : ℕ) (w : List ℕ) → f ≢ Kept → written_by f b n w ≡ []
-written-other Still b n w g = refl
-written-other Empty b n w g = refl
-written-other Kept b n w g = absurd (g refl)
-written-other (Dropped k) b n w g = refl
-
-pub listed-other : (f : Verdict) (o : OpenStretch) → ((k : ℕ) → f ≢ Dropped k) → None ≡ listed_by o f
-unfolding listed_by
-listed-other Still o g = refl
-listed-other Empty o g = refl
-listed-other Kept o g = refl
-listed-other (Dropped k) o g = absurd (g k refl)
-
-pub until-other : (f : Verdict) (at end : ℕ) → ((k : ℕ) → f ≢ Dropped k) → end ≡ goes_until f at end
-unfolding goes_until
-until-other Still at end g = refl
-until-other Empty at end g = refl
-until-other Kept at end g = refl
-until-other (Dropped k) at end g = absurd (g k refl)
-
-pub follow-other : (n : ℕ) (f : Verdict) (o : OpenStretch) → f ≢ Still → {x y : ℕ} → y ≡ add64 o.offset o.length
-    → x ≡ add64 y n → record { offset = x; length = 0; held = 0 } ≡ followed n f o
-unfolding followed onward_from
-follow-other n Still o g e h = absurd (g refl)
-follow-other n Empty o g e h = rw (h, e)
-follow-other n Kept o g e h = rw (h, e)
-follow-other n (Dropped k) o g e h = rw (h, e)
-
--- the counts, by what becomes of the stretch
-module _ (n : ℕ) (t : Totals) (l : ℕ) {f : Verdict} {a b d : ℕ} where
-  pub counted-kept : f ≡ Kept → a ≡ add64 t.frames 1 → b ≡ add64 t.kept l → d ≡ add64 t.flags n
-      → record { frames = a; kept = b; flags = d; stretches = t.stretches; dropped = t.dropped } ≡ counted_by n t l f
-  unfolding counted_by flags_added tallied
-  counted-kept e x y z = rw (e, x, y, z)
-
-  pub counted-dropped : {k : ℕ} → f ≡ Dropped k → d ≡ add64 t.flags n → a ≡ add64 t.stretches 1 → b ≡ add64 t.dropped l
-      → record { frames = t.frames; kept = t.kept; flags = d; stretches = a; dropped = b } ≡ counted_by n t l f
-  unfolding counted_by flags_added tallied
-  counted-dropped e x y z = rw (e, x, y, z)
-
--- a record's numbers, tested one by one
-pub sound-held : (k j : ℕ) → k ≤ places → leb j raw_most ≡ sound_by k j
-unfolding sound_by
-sound-held k j h = rw (le-ltb places k h) (by-test (leb j raw_most) refl)
-  where
-    by-test : (t : Bool) → leb j raw_most ≡ t → t ≡ not (ltb raw_most j)
-    by-test true e = sym (ap not (le-ltb raw_most j (leb-true j raw_most e)))
-    by-test false e = sym (ap not (lt-ltb raw_most j (leb-false j raw_most e)))
 
 -- the two numbers that both calls refuse
 module _ {A : Type 0} (k j : ℕ) (rest : List TestRow) (x : A) where

@@ -1,27 +1,14 @@
--- What is stored into the output for a stretch that is kept, step by step; and a stretch that grows. Assumes nothing.
-use Rattle.std.proofs.Common.{◌≡◌, ℕ, ◌+◌, ◌-◌, ◌<◌, ◌≤◌, min, Bool, true, false, List, [], ◌∷◌, ◌++◌, length, take, set, sym, refl, ap, ◌∙◌, add-zero, arith, length-append, length-take}
+-- What is stored into the output for a stretch that is kept, step by step. Assumes nothing.
+use Rattle.std.proofs.Common.{◌≡◌, ℕ, ◌+◌, ◌<◌, ◌≤◌, Bool, true, false, List, [], ◌∷◌, ◌++◌, length, take, set, sym, refl, ap, ◌∙◌, add-zero, arith, length-append, length-take}
 use lib.Seq.{sets}
 use Rattle.octets.specs.Octets.{part_of}
 use Rattle.octets.specs.Puts.{Puts}
 use Rattle.octets.proofs.Runs.{run-all, run-one, run-some, run-put, run-done}
 use Rattle.frame.specs.Line.{flag}
-use Rattle.salvage.specs.Holding.{raw_most, add64, grown_by, first_flag, kept_octets}
-use Rattle.salvage.specs.Pieces.{written_by}
-use Rattle.salvage.specs.declared.OpenStretch.{OpenStretch}
-use Rattle.salvage.specs.declared.Verdict.{Verdict}
-use Rattle.salvage.specs.declared.Verdict.TheVariants.{Kept}
+use Rattle.salvage.specs.Holding.{first_flag, kept_octets}
 
 pub nothing_put : {o : List ℕ} {at : ℕ} → Puts o at [] at o
 nothing_put {at = at} = record { count = sym (add-zero at); octets = refl }
-
-module _ {o : List ℕ} {at : ℕ} {begun : Bool} where
-  pub first-there : begun ≡ true → Puts o at (first_flag begun) at o
-  unfolding first_flag
-  first-there e = rw e nothing_put
-
-  pub first-put : begun ≡ false → Puts o at (first_flag begun) (at + 1) (set o at flag)
-  unfolding first_flag
-  first-put e = rw e (record { count = refl; octets = refl })
 
 pub first-length : (begun : Bool) → length (first_flag begun) ≤ 1
 unfolding first_flag
@@ -57,14 +44,3 @@ module _ (begun : Bool) (held : ℕ) (raw : List ℕ) (fits : held ≤ length ra
       (run-one flag refl refl
       (run-some (take held raw) (e ∙ ap (sets o₁ first) f) n refl
       (run-put (first_flag begun) p refl run-all)))
-
--- the same, of a stretch whose verdict is known
-pub written-kept : (begun : Bool) (held : ℕ) (w : List ℕ) {f : Verdict} → f ≡ Kept
-    → written_by f begun held w ≡ kept_octets begun held w
-written-kept begun held w e = rw e
-
-pub grown-is : (t : OpenStretch) (n : ℕ) {l k : ℕ} → t.held ≤ raw_most → l ≡ add64 t.length n → k ≡ min (raw_most - t.held) n
-    → record { offset = t.offset; length = l; held = t.held + k } ≡ grown_by n t
-unfolding grown_by
-grown-is t n {l} {k} h e f =
-    let g : t.held + k ≡ min raw_most (t.held + n) = omega arith in rw (e, g)

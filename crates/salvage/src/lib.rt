@@ -119,6 +119,7 @@ pub fn new() -> Salvage
 }
 
 // The open stretch with these octets more, of which as many are held as there are places for.
+#[tactic(auto, unfolding(crate::specs::Holding::grown_by, crate::specs::Holding::add64))]
 fn hold(stretch: OpenStretch, run: &[u8], raw: &mut [u8]) -> OpenStretch
     requires { stretch.held ≤ raw_most }
     ensures { (result ≡ grown_by (length run.now) stretch)
@@ -128,12 +129,13 @@ fn hold(stretch: OpenStretch, run: &[u8], raw: &mut [u8]) -> OpenStretch
     octets::put_all(raw, held, run);
     OpenStretch {
         offset: stretch.offset,
-        length: std::num::wrapping_add_u64(stretch.length, run.len() as u64),
-        held: held + octets::fewer(RAW - held, run.len()),
+        length: stretch.length.wrapping_add(run.len() as u64),
+        held: held + run.len().min(RAW - held),
     }
 }
 
 // The one that is open behind it: the same where it is still open, or the one behind `n` flags.
+#[tactic(auto, unfolding(crate::specs::Pieces::followed, crate::specs::Holding::onward_from, crate::specs::Holding::add64))]
 fn follow(stretch: OpenStretch, verdict: Verdict, n: u64) -> OpenStretch
     ensures { result ≡ followed n verdict stretch }
 {
@@ -141,26 +143,22 @@ fn follow(stretch: OpenStretch, verdict: Verdict, n: u64) -> OpenStretch
         return stretch;
     }
     OpenStretch {
-        offset: std::num::wrapping_add_u64(
-            std::num::wrapping_add_u64(stretch.offset, stretch.length),
-            n,
-        ),
+        offset: stretch.offset.wrapping_add(stretch.length).wrapping_add(n),
         length: 0,
         held: 0,
     }
 }
 
 // Whether the first flag is written: with the first stretch that is kept.
+#[tactic(auto, unfolding(crate::specs::Pieces::begun_by))]
 fn begin(begun: bool, verdict: Verdict) -> bool
     ensures { result ≡ begun_by verdict begun }
 {
-    if let Verdict::Kept = verdict {
-        return true;
-    }
-    begun
+    begun || matches!(verdict, Verdict::Kept)
 }
 
 // The counts with a stretch of `length` octets that is over, and `n` flags behind it.
+#[tactic(auto, unfolding(crate::specs::Pieces::counted_by, crate::specs::Pieces::flags_added, crate::specs::Holding::tallied, crate::specs::Holding::add64))]
 fn tally(totals: Totals, length: u64, verdict: Verdict, n: u64) -> Totals
     ensures { result ≡ counted_by n totals length verdict }
 {
@@ -168,25 +166,26 @@ fn tally(totals: Totals, length: u64, verdict: Verdict, n: u64) -> Totals
     match verdict {
         Verdict::Still => t,
         Verdict::Empty => {
-            t.flags = std::num::wrapping_add_u64(t.flags, n);
+            t.flags = t.flags.wrapping_add(n);
             t
         }
         Verdict::Kept => {
-            t.frames = std::num::wrapping_add_u64(t.frames, 1);
-            t.kept = std::num::wrapping_add_u64(t.kept, length);
-            t.flags = std::num::wrapping_add_u64(t.flags, n);
+            t.frames = t.frames.wrapping_add(1);
+            t.kept = t.kept.wrapping_add(length);
+            t.flags = t.flags.wrapping_add(n);
             t
         }
         Verdict::Dropped(_) => {
-            t.flags = std::num::wrapping_add_u64(t.flags, n);
-            t.stretches = std::num::wrapping_add_u64(t.stretches, 1);
-            t.dropped = std::num::wrapping_add_u64(t.dropped, length);
+            t.flags = t.flags.wrapping_add(n);
+            t.stretches = t.stretches.wrapping_add(1);
+            t.dropped = t.dropped.wrapping_add(length);
             t
         }
     }
 }
 
 // The record behind an open stretch, whatever becomes of it, and `n` flags behind it.
+#[tactic(auto, unfolding(crate::specs::Pieces::settled_by))]
 fn settle(
     salvage: Salvage,
     receiver: Receiver,
@@ -239,28 +238,17 @@ fn decide(handed: Option<Result<usize, Refusal>>, closed: bool, length: u64) -> 
     }
 }
 
-// One more, as far as there are so many.
-fn behind(n: usize, most: usize) -> usize
-    ensures { result ≡ min (n + 1) most }
-{
-    if n < most { n + 1 } else { most }
-}
-
 // Whether the receiver itself stops behind the next flag: one that closes octets.
+#[tactic(auto, unfolding(crate::specs::Pieces::stops_at))]
 fn stops(receiver: Receiver, run: &[u8]) -> bool
     requires { 0 < length run.now }
     ensures { result ≡ stops_at receiver run.now }
 {
-    if !receiver.seen {
-        return false;
-    }
-    if receiver.any {
-        return true;
-    }
-    run[0] != FLAG
+    receiver.seen && (receiver.any || run[0] != FLAG)
 }
 
 // How many octets the receiver is lent, so that it takes them up to and with the next flag, or all.
+#[tactic(auto, unfolding(crate::specs::Pieces::reach_of))]
 fn reach(receiver: Receiver, run: &[u8]) -> usize
     requires { 0 < length run.now }
     ensures { result ≡ reach_of receiver run.now }
@@ -268,10 +256,11 @@ fn reach(receiver: Receiver, run: &[u8]) -> usize
     if stops(receiver, run) {
         return run.len();
     }
-    behind(octets::find(FLAG, run), run.len())
+    octets::find(FLAG, run).saturating_add(1).min(run.len())
 }
 
 // Of so many octets those before a flag that is the last.
+#[tactic(auto, unfolding(crate::specs::Pieces::before_flag))]
 fn without_flag(run: &[u8], taken: usize) -> usize
     requires { (0 < taken) × (taken ≤ length run.now) }
     ensures { result ≡ before_flag run.now taken }
@@ -317,6 +306,7 @@ fn gather(
 }
 
 // The first flag, where it is not written yet.
+#[tactic(auto, unfolding(crate::specs::Holding::first_flag))]
 fn put_first(begun: bool, out: &mut [u8], at: usize) -> usize
     requires { at < length out.old }
     ensures { Puts out.old at (first_flag begun) result out.new }
@@ -359,6 +349,7 @@ fn write_kept(
 }
 
 // What is told of a stretch that is over.
+#[tactic(auto, unfolding(crate::specs::Pieces::listed_by))]
 fn list(stretch: OpenStretch, verdict: Verdict) -> Option<Stretch>
     ensures { result ≡ listed_by stretch verdict }
 {
@@ -373,6 +364,7 @@ fn list(stretch: OpenStretch, verdict: Verdict) -> Option<Stretch>
 }
 
 // How far the call goes: a stretch that is left out is the last.
+#[tactic(auto, unfolding(crate::specs::Pieces::goes_until))]
 fn until(verdict: Verdict, at: usize, end: usize) -> usize
     ensures { result ≡ goes_until verdict at end }
 {
@@ -427,33 +419,25 @@ fn work(
 }
 
 // Whether the numbers of a record are in their bounds.
+#[tactic(auto, unfolding(crate::specs::Pieces::sound_by))]
 fn is_sound(count: usize, held: usize) -> bool
     ensures { result ≡ sound_by count held }
 {
-    if PLACES < count {
-        return false;
-    }
-    held <= RAW
+    count <= PLACES && held <= RAW
 }
 
 // The same, and a limit that is one.
 fn is_allowed(limit: usize, count: usize, held: usize) -> bool
     ensures { result ≡ is_limit limit && sound_by count held }
 {
-    if limits::is_limit(limit) {
-        return is_sound(count, held);
-    }
-    false
+    limits::is_limit(limit) && is_sound(count, held)
 }
 
 // Whether an output has room for what is held, the first flag and a run.
 fn has_room(out: usize, run: usize) -> bool
     ensures { result ≡ not (nat_lt out (spare_most + run)) }
 {
-    if out < SPARE {
-        return false;
-    }
-    run <= out - SPARE
+    SPARE <= out && run <= out - SPARE
 }
 
 // Octets of a capture: takes them up to and with the first flag that closes a stretch left out, and tells how many.
