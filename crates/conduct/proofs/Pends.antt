@@ -14,7 +14,7 @@ use Rattle.std.specs.Prelude.{Option, Some, None, unwrap_or}
 use Rattle.antenna.specs.Motions.{waiting_of}
 use Rattle.control.specs.declared.Order.{Order}
 use Rattle.control.specs.declared.Order.TheVariants.{Info, Rr, Rnr}
-use Rattle.record.specs.declared.Payload.{Payload}
+use Rattle.record.specs.Desk.{Payload}
 use Rattle.record.specs.declared.Pending.{Pending}
 use Rattle.record.specs.declared.Pending.TheVariants.{Answer, Indication}
 use Rattle.record.specs.declared.Session.{Session}

@@ -16,7 +16,7 @@ use Rattle.antenna.specs.Motions.{in_range, moves}
 use Rattle.limits.specs.Limits.{is_limit}
 use Rattle.record.specs.declared.Pending.{Pending}
 use Rattle.record.specs.declared.Pending.TheVariants.{Nothing, Answer, Indication}
-use Rattle.record.specs.declared.Payload.{Payload}
+use Rattle.record.specs.Desk.{Payload}
 use Rattle.record.specs.declared.Session.{Session}
 use Rattle.record.specs.declared.Link.{Link}
 use Rattle.record.specs.declared.Link.TheVariants.{NoAddress, AddressAssigned, Connected}

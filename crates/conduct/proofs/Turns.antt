@@ -7,7 +7,7 @@ use Prim.Native.Nat.{ℕ}
 use Rattle.std.specs.Prelude.{Option, Some, None}
 use Rattle.antenna.specs.declared.Motion.TheVariants.{Still}
 use Rattle.antenna.specs.Motions.{waiting_of, moves}
-use Rattle.record.specs.declared.Payload.{Payload}
+use Rattle.record.specs.Desk.{Payload}
 use Rattle.record.specs.declared.Session.{Session}
 use Rattle.record.specs.declared.Device.{Device}
 use Rattle.session.specs.Session.{pends, accepts, taken}

@@ -14,7 +14,7 @@ use Rattle.control.specs.Control.{next_of}
 use Rattle.control.specs.declared.Order.TheVariants.{Snrm}
 use Rattle.record.specs.declared.Pending.{Pending}
 use Rattle.record.specs.declared.Pending.TheVariants.{Answer, Indication}
-use Rattle.record.specs.declared.Payload.{Payload}
+use Rattle.record.specs.Desk.{Payload}
 use Rattle.record.specs.declared.Session.{Session}
 use Rattle.record.specs.declared.Link.TheVariants.{AddressAssigned, Connected}
 use Rattle.record.specs.declared.Device.{Device}
