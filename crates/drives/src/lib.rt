@@ -5,8 +5,7 @@
 #![tactic(auto)]
 
 ghost use Rattle.std.specs.Prelude.{◌≡◌, true, ◌<◌, length};
-ghost use Rattle.refusal.specs.Answer.{Changes};
-ghost use Rattle.record.specs.Fresh.{blank_device};
+ghost use Rattle.refusal.specs.Answer.{Changes, made_of};
 ghost use Rattle.device.specs.Judge.{Judges};
 ghost use Rattle.bus.specs.Cable.{row_most};
 ghost use Rattle.drives.specs.Drives.{Obeys, after_of, is_tilt, tilt_of, are_tilts, fresh_with, added, adds};
@@ -15,7 +14,7 @@ ghost use Rattle.drives.specs.Drives.{tells_limit, to_device, for_device, obeyed
 
 use antenna::Angle;
 use bus::{MOST, Row};
-use record::{Changed, Device, Event, Span};
+use record::{Device, Event, Span};
 use refusal::Refusal;
 
 // The words of a command by their places, the command's own word at 0. The value of HEX is where its octets end.
@@ -53,8 +52,8 @@ fn tilt_of(pattern: usize) -> Angle
 // ---- `device`
 
 // The four texts lie one behind the other.
-fn fresh(values: Values, octets: &[u8]) -> Changed
-    ensures { Changes (fresh_with values octets.now) blank_device result.outcome result.device }
+fn fresh(values: Values, octets: &[u8]) -> Result<Device, Refusal>
+    ensures { made_of result ≡ fresh_with values octets.now }
 {
     let product = values[1];
     let hardware = values[2];
@@ -88,14 +87,14 @@ fn make(row: &mut Row, values: Values, octets: &[u8]) -> Response
     requires { row.old.count < row_most }
     ensures { after_of row.new result ≡ added row.old (fresh_with values octets.now) }
 {
-    let made = fresh(values, octets);
-    let outcome = made.outcome;
-    if let Err(_) = outcome {
-        return Response::Outcome(outcome);
+    match fresh(values, octets) {
+        Ok(device) => {
+            row.devices[row.count] = device;
+            row.count += 1;
+            Response::Device(row.count)
+        }
+        Err(refusal) => Response::Outcome(Err(refusal)),
     }
-    row.devices[row.count] = made.device;
-    row.count += 1;
-    Response::Device(row.count)
 }
 
 // A 33rd device is not looked at.
