@@ -5,12 +5,12 @@ use Rattle.std.specs.Result.{result_unwrap_or}
 use Rattle.refusal.specs.declared.Refusal.{Refusal}
 use mathlib.Core.Path.{◌≡◌, refl, sym, ap, ◌∙◌}
 use mathlib.Core.Bool.{Bool, true, false}
-use mathlib.Core.List.{List, [], ◌∷◌, append-nil}
+use mathlib.Core.List.{List, [], append-nil}
 use mathlib.Core.Option.{Option, none, some}
-use Prim.Native.Nat.{ℕ, zero, suc, ◌-◌, ◌≤◌, ◌<◌, min}
+use Prim.Native.Nat.{ℕ, ◌-◌, ◌≤◌, ◌<◌}
 use native.Mathlib.Omega.{arith}
-use lib.ListN.{length, take, drop, get_or, length-take, length-drop, drop_of_length-le}
-use lib.Seq.{take_all, take-take}
+use lib.ListN.{length, take, drop, get_or, length-drop, drop_of_length-le}
+use lib.Seq.{take_all}
 use Rattle.octets.specs.Octets.{◌at_start_of◌}
 use Rattle.refusal.specs.Answer.{Answer, gives, refuses, answer_of, counted, out_after, Hands}
 use Rattle.refusal.proofs.Answers.{gives-not-refuses, gives_same, octets-told, in-room}
@@ -26,7 +26,7 @@ use Rattle.scan.specs.Scan.{probe_length, probe_of, over, probed}
 use Rattle.scan.proofs.Probes.{length-probe, probed-over, probed-open}
 use Rattle.bus.specs.Cable.{octets_given, line_with, line_for, hears, is_frame, with_frame}
 use Rattle.mast.specs.Steps.{line_in, frame_in, is_handed_out, Probing, Listens}
-use Rattle.mast.specs.declared.Written.{Written}
+use Rattle.mast.specs.Steps.{Written}
 
 -- ---- the line of the probe that is next
 
@@ -100,21 +100,14 @@ asks-none s {k = k} h e =
 
 -- ---- what lies between the flags
 
-module _ (s : List ℕ) (n : ℕ) where
-  pub inside-none : min n (length s) < 2 → [] ≡ inside (take n s)
+module _ (l : List ℕ) where
+  pub inside-none : length l < 2 → [] ≡ inside l
   unfolding inside
-  inside-none h = let z : length (take n s) - 2 ≡ 0 = omega (arith, length-take n s) in rw z
+  inside-none h = let z : length l - 2 ≡ 0 = omega arith in rw z
 
-  pub inside-some : 2 ≤ min n (length s) → take (min n (length s) - 1 - 1) (drop 1 s) ≡ inside (take n s)
+  pub inside-some : take (length l - 1 - 1) (drop 1 l) ≡ inside l
   unfolding inside
-  inside-some h =
-      let z : length (take n s) - 2 ≡ min n (length s) - 1 - 1 = omega (arith, length-take n s) in
-      rw z (go n s (min n (length s) - 1 - 1) (omega arith))
-    where
-      go : (n : ℕ) (s : List ℕ) (k : ℕ) → k < n → take k (drop 1 s) ≡ take k (drop 1 (take n s))
-      go zero s k h = absurd (omega arith)
-      go (suc n) [] k h = refl
-      go (suc n) (x ∷ s) k h = sym (take-take k n s (omega arith))
+  inside-some = let z : length l - 1 - 1 ≡ length l - 2 = omega arith in rw z
 
 -- ---- a device that hears the line
 

@@ -18,7 +18,7 @@ use Rattle.bus.specs.Cable.{row_most, line_for, replies_to, after_line, any_repl
 use Rattle.bus.specs.Scanning.{Bus, one_probe_by, one_probe, probes_asked, scanned}
 use Rattle.mast.specs.Mast.{on_cable, off_cable, with_devices, swept_by, swept}
 use Rattle.mast.specs.Steps.{line_in, is_handed_out, Probing, Listens, Sends}
-use Rattle.mast.specs.declared.Written.{Written}
+use Rattle.mast.specs.Steps.{Written}
 use Rattle.bus.specs.declared.Row.{Row}
 
 -- ---- a line goes to every device

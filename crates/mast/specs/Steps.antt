@@ -11,10 +11,15 @@ use Rattle.refusal.specs.Answer.{Answer, gives, refuses}
 use Rattle.record.specs.declared.Device.{Device}
 use Rattle.device.specs.Judge.{Said}
 use Rattle.bus.specs.Cable.{line_for, replies_to, after_line, any_replies, all_after}
-use Rattle.mast.specs.declared.Written.{Written}
+use Rattle.octets.specs.Text.{content}
+use Rattle.octets.specs.declared.Text.{Text}
+use Rattle.limits.specs.Limits.{limit_least, line_most}
+
+abbrev pub Written : Type 0
+Written = Text (line_most limit_least)
 
 abbrev pub line_in : Written → List ℕ
-line_in w = take w.len w.octets
+line_in = content
 
 abbrev pub frame_in : Said → Bool
 frame_in (Ok None) = false

@@ -12,6 +12,7 @@ ghost use Rattle.mast.specs.Steps.{line_in, Probing, Listens, Sends};
 
 use bus::{MOST, Row};
 use limits::{LIMIT_LEAST, LINE_MOST, LONGEST_FRAME};
+use octets::Text;
 use record::Device;
 use scan::{PROBE, Scan};
 
@@ -24,19 +25,14 @@ pub struct Swept {
 
 // ---- the line of the probe that is next
 
-// A line: the first `len` of the octets.
-#[derive(Clone, Copy)]
-struct Written {
-    octets: [u8; LINE_MOST],
-    len: usize,
-}
+type Written = Text<LINE_MOST>;
 
 fn line_of(probe: [u8; PROBE]) -> Written
     ensures { line_in result ≡ line_for probe }
 {
     let mut octets = [0u8; LINE_MOST];
     let handed = writer::write(LIMIT_LEAST, probe[0], probe[1], &probe[2..], &mut octets);
-    Written {
+    Text {
         octets,
         len: handed.unwrap_or(0),
     }
@@ -55,15 +51,14 @@ fn ask(scan: Scan) -> Option<Written>
 
 // ---- the line goes to every device
 
-// What lies between the flags of the line that is the first `len` octets.
-fn inner(octets: &[u8], len: usize) -> &[u8]
-    ensures { result.now ≡ inside (take len octets.now) }
+// What lies between the flags of a line.
+fn inner(line: &[u8]) -> &[u8]
+    ensures { result.now ≡ inside line.now }
 {
-    let end = octets::fewer(len, octets.len());
-    if end < 2 {
-        return &octets[..0];
+    if line.len() < 2 {
+        return &line[..0];
     }
-    &octets[1..end - 1]
+    &line[1..line.len() - 1]
 }
 
 // A device hears the line: whether it answers with a frame.
@@ -71,7 +66,7 @@ fn listen(device: &mut Device, line: Written) -> bool
     ensures { Listens device.old (line_in line) result device.new }
 {
     let mut answer = [0u8; LONGEST_FRAME];
-    match device::hear(device, inner(&line.octets, line.len), &mut answer) {
+    match device::hear(device, inner(line.octets()), &mut answer) {
         Ok(Some(_)) => true,
         Ok(None) => false,
         Err(_) => false,

@@ -7,16 +7,16 @@ use Rattle.mast.proofs.listen.Goals as goal
 pub returns-in-Ok-Some : goal.returns-in-Ok-Some
 returns-in-Ok-Some c =
     let a = c.args in
-    listens-is a.device.now (line_in a.line) c.hear.ensures c.inner.ensures
+    listens-is a.device.now (line_in a.line) c.hear.ensures (rw c.octets.ensures.all at c.inner.ensures)
     (rw c.in-Ok-Some.is (rw c.in-Ok-Some.field-0-is refl))
 
 pub returns-in-Ok-None : goal.returns-in-Ok-None
 returns-in-Ok-None c =
     let a = c.args in
-    listens-is a.device.now (line_in a.line) c.hear.ensures c.inner.ensures
+    listens-is a.device.now (line_in a.line) c.hear.ensures (rw c.octets.ensures.all at c.inner.ensures)
     (rw c.in-Ok-None.is (rw c.in-Ok-None.field-0-is refl))
 
 pub returns-in-Err : goal.returns-in-Err
 returns-in-Err c =
     let a = c.args in
-    listens-is a.device.now (line_in a.line) c.hear.ensures c.inner.ensures (rw c.in-Err.is refl)
+    listens-is a.device.now (line_in a.line) c.hear.ensures (rw c.octets.ensures.all at c.inner.ensures) (rw c.in-Err.is refl)
