@@ -21,20 +21,28 @@ pub enum Refusal {
 }
 
 // The paper's number of a refusal.
+impl From<Refusal> for u8 {
+    ghost from_gives = { λ refusal n. n ≡ number_of refusal };
+
+    fn from(refusal: Refusal) -> u8 {
+        match refusal {
+            Refusal::TooShort => 1,
+            Refusal::TooLong => 2,
+            Refusal::WrongCheck => 3,
+            Refusal::Broken => 4,
+            Refusal::NoRoom => 5,
+            Refusal::NotAllowed => 6,
+            Refusal::ScanOver => 7,
+            Refusal::CannotBe => 8,
+            Refusal::PayloadTooLong => 9,
+        }
+    }
+}
+
 pub fn number(refusal: Refusal) -> u8
     ensures { result ≡ number_of refusal }
 {
-    match refusal {
-        Refusal::TooShort => 1,
-        Refusal::TooLong => 2,
-        Refusal::WrongCheck => 3,
-        Refusal::Broken => 4,
-        Refusal::NoRoom => 5,
-        Refusal::NotAllowed => 6,
-        Refusal::ScanOver => 7,
-        Refusal::CannotBe => 8,
-        Refusal::PayloadTooLong => 9,
-    }
+    u8::from(refusal)
 }
 
 // Hands `octets` out: to the start of `out`, if it has room for them all. So many stand there then; or the number for "no", and the
