@@ -58,11 +58,22 @@ module _ (x : ℕ) (o : List ℕ) (at : ℕ) {o₁ : List ℕ} {n y : ℕ} where
   pub other-put : special x ≡ false → o₁ ≡ o → n ≡ at → y ≡ x → Puts o at (escaped x) (n + 1) (set o₁ n y)
   other-put e s k v = rw (s, k, v) (run-done refl (run-one _ refl (escaped-other x e) run-all))
 
--- a loop that goes through d by i: one octet more, and the end
+-- a loop that goes through d by i: one octet more, four, and the end
 module _ (d : List ℕ) where
   pub line-more : (i : ℕ) → i < length d → on_line (drop i d) ≡ escaped (get_or d i 0) ++ on_line (drop (i + 1) d)
   unfolding on_line
   line-more i h = rw (rest d i h)
+
+  pub line-four : (i : ℕ) → i + 3 < length d → on_line (drop i d) ≡ escaped (get_or d i 0) ++ (escaped (get_or d (i + 1) 0)
+      ++ (escaped (get_or d (i + 2) 0) ++ (escaped (get_or d (i + 3) 0) ++ on_line (drop (i + 4) d))))
+  line-four i h =
+      let two : i + 1 + 1 ≡ i + 2 = omega arith in
+      let three : i + 2 + 1 ≡ i + 3 = omega arith in
+      let four : i + 3 + 1 ≡ i + 4 = omega arith in
+      let second = rw two at (line-more (i + 1) (omega arith)) in
+      let third = rw three at (line-more (i + 2) (omega arith)) in
+      let fourth = rw four at (line-more (i + 3) h) in
+      rw (line-more i (omega arith), second, third, fourth)
 
   -- how many octets it takes
   pub more-long : (i : ℕ) → i < length d

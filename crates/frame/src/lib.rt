@@ -90,7 +90,11 @@ pub fn deliver(limit: usize, d: &[u8], out: &mut [u8]) -> Result<usize, Refusal>
 
 // Takes the escapes out of a line that is whole, into a store of so many places, and judges what is left: the fewer there are,
 // the sooner they are set to zero.
-fn decode_in<const PLACES: usize>(limit: usize, src: &[u8], out: &mut [u8]) -> Result<usize, Refusal>
+fn decode_in<const PLACES: usize>(
+    limit: usize,
+    src: &[u8],
+    out: &mut [u8],
+) -> Result<usize, Refusal>
     requires { (length src.now ≤ PLACES) × (PLACES ≤ line_most limit_most) × (eqb (last_of 0 src.now) escape ≡ false) }
     ensures { Hands (framed limit (plain src.now) (length out.old))
         out.old result out.new }
