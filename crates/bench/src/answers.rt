@@ -4,7 +4,6 @@ ghost use Rattle.std.specs.Prelude.{◌≡◌};
 ghost use Rattle.terms.specs.Terms.{letters_of};
 ghost use Rattle.bench.specs.Written.{digit_of, hex_row};
 
-use crate::rows;
 use antenna::Angle;
 use device::Said;
 use refusal::{Handed, Outcome, Refusal};
@@ -53,14 +52,12 @@ pub fn say_tilt(out: Stdout, mark: u8, tilt: Angle) -> Result<()> {
     say_number(out, b'-', 65536 - pattern)
 }
 
+#[tactic(auto, unfolding(crate::specs::Written::digit_of))]
 fn digit(value: u8) -> u8
     ensures { result ≡ digit_of value }
 {
     let d = value % 16;
-    if d < 10 {
-        return 48 + d;
-    }
-    87 + d
+    if d < 10 { b'0' + d } else { b'a' + (d - 10) }
 }
 
 // Octets in HEX behind a mark, as many as there is room for; a `-` stands where none does.
@@ -69,13 +66,9 @@ fn in_hex(mark: u8, s: &[u8]) -> [u8; LONGEST]
 {
     let mut row = [mark; LONGEST];
     row[1] = b'-';
-    let n = octets::fewer(s.len(), ROOM);
-    let mut i = 0;
-    while i < n {
-        let octet = s[i];
-        row[2 * i + 1] = digit(octet / 16);
-        row[2 * i + 2] = digit(octet);
-        i += 1;
+    for (i, octet) in octets::part(s, 0, ROOM).iter().enumerate() {
+        row[2 * i + 1] = digit(*octet / 16);
+        row[2 * i + 2] = digit(*octet);
     }
     row
 }
@@ -89,7 +82,7 @@ pub fn say_hex(out: Stdout, mark: u8, s: &[u8]) -> Result<()> {
     }
     say_octets(
         out,
-        octets::part(&row, 0, rows::moved(rows::moved(1, n, LONGEST), n, LONGEST)),
+        octets::part(&row, 0, n.saturating_mul(2).saturating_add(1)),
     )
 }
 

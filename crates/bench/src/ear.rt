@@ -53,14 +53,22 @@ fn say_heard(out: Stdout, heard: Heard, taken: usize) -> Result<()> {
     }
 }
 
+// What a call told, and the receiver and the lent output after it.
+#[derive(Clone, Copy)]
+struct Called {
+    ear: Ear,
+    heard: Heard,
+    taken: usize,
+    lent: [u8; ROOM],
+}
+
 // One call; octets that it did not take are forgotten.
-fn call(out: Stdout, ear: Ear, asked: Asked) -> Result<Ear>
-    ensures { IfOk result (λ after. ear_of after ≡ held_by (ear_call (ear_of ear) asked) (ear_of ear)) }
+fn call(ear: Ear, asked: Asked) -> Called
+    ensures { ear_of result.ear ≡ held_by (ear_call (ear_of ear) asked) (ear_of ear) }
 {
     let receiver = ear.receiver;
     let mut store = ear.store;
     let values = asked.values;
-    let room = values[3];
     let mut lent = [FILL; ROOM];
     let run = octets::part(&asked.octets, 0, asked.len as usize);
     let received = receiver::receive(
@@ -68,25 +76,32 @@ fn call(out: Stdout, ear: Ear, asked: Asked) -> Result<Ear>
         values[1],
         run,
         &mut store,
-        rows::front(&mut lent, room),
+        rows::front(&mut lent, values[3]),
     );
-    let heard = received.heard;
     let receiver = received.receiver;
-    say_heard(out, heard, received.taken)?;
-    answers::say_buffer(out, lent, room)?;
-    Ok(Ear { receiver, store })
+    Called {
+        ear: Ear { receiver, store },
+        heard: received.heard,
+        taken: received.taken,
+        lent,
+    }
 }
 
 // Any other command leaves the receiver alone.
-pub fn hear(out: Stdout, ear: Ear, command: usize, asked: Asked) -> Result<Ear>
-    ensures { IfOk result (λ after. ear_of after ≡ ear_after command (ear_of ear) asked) }
+#[tactic(auto, unfolding(crate::specs::Bench::ear_after))]
+pub fn hear(out: Stdout, ear: Ear, asked: Asked) -> Result<Ear>
+    ensures { IfOk result (λ after. ear_of after ≡ ear_after asked.command (ear_of ear) asked) }
 {
-    if command == script::LISTEN {
+    if asked.command == script::LISTEN {
         answers::say(out, Term::Listening)?;
         return Ok(fresh());
     }
-    if command == script::OCTETS {
-        return call(out, ear, asked);
+    if asked.command == script::OCTETS {
+        let values = asked.values;
+        let called = call(ear, asked);
+        say_heard(out, called.heard, called.taken)?;
+        answers::say_buffer(out, called.lent, values[3])?;
+        return Ok(called.ear);
     }
     Ok(ear)
 }
