@@ -84,38 +84,75 @@ fn tell(rt: &HostRuntime, turn: u64, stretch: OpenStretch) {
 
 // ---- the work
 
-// Works through a run: what a call writes goes to GOOD, and what it leaves out is listed.
-fn sift(
-    rt: &impl Print,
-    salvage: Salvage,
+// What runs are worked through with: the library's state, the room that it is lent, and GOOD.
+#[derive(Drop)]
+struct Sieve {
     limit: usize,
-    run: &[u8],
-    store: &mut [u8; PLACES],
-    raw: &mut [u8; RAW],
-    out: &mut [u8; ROOM],
-    good: &mut File,
-) -> Result<Salvage, Failure> {
-    let mut s = salvage;
-    let mut at = 0;
-    while at < run.len() {
-        let told = salvage::read(s, limit, &run[at..], store, raw, out);
-        s = told.salvage;
-        let n = octets::fewer(told.taken, run.len() - at);
-        if n == 0 {
-            // no such call is refused (crate capture)
-            return Err(Failure::Unwritten(io::Error::other("a run is refused")));
-        }
-        at += n;
-        put(good, octets::part(out, 0, told.written))?;
-        listed(rt, told.listing)?;
-    }
-    Ok(s)
+    good: File,
+    salvage: Salvage,
+    store: [u8; PLACES],
+    raw: [u8; RAW],
+    out: [u8; ROOM],
 }
 
-fn put(good: &mut File, octets: &[u8]) -> Result<(), Failure> {
-    match good.write_all(octets) {
-        Ok(()) => Ok(()),
-        Err(e) => Err(Failure::Unwritten(e)),
+impl Sieve {
+    fn new(limit: usize, good: File) -> Self {
+        Self {
+            limit,
+            good,
+            salvage: salvage::new(),
+            store: [0u8; PLACES],
+            raw: [0u8; RAW],
+            out: [0u8; ROOM],
+        }
+    }
+
+    // Works through a run: what a call writes goes to GOOD, and what it leaves out is listed.
+    fn sift(&mut self, rt: &impl Print, run: &[u8]) -> Result<(), Failure> {
+        let mut rest = run;
+        while !rest.is_empty() {
+            let told = salvage::read(
+                self.salvage,
+                self.limit,
+                rest,
+                &mut self.store,
+                &mut self.raw,
+                &mut self.out,
+            );
+            self.salvage = told.salvage;
+            let taken = told.taken.min(rest.len());
+            if taken == 0 {
+                // no such call is refused (crate capture)
+                return Err(Failure::Unwritten(io::Error::other("a run is refused")));
+            }
+            rest = &rest[taken..];
+            let written = octets::part(&self.out, 0, told.written);
+            self.good.write_all(written).map_err(Failure::Unwritten)?;
+            listed(rt, told.listing)?;
+        }
+        Ok(())
+    }
+
+    // Reads the capture to its end. A proved loop has to end, and nothing says that a file does.
+    fn read_all(&mut self, rt: &HostRuntime, from: &mut File) -> Result<(), Failure> {
+        let mut run = [0u8; RUN];
+        for turn in 0..u64::MAX {
+            let n = from.read(&mut run).map_err(Failure::Unread)?;
+            if n == 0 {
+                return Ok(());
+            }
+            self.sift(rt, octets::part(&run, 0, n))?;
+            tell(rt, turn, self.salvage.stretch);
+        }
+        Err(Failure::Unread(io::Error::other("no end was found")))
+    }
+
+    // Behind the last octet: what is open is listed, and GOOD is on its disk.
+    fn close(&self, rt: &impl Print) -> Result<Salvage, Failure> {
+        let finished = salvage::finish(self.salvage);
+        listed(rt, finished.listing)?;
+        self.good.sync_all().map_err(Failure::Unwritten)?;
+        Ok(finished.salvage)
     }
 }
 
@@ -123,77 +160,17 @@ fn put(good: &mut File, octets: &[u8]) -> Result<(), Failure> {
 fn listed(rt: &impl Print, listing: Listing) -> Result<(), Failure> {
     match listing {
         Listing::Nothing => Ok(()),
-        Listing::LeftOut(stretch) => match list(rt, stretch) {
-            Ok(()) => Ok(()),
-            Err(e) => Err(Failure::Unlisted(e)),
-        },
+        Listing::LeftOut(stretch) => list(rt, stretch).map_err(Failure::Unlisted),
         Listing::Refused(_) => Err(Failure::Unlisted(io::Error::other("a call is refused"))),
-    }
-}
-
-// The next run; none at the end of CAPTURE.
-fn read_some(
-    rt: &impl Print,
-    salvage: Salvage,
-    limit: usize,
-    from: &mut File,
-    run: &mut [u8; RUN],
-    store: &mut [u8; PLACES],
-    raw: &mut [u8; RAW],
-    out: &mut [u8; ROOM],
-    good: &mut File,
-) -> Result<Option<Salvage>, Failure> {
-    let n = match from.read(run) {
-        Ok(n) => n,
-        Err(e) => return Err(Failure::Unread(e)),
-    };
-    if n == 0 {
-        return Ok(None);
-    }
-    let run = octets::part(run, 0, n);
-    Ok(Some(sift(rt, salvage, limit, run, store, raw, out, good)?))
-}
-
-// Reads the capture to its end. A proved loop has to end, and nothing says that a file does.
-fn read_all(
-    rt: &HostRuntime,
-    from: &mut File,
-    good: &mut File,
-    limit: usize,
-) -> Result<Salvage, Failure> {
-    let mut s = salvage::new();
-    let mut store = [0u8; PLACES];
-    let mut raw = [0u8; RAW];
-    let mut run = [0u8; RUN];
-    let mut out = [0u8; ROOM];
-    for turn in 0..u64::MAX {
-        match read_some(
-            rt, s, limit, from, &mut run, &mut store, &mut raw, &mut out, good,
-        )? {
-            None => return Ok(s),
-            Some(next) => s = next,
-        }
-        tell(rt, turn, s.stretch);
-    }
-    Err(Failure::Unread(io::Error::other("no end was found")))
-}
-
-// Behind the last octet: what is open is listed, and GOOD is on its disk.
-fn close(rt: &impl Print, salvage: Salvage, good: &File) -> Result<Salvage, Failure> {
-    let finished = salvage::finish(salvage);
-    listed(rt, finished.listing)?;
-    match good.sync_all() {
-        Ok(()) => Ok(finished.salvage),
-        Err(e) => Err(Failure::Unwritten(e)),
     }
 }
 
 // Reads and writes files that are open, and ends.
 fn work(rt: &HostRuntime, from: File, to: File, limit: usize) -> Result<Salvage, Failure> {
     let mut from = from;
-    let mut to = to;
-    let salvage = read_all(rt, &mut from, &mut to, limit)?;
-    close(rt, salvage, &to)
+    let mut sieve = Sieve::new(limit, to);
+    sieve.read_all(rt, &mut from)?;
+    sieve.close(rt)
 }
 
 // GOOD gets its name.
@@ -258,10 +235,9 @@ fn main(rt: HostRuntime) -> io::Result<()> {
     if 4 < count {
         return refuse(&rt, "two names and a frame limit are all that is asked for");
     }
-    let limit = words::limit(words.get(3), LIMIT_MOST);
-    if !limits::is_limit(limit) {
+    let Some(limit) = words::limit(words.get(3), LIMIT_MOST) else {
         return refuse(&rt, "a frame limit is a number from 78 to 260");
-    }
+    };
     let good = words[2].as_str();
     if !words::is_name(good) {
         return refuse(&rt, "GOOD is a name, and this one is empty or too long");
