@@ -1,7 +1,6 @@
 // Answers of the bench: words, numbers and octets, written to standard output. The words are those of `terms`; a number or
 // octets stand behind a mark, mostly a space. Assumes nothing of the caller: what is not there is left out.
 ghost use Rattle.std.specs.Prelude.{◌≡◌};
-ghost use Rattle.terms.specs.Terms.{letters_of};
 ghost use Rattle.bench.specs.Written.{digit_of, hex_row};
 
 use antenna::Angle;
@@ -24,16 +23,8 @@ pub fn say_octets(out: Stdout, s: &[u8]) -> Result<()> {
     out.write_all(s)
 }
 
-// What a name has before its first full stop.
-fn letters(name: &[u8]) -> &[u8]
-    ensures { result.now ≡ letters_of name.now }
-{
-    octets::part(name, 0, octets::find(b'.', name))
-}
-
 pub fn say(out: Stdout, term: Term) -> Result<()> {
-    let name = terms::word(term);
-    say_octets(out, letters(&name))
+    say_octets(out, terms::word(term).as_bytes())
 }
 
 pub fn say_number(out: Stdout, mark: u8, number: usize) -> Result<()> {
