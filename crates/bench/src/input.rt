@@ -14,8 +14,8 @@ const KEPT: usize = script::LONGEST + 2;
 // Octets read at a time.
 const RUN: usize = 4096;
 
-// The octets of the run from `from` to `end` are still to be read; `len` octets of a line have come. A whole line had a
-// 0x0A, and the last one, at the end of the input, has none.
+// Rows of a fixed size: a line can be longer than any memory. The octets of the run from `from` to `end` are still to be
+// read; `len` octets of a line have come. A whole line had a 0x0A, and the last one, at the end of the input, has none.
 #[derive(Clone, Copy)]
 pub struct Input {
     pub whole: bool,

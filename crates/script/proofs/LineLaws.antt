@@ -3,6 +3,7 @@
 use Rattle.std.proofs.Common.{◌≡◌, true, false, List, [], ◌∷◌, ◌++◌, Option, Some, None, Result, Ok, Err, ℕ, suc, ◌+◌, ◌<◌, ◌≤◌, min, length, get_or, drop, refl, ◌∙◌, arith, add-one}
 use lib.ListN.{set, drop_of_length-le, length-set}
 use borrow.Author.Tests.{le-ltb, eq-eqb, ne_eqb}
+use Rattle.std.proofs.lemmas.List.{nil_from_length}
 use Rattle.octets.proofs.Rest.{rest}
 use Rattle.identity.specs.Identity.{same}
 use Rattle.script.specs.Words.{spelled, word_at, spaces_in}
@@ -42,10 +43,6 @@ stored_more a n o at x (Some os) =
 pub stored-length : (o : List ℕ) (at x : ℕ) {next : List ℕ} → next ≡ set o at x → length next ≡ length o
 stored-length o at x p = rw p (length-set o at x)
 
-empty : (r : List ℕ) → length r ≡ 0 → r ≡ []
-empty [] e = refl
-empty (x ∷ r) e = let no : ⊥ = omega (arith, e) in absurd no
-
 -- for a loop that goes through the digits two by two: x is the next two, t is what is behind them
 module _ (a : Asked) (n : ℕ) (o : List ℕ) (at : ℕ) (r : List ℕ) {w : Result Asked Fault}
     (v : with_hex (stored a o at) n (pairs_of r) ≡ w) where
@@ -62,7 +59,7 @@ module _ (a : Asked) (n : ℕ) (o : List ℕ) (at : ℕ) (r : List ℕ) {w : Res
 
   pub pairs-done : length r ≡ 0 → with_hex (stored a o at) n (Some []) ≡ w
   unfolding pairs_of
-  pairs-done h = rw (empty r h) at v
+  pairs-done h = rw (nil_from_length r h) at v
 
 -- ---- the words behind the command, for a loop that goes through their kinds by i
 

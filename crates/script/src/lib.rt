@@ -86,7 +86,7 @@ pub const COMMANDS: usize = 18;
 pub struct Asked {
     pub command: usize,
     pub values: [usize; 8],
-    // a row of its own and how far it is filled: memory is fixed
+    // a row and how far it is filled, and no Vec: memory is fixed
     pub octets: [u8; 1000],
     pub len: u16,
 }
@@ -334,7 +334,7 @@ fn is_unanswered(line: &[u8]) -> bool
     line.is_empty() || line[0] == b'#'
 }
 
-// The place of the command among the names.
+// The place of the command among the names, which are one text: it has its words as a line has, by specs/Commands.antt too.
 #[tactic(auto, unfolding(crate::specs::Script::command_of, crate::specs::Words::spelled))]
 fn command_of(line: &[u8]) -> Option<usize>
     ensures { result ≡ command_of line.now }

@@ -173,16 +173,11 @@ fn reply_word(answer: Response) -> &'static str
 fn given_word(command: usize) -> &'static str
     ensures { result.now ≡ given_word command }
 {
-    if command == script::PROBE {
-        return PROBE;
+    match command {
+        script::PROBE => PROBE,
+        script::DECODE | script::DECODE_N => FRAME,
+        _ => LINE,
     }
-    if command == script::DECODE {
-        return FRAME;
-    }
-    if command == script::DECODE_N {
-        return FRAME;
-    }
-    LINE
 }
 
 #[tactic(auto, unfolding(crate::specs::Terms::handed_word, script::specs::Words::spelled))]
@@ -250,12 +245,8 @@ fn drive_word(motion: Motion) -> &'static str
         Motion::Still => STILL,
         Motion::Moving => MOVING,
         Motion::Owing { asked: _ } => MOVING,
-        Motion::Stopped { reached } => {
-            if reached {
-                return STOPPED_OK;
-            }
-            STOPPED_JAM
-        }
+        Motion::Stopped { reached: true } => STOPPED_OK,
+        Motion::Stopped { reached: false } => STOPPED_JAM,
     }
 }
 
