@@ -37,7 +37,7 @@ use Rattle.bus.specs.declared.Row.{Row}
 use Rattle.drives.specs.declared.Obeyed.{Obeyed}
 use Rattle.drives.specs.Drives.{After, Obeys, obeyed}
 use Rattle.bench.specs.Bench.{hex_in, value_in, lent_of, row_driven, scan_after}
-use Rattle.bench.specs.Bench.{ear_call}
+use Rattle.bench.specs.Bench.{fresh_ear, ear_call, ear_after}
 use Rattle.bench.specs.Bench.{is_decode, is_limited, limit_in, octet_in, coded, hands_out, room_at}
 use Rattle.bench.specs.Written.{digit_of, hexed}
 use Rattle.bench.specs.Input.{line_kept, run_most}
@@ -209,3 +209,16 @@ pub ear-held : (h : Held) (a : Asked) {os o o' m : List ℕ} {r : Received} → 
 unfolding ear_call
 ear-held h a e f t =
     t.held ∙ ap₂ (λ (os o : List ℕ). held_by (received (value_in a 1) h os (length o)) h) e f
+
+module _ (c : ℕ) (h : Held) (a : Asked) where
+  pub ear-fresh : c ≡ command.listen → fresh_ear ≡ ear_after c h a
+  unfolding ear_after
+  ear-fresh e = rw (eq-eqb c command.listen e)
+
+  pub ear-called : (c ≡ command.listen → ⊥) → c ≡ command.octets → held_by (ear_call h a) h ≡ ear_after c h a
+  unfolding ear_after
+  ear-called n e = rw (ne_eqb c command.listen n, eq-eqb c command.octets e)
+
+  pub ear-kept : (c ≡ command.listen → ⊥) → (c ≡ command.octets → ⊥) → h ≡ ear_after c h a
+  unfolding ear_after
+  ear-kept n m = rw (ne_eqb c command.listen n, ne_eqb c command.octets m)

@@ -242,8 +242,8 @@ fn wordless(command: usize) -> Asked
     }
 }
 
-// The values with one at its place, if there is such a place. By its index: what `get_mut` lends out leaves a proof no
-// word of what is there afterwards.
+// The values with one at its place, if there is such a place. By its index: once a place that a slice lent out is given
+// back, a proof knows only the slice's length.
 fn placed(values: [usize; 8], n: usize, value: usize) -> [usize; 8]
     ensures { result ≡ set values n value }
 {
