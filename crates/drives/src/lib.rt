@@ -5,8 +5,7 @@
 #![tactic(auto)]
 
 ghost use Rattle.std.specs.Prelude.{◌≡◌, true, ◌<◌, length};
-ghost use Rattle.refusal.specs.Answer.{Changes};
-ghost use Rattle.record.specs.Fresh.{blank_device};
+ghost use Rattle.refusal.specs.Answer.{Changes, made_of};
 ghost use Rattle.device.specs.Judge.{Judges};
 ghost use Rattle.bus.specs.Cable.{row_most};
 ghost use Rattle.drives.specs.Drives.{Obeys, after_of, is_tilt, tilt_of, are_tilts, fresh_with, added, adds};
@@ -15,7 +14,7 @@ ghost use Rattle.drives.specs.Drives.{tells_limit, to_device, for_device, obeyed
 
 use antenna::Angle;
 use bus::{MOST, Row};
-use record::{Changed, Device, Event, Span};
+use record::{Device, Event, Span};
 use refusal::Refusal;
 
 // The words of a command by their places, the command's own word at 0. The value of HEX is where its octets end.
@@ -37,6 +36,7 @@ pub enum Response {
 
 // ---- words
 
+#[tactic(auto, unfolding(crate::specs::Drives::is_tilt))]
 fn is_tilt(pattern: usize) -> bool
     ensures { result ≡ is_tilt pattern }
 {
@@ -44,6 +44,7 @@ fn is_tilt(pattern: usize) -> bool
 }
 
 // The tilt of a pattern of 16 bits.
+#[tactic(auto, unfolding(crate::specs::Drives::tilt_of))]
 fn tilt_of(pattern: usize) -> Angle
     ensures { result ≡ tilt_of pattern }
 {
@@ -53,8 +54,8 @@ fn tilt_of(pattern: usize) -> Angle
 // ---- `device`
 
 // The four texts lie one behind the other.
-fn fresh(values: Values, octets: &[u8]) -> Changed
-    ensures { Changes (fresh_with values octets.now) blank_device result.outcome result.device }
+fn fresh(values: Values, octets: &[u8]) -> Result<Device, Refusal>
+    ensures { made_of result ≡ fresh_with values octets.now }
 {
     let product = values[1];
     let hardware = values[2];
@@ -72,15 +73,11 @@ fn fresh(values: Values, octets: &[u8]) -> Changed
     )
 }
 
+#[tactic(auto, unfolding(crate::specs::Drives::are_tilts))]
 fn are_tilts(values: Values) -> bool
     ensures { result ≡ are_tilts values }
 {
-    if is_tilt(values[5]) {
-        if is_tilt(values[6]) {
-            return is_tilt(values[7]);
-        }
-    }
-    false
+    is_tilt(values[5]) && is_tilt(values[6]) && is_tilt(values[7])
 }
 
 // A refused device takes no number.
@@ -88,14 +85,14 @@ fn make(row: &mut Row, values: Values, octets: &[u8]) -> Response
     requires { row.old.count < row_most }
     ensures { after_of row.new result ≡ added row.old (fresh_with values octets.now) }
 {
-    let made = fresh(values, octets);
-    let outcome = made.outcome;
-    if let Err(_) = outcome {
-        return Response::Outcome(outcome);
+    match fresh(values, octets) {
+        Ok(device) => {
+            row.devices[row.count] = device;
+            row.count += 1;
+            Response::Device(row.count)
+        }
+        Err(refusal) => Response::Outcome(Err(refusal)),
     }
-    row.devices[row.count] = made.device;
-    row.count += 1;
-    Response::Device(row.count)
 }
 
 // A 33rd device is not looked at.
@@ -114,16 +111,11 @@ fn add(row: &mut Row, values: Values, octets: &[u8]) -> Response
 // ---- the commands to a device
 
 // Whether the device K is one of so many.
+#[tactic(auto, unfolding(crate::specs::Drives::is_device))]
 fn is_device(count: usize, k: usize) -> bool
     ensures { result ≡ is_device count k }
 {
-    if k == 0 {
-        return false;
-    }
-    if MOST < k {
-        return false;
-    }
-    k <= count
+    k != 0 && k <= MOST && k <= count
 }
 
 // `frame`: decoded octets; else `hear`: octets as they come from the line.
@@ -151,6 +143,7 @@ fn deliver(row: &mut Row, place: usize, command: usize, octets: &[u8], lent: &mu
 }
 
 // Whether an event has such a value: `stopped` a tilt, `raise` and `clear` an alarm.
+#[tactic(auto, unfolding(crate::specs::Drives::is_value))]
 fn is_value(command: usize, value: usize) -> bool
     ensures { result ≡ is_value command value }
 {
@@ -160,6 +153,7 @@ fn is_value(command: usize, value: usize) -> bool
     value < 256
 }
 
+#[tactic(auto, unfolding(crate::specs::Drives::event_of, crate::specs::Drives::is_value))]
 fn event_of(command: usize, value: usize) -> Event
     requires { is_value command value ≡ true }
     ensures { result ≡ event_of command value }
@@ -229,13 +223,11 @@ fn to_device(
 }
 
 // The commands to a device stand first among the names, but for `limit`.
+#[tactic(auto, unfolding(crate::specs::Drives::for_device))]
 fn is_for_device(command: usize) -> bool
     ensures { result ≡ for_device command }
 {
-    if command <= script::CLEAR {
-        return true;
-    }
-    command == script::LIMIT
+    command <= script::CLEAR || command == script::LIMIT
 }
 
 // The commands to a device, and `device`; no other is for the row. Where the answer is a "no", the row is as it was.
