@@ -2,6 +2,7 @@
 -- right end, moves it too; both hold the address 2, so that the condition is needed. ZZ1 and ZZZZ1: the longer one is
 -- listed later and is simply given its own address afterwards. AAZZ1 and ZZ1 again: one assignment with the wild cards for
 -- type and vendor gives both the address 7. Assumes nothing.
+use Rattle.octets.specs.Text.{laid}
 use mathlib.Core.Path.{◌≡◌, refl, ap, subst}
 use mathlib.Core.Bool.{true}
 use mathlib.Core.List.Memᴰ
@@ -58,7 +59,7 @@ three-good = (fresh-good aazz1 refl, fresh-good zz1 refl, fresh-good zzzz1 refl)
 
 three-named : (identity_in (fresh_named aazz1) ≡ aazz1) × (identity_in (fresh_named zz1) ≡ zz1)
     × (identity_in (fresh_named zzzz1) ≡ zzzz1)
-unfolding fresh_from plate_from identity_from ◌at_start_of◌
+unfolding fresh_from plate_from laid ◌at_start_of◌
 three-named = (refl, refl, refl)
 
 abbrev ending : List Device
@@ -82,7 +83,7 @@ module _ (limit : ℕ) (long : 609 ≤ limit) where
       × (list_of (scanned limit ending).scan ≡ padded aazz1 ∷ padded zz1 ∷ [])
       × (addresses_after limit ending ≡ 2 ∷ 2 ∷ [])
       × (Installed (list_of (scanned limit ending).scan) ending (after limit ending) → ⊥)
-  unfolding fresh_from plate_from identity_from ◌at_start_of◌ padded lower
+  unfolding fresh_from plate_from laid ◌at_start_of◌ padded lower
   condition-needed =
       let d = fresh_named aazz1 in
       let e = fresh_named zz1 in
@@ -100,7 +101,7 @@ module _ (limit : ℕ) (long : 609 ≤ limit) where
   pub longer-later : ((scanned limit longer).scan.state ≡ Complete)
       × (list_of (scanned limit longer).scan ≡ padded zz1 ∷ padded zzzz1 ∷ [])
       × (addresses_after limit longer ≡ 1 ∷ 2 ∷ [])
-  unfolding fresh_from plate_from identity_from ◌at_start_of◌ padded lower
+  unfolding fresh_from plate_from laid ◌at_start_of◌ padded lower
   longer-later =
       let d = fresh_named zz1 in
       let e = fresh_named zzzz1 in (

@@ -1,8 +1,8 @@
 -- The ways out of judging and hearing: a number, silence, or a frame at the start of the buffer. Assumes nothing.
 use Rattle.std.proofs.Common.{Result, Ok, Err, Some, None, Option as Optional}
 use mathlib.Core.Path.{◌≡◌, refl, sym, ap, ◌∙◌}
-use mathlib.Core.Bool.{Bool, true, false}
-use mathlib.Core.List.{List, ◌∷◌}
+use mathlib.Core.Bool.{true, false}
+use mathlib.Core.List.{List}
 use Prim.Native.Nat.{ℕ, ◌≤◌, ◌<◌}
 use native.Mathlib.Omega.{arith}
 use borrow.Author.Tests.{lt-ltb, le-ltb}

@@ -10,11 +10,11 @@ use lib.Dec.{leb, eqb}
 use borrow.Author.Tests.{le-leb, lt-leb, eq-eqb, ne_eqb, leb-true, ltb-true, eqb-false, not-true}
 use lib.ListN.{length, get_or, set}
 use Rattle.octets.proofs.Words.{and_parts}
-use Rattle.refusal.specs.Answer.{Answer, gives, refuses, answered, Changes, outcome_of, settled, state_after}
-use Rattle.refusal.proofs.Answers.{gives-not-refuses}
+use Rattle.refusal.specs.Answer.{Answer, gives, refuses, answered, Changes, made_of}
+use Rattle.refusal.specs.Numbers.{number_of}
 use Rattle.antenna.specs.declared.Angle.{Angle}
 use Rattle.record.specs.declared.Device.{Device}
-use Rattle.record.specs.Fresh.{fresh_of, blank_device}
+use Rattle.record.specs.Fresh.{fresh_of}
 use Rattle.record.specs.Allowed.{allowed_device, limit_of}
 use Rattle.record.specs.Changes.{event_rows, happened}
 use Rattle.device.specs.Judge.{Said, judged, heard, Judges}
@@ -107,37 +107,27 @@ module _ (d : Device) (c v : ℕ) where
 -- ---- one more device
 
 -- the texts and the tilts of the words
-pub fresh-by : (v os : List ℕ) {i p h s : List ℕ} {l m t : Angle} {u : Result (Unit {0}) Refusal} {d : Device}
+pub fresh-by : (v os : List ℕ) {i p h s : List ℕ} {l m t : Angle} (r : Result Device Refusal)
     → i ≡ part_of 0 (value v 1) os → p ≡ part_of (value v 1) (value v 2) os
     → h ≡ part_of (value v 2) (value v 3) os → s ≡ part_of (value v 3) (value v 4) os
     → l ≡ tilt_of (value v 5) → m ≡ tilt_of (value v 6) → t ≡ tilt_of (value v 7)
-    → Changes (fresh_of i p h s (record { lowest = l; highest = m; present = t })) blank_device u d
-    → Changes (fresh_with v os) blank_device u d
+    → made_of r ≡ fresh_of i p h s (record { lowest = l; highest = m; present = t })
+    → made_of r ≡ fresh_with v os
 unfolding fresh_with
-fresh-by v os ei ep eh es el em et c = rw (ei, ep, eh, es, el, em, et) at c
+fresh-by v os r ei ep eh es el em et c = rw (ei, ep, eh, es, el, em, et) at c
 
 module _ (row : Row) where
-  pub added-refused : (x : Answer Device) {z d : Device} {u : Result (Unit {0}) Refusal} {k : _} → Changes x z u d → u ≡ Err k
-      → record { row = row; reply = outcome (outcome_of u) } ≡ added row x
-  unfolding added settled outcome_of
-  added-refused (gives y) h e = absurd (gives-not-refuses (sym h.outcome ∙ ap outcome_of e))
-  added-refused (refuses j) h e =
-      ap (λ (a : Answer (Unit {0})). record { row = row; reply = outcome a }) h.outcome
+  pub added-refused : (x : Answer Device) {r : Result Device Refusal} {k : Refusal} → made_of r ≡ x → r ≡ Err k
+      → row saying outcome (refuses (number_of k)) ≡ added row x
+  unfolding added made_of
+  added-refused x {k = k} e f =
+      let is : refuses (number_of k) ≡ x = sym (ap made_of f) ∙ e in rw (← is)
 
-  pub added-done : (x : Answer Device) {z d : Device} {u : Result (Unit {0}) Refusal} → Changes x z u d → u ≡ (Ok tt)
-      → record {
-        row = record { devices = set row.devices row.count d; count = row.count + 1 };
-        reply = device (row.count + 1);
-      } ≡ added row x
-  unfolding added settled outcome_of state_after
-  added-done (gives y) h e =
-      ap (λ (d : Device).
-      record {
-        row = record { devices = set row.devices row.count d; count = row.count + 1 };
-        reply = device (row.count + 1);
-      })
-      h.state
-  added-done (refuses j) h e = absurd (gives-not-refuses (sym (ap outcome_of e) ∙ h.outcome))
+  pub added-done : (x : Answer Device) {r : Result Device Refusal} {d : Device} → made_of r ≡ x → r ≡ Ok d
+      → record { devices = set row.devices row.count d; count = row.count + 1 } saying device (row.count + 1) ≡ added row x
+  unfolding added made_of
+  added-done x {d = d} e f =
+      let is : gives d ≡ x = sym (ap made_of f) ∙ e in rw (← is)
 
   module _ (v os : List ℕ) (h : row.count < row_most) {b : Bool} (e : b ≡ are_tilts v) where
     pub adds-open : b ≡ true → added row (fresh_with v os) ≡ adds row v os

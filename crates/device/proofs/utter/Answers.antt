@@ -1,5 +1,6 @@
 -- `device::utter` meets its promise: silence, or what is said at the start of the buffer. Assumes nothing.
-use mathlib.Core.Path.{◌∙◌}
+use mathlib.Core.Path.{ap, ◌∙◌}
+use lib.Seq.{sets}
 use Rattle.device.proofs.Reacts.{silent, framed}
 use Rattle.device.proofs.utter.Goals as goal
 
@@ -11,4 +12,5 @@ returns-in_err-spoken c =
 pub returns : goal.returns
 returns c =
     let a = c.args in
-    framed a.device a.say _ c.speak.ensures.all c.in_ok-spoken.was ? c.requires (c.put_all.ensures ∙ ?)
+    framed a.device a.say _ c.speak.ensures.all c.in_ok-spoken.was c.in_ok-spoken.ensures.few c.requires
+    (c.put_all.ensures ∙ ap (sets a.answer.now 0) c.octets.ensures.all)

@@ -6,6 +6,6 @@ pub returns : goal.returns
 returns c =
     let parts = c in
     let a = parts.args in
-    fresh-by a.values a.octets.now parts.part.ensures parts.part-2.ensures
+    fresh-by a.values a.octets.now c.fresh.result parts.part.ensures parts.part-2.ensures
     parts.part-3.ensures parts.part-4.ensures c.tilt_of.ensures
     c.tilt_of-2.ensures c.tilt_of-3.ensures c.fresh.ensures
