@@ -148,8 +148,9 @@ impl Sieve {
 
     // Behind the last octet: what is open is listed, and GOOD is on its disk.
     fn close(&mut self, rt: &impl Print) -> Result<Salvage, Failure> {
-        let left_out = salvage::finish(&mut self.salvage)
-            .map_err(|_| Failure::Unlisted(io::Error::other("a call is refused")))?;
+        let left_out = salvage::finish(&mut self.salvage).map_err(|_| Failure::Unlisted(
+            io::Error::other("a call is refused"),
+        ))?;
         listed(rt, left_out)?;
         self.good.sync_all().map_err(Failure::Unwritten)?;
         Ok(self.salvage)
