@@ -15,7 +15,7 @@ use Rattle.std.specs.Prelude.{Result, Ok, Err, IfOk}
 use Rattle.octets.specs.Octets.{last_of, place_of}
 use Rattle.octets.proofs.Rest.{rest}
 use Rattle.octets.proofs.Words.{last-at, last_empty}
-use Rattle.refusal.specs.Answer.{Changes, state_after, answered, Hands}
+use Rattle.refusal.specs.Answer.{state_after, Hands}
 use Rattle.refusal.proofs.Answers.{hands-is}
 use Rattle.limits.specs.Limits.{limit_least}
 use Rattle.frame.specs.Decode.{decoded}
@@ -23,10 +23,6 @@ use Rattle.frame.specs.Write.{written}
 use Rattle.receiver.specs.declared.Received.{Received}
 use Rattle.receiver.specs.Held.{Held}
 use Rattle.receiver.specs.Call.{received, held_by, Receives}
-use Rattle.identity.specs.Identity.{allowed_identity}
-use Rattle.record.specs.declared.Device.{Device}
-use Rattle.record.specs.declared.Span.{Span}
-use Rattle.record.specs.Fresh.{fresh_of, data_allowed, texts_allowed, blank_device}
 use Rattle.scan.specs.declared.Scan.{Scan}
 use Rattle.scan.specs.Scan.{fresh, probed, reported}
 use Rattle.script.specs.declared.Asked.{Asked}
@@ -176,12 +172,6 @@ module _ (c : ℕ) (s : Scan) (a : Asked) (room : ℕ) {o o' : List ℕ} {r : Re
   hands-coded n = hands-is (rw (ne_eqb c command.probe n))
 
 -- ---- the row
-
--- no identity, no device
-pub blank-left : (w : Span) {u : Result (Unit {0}) Refusal} {d : Device} → Changes (fresh_of [] [] [] [] w) blank_device u d
-    → d ≡ blank_device
-unfolding fresh_of answered data_allowed texts_allowed allowed_identity state_after
-blank-left w c = c.state
 
 pub driven-is : (c : ℕ) (row : Row) (a : Asked) {os o o' : List ℕ} {w : Row} {r : Response} → os ≡ hex_in a
     → o ≡ lent_of (value_in a 3) → Obeys (obeyed c row a.values os o) w r o' → w ≡ row_driven c row a

@@ -20,10 +20,8 @@ ghost use Rattle.std.specs.Prelude.{◌≡◌, ◌%◌, IfOk};
 ghost use Rattle.mast.specs.Mast.{swept};
 ghost use Rattle.bench.specs.Bench.{no_devices, command_in, is_driven, row_driven, row_after};
 
-use antenna::Angle;
 use bus::{MOST, Row};
 use drives::Response;
-use record::Span;
 use script::{Asked, Line};
 use std::io::{Result, Stdin, Stdout};
 use terms::Term;
@@ -33,25 +31,12 @@ const FAULTY: usize = script::COMMANDS;
 
 const UNANSWERED: usize = script::COMMANDS + 1;
 
-// No device, so the blank record of a refusal everywhere.
+// No device, so the blank record everywhere.
 fn no_devices() -> Row
     ensures { result ≡ no_devices }
 {
-    let level = Angle { tenths: 0 };
-    let refused = fresh::fresh(
-        b"",
-        b"",
-        b"",
-        b"",
-        Span {
-            lowest: level,
-            highest: level,
-            present: level,
-        },
-    );
-    let device = refused.device;
     Row {
-        devices: [device; MOST],
+        devices: [fresh::blank(); MOST],
         count: 0,
     }
 }
