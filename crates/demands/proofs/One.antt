@@ -216,18 +216,18 @@ deliver-answers κs a r s = hands_out _ r
 -- 02 (i), the receiver, with any record, any number for the frame limit and any run: what is told, how many octets were taken,
 -- the record and its store, and the output; or a number, and all is as it was
 pub receive-answers : (κs : _) (a : _) (r : _) (s : _) → receive-reads.Learnt κs a r s
-    → CallTells (received a.1.0 (held_of a.0 a.1.1.1.0.now) a.1.1.0.now
-    (length a.1.1.1.1.0.now)) (held_of a.0 a.1.1.1.0.now) a.1.1.0.now
-    a.1.1.1.1.0.now r s.1.1.1.0.now s.1.1.1.1.0.now
+    → CallTells (received a.1.0 (held_of a.0.now a.1.1.1.0.now) a.1.1.0.now
+    (length a.1.1.1.1.0.now)) (held_of a.0.now a.1.1.1.0.now) a.1.1.0.now
+    a.1.1.1.1.0.now r (held_of s.0.now s.1.1.1.0.now) s.1.1.1.1.0.now
 receive-answers κs a r s =
-    receives-tells a.1.0 (held_of a.0 a.1.1.1.0.now) a.1.1.0.now a.1.1.1.1.0.now
+    receives-tells a.1.0 (held_of a.0.now a.1.1.1.0.now) a.1.1.0.now a.1.1.1.1.0.now
 
 pub receive-in-answers : (κs : _) (a : _) (r : _) (s : _) → receive-in-reads.Learnt κs a r s
-    → CallTells (received a.1.0 (held_of a.0 a.1.1.1.0.now) a.1.1.0.now
-    (length a.1.1.1.1.0.now)) (held_of a.0 a.1.1.1.0.now) a.1.1.0.now
-    a.1.1.1.1.0.now r s.1.1.1.0.now s.1.1.1.1.0.now
+    → CallTells (received a.1.0 (held_of a.0.now a.1.1.1.0.now) a.1.1.0.now
+    (length a.1.1.1.1.0.now)) (held_of a.0.now a.1.1.1.0.now) a.1.1.0.now
+    a.1.1.1.1.0.now r (held_of s.0.now s.1.1.1.0.now) s.1.1.1.1.0.now
 receive-in-answers κs a r s =
-    receives-tells a.1.0 (held_of a.0 a.1.1.1.0.now) a.1.1.0.now a.1.1.1.1.0.now
+    receives-tells a.1.0 (held_of a.0.now a.1.1.1.0.now) a.1.1.0.now a.1.1.1.1.0.now
 
 -- a new one is before any octet, whatever its store holds
 pub receiver-new-answers : (κs : _) (a : _) (r : _) (s : _) → receiver-new-reads.Learnt κs a r s → (m : List ℕ)
@@ -238,17 +238,17 @@ receiver-new-answers κs a r s e m = ap (λ (q : Receiver). held_of q m) e
 -- were taken, the record and its stores, and what stands in the output; or a number, and all is as it was; the last call,
 -- likewise; and a new record is before any octet, whatever its stores hold
 pub read-answers : (κs : _) (a : _) (r : _) (s : _) → read-reads.Learnt κs a r s
-    → ReadTells (salvaged a.1.0 (holding_of a.0 a.1.1.1.0.now a.1.1.1.1.0.now) a.1.1.0.now
-    (length a.1.1.1.1.1.0.now)) (holding_of a.0 a.1.1.1.0.now a.1.1.1.1.0.now)
-    a.1.1.0.now a.1.1.1.1.1.0.now r s.1.1.1.0.now s.1.1.1.1.0.now
+    → ReadTells (salvaged a.1.0 (holding_of a.0.now a.1.1.1.0.now a.1.1.1.1.0.now) a.1.1.0.now
+    (length a.1.1.1.1.1.0.now)) (holding_of a.0.now a.1.1.1.0.now a.1.1.1.1.0.now)
+    a.1.1.0.now a.1.1.1.1.1.0.now r (holding_of s.0.now s.1.1.1.0.now s.1.1.1.1.0.now)
     s.1.1.1.1.1.0.now
 read-answers κs a r s =
-    read-tells a.1.0 (holding_of a.0 a.1.1.1.0.now a.1.1.1.1.0.now) a.1.1.0.now
-    a.1.1.1.1.1.0.now r s.1.1.1.0.now s.1.1.1.1.0.now s.1.1.1.1.1.0.now
+    read-tells a.1.0 (holding_of a.0.now a.1.1.1.0.now a.1.1.1.1.0.now) a.1.1.0.now
+    a.1.1.1.1.1.0.now (holding_of s.0.now s.1.1.1.0.now s.1.1.1.1.0.now) s.1.1.1.1.1.0.now r
 
 pub finish-answers : (κs : _) (a : _) (r : _) (s : _) → finish-reads.Learnt κs a r s
-    → FinishTells (finished a.0) a.0 r
-finish-answers κs a r s = finish-tells (finished a.0) a.0 r
+    → FinishTells (finished a.0.now) a.0.now r s.0.now
+finish-answers κs a r s = finish-tells (finished a.0.now) a.0.now r s.0.now
 
 pub salvage-new-answers : (κs : _) (a : _) (r : _) (s : _) → salvage-new-reads.Learnt κs a r s → (m w : List ℕ)
     → holding_of r m w ≡ fresh_holding m w
@@ -257,16 +257,9 @@ salvage-new-answers κs a r s e m w = ap (λ (v : Salvage). holding_of v m w) e
 -- with the record in a block of octets: as above, and the block after it, as it was where the call is refused
 pub block-receive-answers : (κs : _) (a : _) (r : _) (s : _) → block-receive-reads.Learnt κs a r s
     → CallTells (received a.1.0 (held_in a.0.now) a.1.1.0.now (length a.1.1.1.0.now))
-    (held_in a.0.now) a.1.1.0.now a.1.1.1.0.now
-    (record {
-      receiver =
-          (held_by (received a.1.0 (held_in a.0.now) a.1.1.0.now (length a.1.1.1.0.now))
-          (held_in a.0.now)).marks;
-      taken = r.taken;
-      heard = r.heard;
-    })
+    (held_in a.0.now) a.1.1.0.now a.1.1.1.0.now r
     (held_by (received a.1.0 (held_in a.0.now) a.1.1.0.now (length a.1.1.1.0.now))
-    (held_in a.0.now)).store s.1.1.1.0.now
+    (held_in a.0.now)) s.1.1.1.0.now
     × (s.0.now ≡ block_after (received a.1.0 (held_in a.0.now) a.1.1.0.now
     (length a.1.1.1.0.now)) a.0.now)
 block-receive-answers κs a r s = block-tells a.1.0 a.0.now a.1.1.0.now a.1.1.1.0.now
