@@ -16,7 +16,7 @@ use lib.Pointwise.{pointwise}
 use denote.Ref.{Bor}
 use Rattle.octets.specs.Octets.{last_of, place_of}
 use Rattle.octets.proofs.Rest.{rest}
-use Rattle.refusal.specs.Answer.{Changes, state_after, answered, Hands}
+use Rattle.refusal.specs.Answer.{state_after, Hands}
 use Rattle.refusal.proofs.Answers.{hands-is}
 use Rattle.limits.specs.Limits.{limit_least}
 use Rattle.frame.specs.Decode.{decoded}
@@ -24,10 +24,6 @@ use Rattle.frame.specs.Write.{written}
 use Rattle.receiver.specs.declared.Received.{Received}
 use Rattle.receiver.specs.Held.{Held}
 use Rattle.receiver.specs.Call.{received, held_by, Receives}
-use Rattle.identity.specs.Identity.{allowed_identity}
-use Rattle.record.specs.declared.Device.{Device}
-use Rattle.record.specs.declared.Span.{Span}
-use Rattle.record.specs.Fresh.{fresh_of, data_allowed, texts_allowed, blank_device}
 use Rattle.scan.specs.declared.Scan.{Scan}
 use Rattle.scan.specs.Scan.{probed, reported}
 use Rattle.script.specs.declared.Asked.{Asked}

@@ -25,7 +25,7 @@ use script::Asked;
 use std::io::{Result, Stdin, Stdout};
 use terms::Term;
 
-// No device, so the record of none everywhere.
+// No device, so the blank record everywhere.
 fn no_devices() -> Row
     ensures { result ≡ no_devices }
 {
