@@ -26,6 +26,7 @@ use std::io::{Result, Stdin, Stdout};
 use terms::Term;
 
 // No device, so the blank record everywhere.
+#[tactic(auto, unfolding(crate::specs::Bench::no_devices))]
 fn no_devices() -> Row
     ensures { result ≡ no_devices }
 {
