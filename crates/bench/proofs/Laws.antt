@@ -1,21 +1,22 @@
 -- What the bench's functions come to, each by what the libraries promise. Assumes nothing.
-use Rattle.std.proofs.Common.{Result, Ok, Err}
+use Rattle.std.proofs.Common.{Result}
 use Rattle.refusal.specs.declared.Refusal.{Refusal}
 use mathlib.Core.Path.{◌≡◌, refl, sym, ap, ap₂, ◌∙◌}
-use mathlib.Core.Bool.{Bool, true, false, cond, not, false≢true}
+use mathlib.Core.Bool.{Bool, true, false, cond, ◌&&◌}
 use mathlib.Core.List.{List, [], ◌∷◌, map}
 use mathlib.Core.Logic.{inl, inr}
 use Prim.Native.Nat.{ℕ, suc, ◌+◌, ◌-◌, ◌*◌, ◌/◌, ◌%◌, ◌≤◌, ◌<◌, min}
 use native.Mathlib.Omega.{arith}
 use lib.Dec.{ltb, eqb}
 use lib.ListN.{length, take, drop, get_or, set, replicate, length-take, drop_of_length-le}
-use lib.Seq.{sets, get_or-take}
+use lib.Seq.{sets}
 use borrow.Author.Tests.{eq-eqb, ne_eqb}
-use Rattle.std.specs.Prelude.{Result, Ok, Err, IfOk}
+use Rattle.std.specs.Prelude.{Option, Some, None, unwrap_or, MatchOption}
+use lib.Pointwise.{pointwise}
+use denote.Ref.{Bor}
 use Rattle.octets.specs.Octets.{last_of, place_of}
 use Rattle.octets.proofs.Rest.{rest}
-use Rattle.octets.proofs.Words.{last-at, last_empty}
-use Rattle.refusal.specs.Answer.{Changes, state_after, answered, Hands}
+use Rattle.refusal.specs.Answer.{state_after, Hands}
 use Rattle.refusal.proofs.Answers.{hands-is}
 use Rattle.limits.specs.Limits.{limit_least}
 use Rattle.frame.specs.Decode.{decoded}
@@ -23,32 +24,21 @@ use Rattle.frame.specs.Write.{written}
 use Rattle.receiver.specs.declared.Received.{Received}
 use Rattle.receiver.specs.Held.{Held}
 use Rattle.receiver.specs.Call.{received, held_by, Receives}
-use Rattle.identity.specs.Identity.{allowed_identity}
-use Rattle.record.specs.declared.Device.{Device}
-use Rattle.record.specs.declared.Span.{Span}
-use Rattle.record.specs.Fresh.{fresh_of, data_allowed, texts_allowed, blank_device}
 use Rattle.scan.specs.declared.Scan.{Scan}
-use Rattle.scan.specs.Scan.{fresh, probed, reported}
+use Rattle.scan.specs.Scan.{probed, reported}
 use Rattle.script.specs.declared.Asked.{Asked}
 use Rattle.script.specs.Words.{spelled, first_of, behind_first, word_at}
 use Rattle.script.specs.Commands as command
 use Rattle.bus.specs.declared.Row.{Row}
 use Rattle.drives.specs.declared.Response.{Response}
 use Rattle.drives.specs.Drives.{After, Obeys, obeyed}
-use Rattle.mast.specs.Mast.{swept}
-use Rattle.bench.specs.Bench.{hex_in, value_in, lent_of, is_driven, row_driven, row_after, scan_after}
+use Rattle.bench.specs.Bench.{hex_in, value_in, lent_of, row_driven, scan_after}
 use Rattle.bench.specs.Bench.{fresh_ear, ear_call, ear_after}
 use Rattle.bench.specs.Bench.{is_decode, is_limited, limit_in, octet_in, coded, hands_out, room_at}
 use Rattle.bench.specs.Written.{digit_of, hexed}
 use Rattle.bench.specs.Input.{line_kept, run_most}
 use Rattle.bench.specs.Input.{rest_of, taken_to, line_taken, refilled, anew, Run, after_runs, Arrives, without_return}
 use Rattle.bench.specs.declared.input.Input.{Input}
-
--- ---- what is handed back, if nothing failed
-
-pub ok-same : {T E A : Type 0} (r : Result T E) (f : T → A) {x y : A} → IfOk r (λ v. f v ≡ x) → x ≡ y → IfOk r (λ v. f v ≡ y)
-ok-same (Ok v) f e g = e ∙ g
-ok-same (Err x) f e g = tt
 
 -- ---- HEX
 
@@ -67,38 +57,39 @@ module _ (row s : List ℕ) (i : ℕ) {w : List ℕ} where
   unfolding hexed
   hex-done h e = sym (ap (λ (l : List ℕ). sets row (2 * i + 1) (hexed l)) (drop_of_length-le s h)) ∙ e
 
--- a turn of the loop, through the first 600
-pub hex-turn : (row s : List ℕ) (i : ℕ) {x y : ℕ} {w : List ℕ} → i < min (length s) 600
-    → x ≡ digit_of (get_or s i 0 / 16) → y ≡ digit_of (get_or s i 0)
-    → sets row (2 * i + 1) (hexed (drop i (take 600 s))) ≡ w
-    → sets (set (set row (2 * i + 1) x) (2 * i + 2) y) (2 * (i + 1) + 1) (hexed (drop (i + 1) (take 600 s))) ≡ w
-hex-turn row s i h e f g =
-    let at : get_or (take 600 s) i 0 ≡ get_or s i 0 = get_or-take 600 s i 0 (omega arith) in
-    rw (e, f, ← at) (hex-more row (take 600 s) i (omega (arith, length-take 600 s)) g)
+-- a turn of the loop
+pub hex-turn : (row s : List ℕ) (i : ℕ) {x y : ℕ} {w : List ℕ} → i < length s
+    → x ≡ digit_of (get_or s i 0 / 16) → y ≡ digit_of (get_or s i 0) → sets row (2 * i + 1) (hexed (drop i s)) ≡ w
+    → sets (set (set row (2 * i + 1) x) (2 * i + 2) y) (2 * (i + 1) + 1) (hexed (drop (i + 1) s)) ≡ w
+hex-turn row s i h e f g = rw (e, f) (hex-more row s i h g)
 
 -- ---- a line
 
-module _ (s : List ℕ) where
-  pub return-half : (whole : Bool) → not whole ≡ true → s ≡ without_return whole s
-  unfolding without_return
-  return-half true h = absurd (false≢true h)
-  return-half false h = refl
+drop-last : (x : ℕ) (s : List ℕ) → drop (length s) (x ∷ s) ≡ last_of x s ∷ []
+unfolding last_of
+drop-last x [] = refl
+drop-last x (y ∷ s) = drop-last y s
 
-  pub return-none : (whole : Bool) → length s ≡ 0 → s ≡ without_return whole s
-  unfolding without_return
-  return-none true h = let y : last_of 0 s ≡ 0 = last_empty 0 s h in rw y
-  return-none false h = refl
+-- the end of a line, as `strip_suffix` says it
+last-is : (s : List ℕ) → pointwise eqb (drop (length s - 1) s) (13 ∷ []) ≡ eqb (last_of 0 s) 13
+unfolding last_of
+last-is [] = refl
+last-is (x ∷ s) =
+    let n : suc (length s) - 1 ≡ length s = omega arith in
+    rw (n, drop-last x s) (go (eqb (last_of x s) 13))
+  where
+    go : (t : Bool) → t && true ≡ t
+    go true = refl
+    go false = refl
 
-  pub return-there : (whole : Bool) → not whole ≡ false → 0 < length s → get_or s (length s - 1) 0 ≡ 13
-      → take (length s - 1) s ≡ without_return whole s
-  unfolding without_return
-  return-there true w h e = let y : last_of 0 s ≡ 13 = last-at 0 s 0 h ∙ e in rw y
-  return-there false w h e = absurd (false≢true (sym w))
-
-  pub return-other : (whole : Bool) → 0 < length s → (get_or s (length s - 1) 0 ≡ 13 → ⊥) → s ≡ without_return whole s
-  unfolding without_return
-  return-other true h d = rw (ne_eqb (last_of 0 s) 13 (λ e. d (sym (last-at 0 s 0 h) ∙ e)))
-  return-other false h d = refl
+pub return-dropped : (s : List ℕ) (r : Option (Bor (List ℕ))) (d : Bor (List ℕ)) (whole : Bool) (L : List ℕ → Type 0)
+    → whole ≡ true → d.now ≡ s
+    → MatchOption r (pointwise eqb (drop (length s - 1) s) (13 ∷ []) ≡ false)
+    (λ x. (pointwise eqb (drop (length s - 1) s) (13 ∷ []) ≡ true) × (x.now ≡ take (length s - 1) s) × L x.now)
+    → (unwrap_or r d).now ≡ without_return whole s
+unfolding without_return
+return-dropped s None d whole L t e h = rw (t, ← last-is s, h) e
+return-dropped s (Some x) d whole L t e (h, i, l) = rw (t, ← last-is s, h) i
 
 pub taken_is : (i : Input) {rest line : List ℕ} {n at from len : ℕ} → rest ≡ rest_of i → n ≡ place_of 0x0A rest
     → line ≡ sets i.line i.len (take n rest) → at ≡ min (i.from + n) run_most → from ≡ min (at + 1) run_most
@@ -177,31 +168,12 @@ module _ (c : ℕ) (s : Scan) (a : Asked) (room : ℕ) {o o' : List ℕ} {r : Re
 
 -- ---- the row
 
--- no identity, no device
-pub blank-left : (w : Span) {u : Result (Unit {0}) Refusal} {d : Device} → Changes (fresh_of [] [] [] [] w) blank_device u d
-    → d ≡ blank_device
-unfolding fresh_of answered data_allowed texts_allowed allowed_identity state_after
-blank-left w c = c.state
-
 pub driven-is : (c : ℕ) (row : Row) (a : Asked) {os o o' : List ℕ} {w : Row} {r : Response} → os ≡ hex_in a
     → o ≡ lent_of (value_in a 3) → Obeys (obeyed c row a.values os o) w r o' → w ≡ row_driven c row a
 unfolding row_driven
 driven-is c row a e f h =
     ap (λ (x : After). x.row) h.after
     ∙ ap₂ (λ (os o : List ℕ). (obeyed c row a.values os o).after.row) e f
-
-module _ (c : ℕ) (row : Row) (a : Asked) {b : Bool} (e : b ≡ is_driven c) where
-  pub row-driven : b ≡ true → row_driven c row a ≡ row_after c row a
-  unfolding row_after
-  row-driven t = let y : is_driven c ≡ true = sym e ∙ t in rw y
-
-  pub row-swept : b ≡ false → c ≡ command.scan → (swept row (value_in a 1 % 65536)).row ≡ row_after c row a
-  unfolding row_after
-  row-swept t h = let y : is_driven c ≡ false = sym e ∙ t in rw (y, eq-eqb c command.scan h)
-
-  pub row_kept : b ≡ false → (c ≡ command.scan → ⊥) → row ≡ row_after c row a
-  unfolding row_after
-  row_kept t n = let y : is_driven c ≡ false = sym e ∙ t in rw (y, ne_eqb c command.scan n)
 
 -- ---- the scan by hand
 
@@ -213,20 +185,6 @@ report-heard s = refl
 pub report-silent : (s : Scan) → scan_after command.report s 0 ≡ state_after (reported s false) s
 unfolding scan_after
 report-silent s = refl
-
-module _ (c : ℕ) (s : Scan) (v : ℕ) where
-  pub scan-begun : c ≡ command.begin → fresh (v % 65536) ≡ scan_after c s v
-  unfolding scan_after
-  scan-begun e = rw (eq-eqb c command.begin e)
-
-  pub scan-reported : (c ≡ command.begin → ⊥) → c ≡ command.report
-      → state_after (reported s (eqb v 1)) s ≡ scan_after c s v
-  unfolding scan_after
-  scan-reported n e = rw (ne_eqb c command.begin n, eq-eqb c command.report e)
-
-  pub scan-kept : (c ≡ command.begin → ⊥) → (c ≡ command.report → ⊥) → s ≡ scan_after c s v
-  unfolding scan_after
-  scan-kept n m = rw (ne_eqb c command.begin n, ne_eqb c command.report m)
 
 -- ---- the receiver
 

@@ -1,8 +1,6 @@
 -- What the bench does with a line, beside what it writes: the row of devices, the scan by hand and the receiver after it,
 -- and what is handed out. A command is its place among the names of the script (script/specs/Commands).
 --   no_devices         == an empty row
---   faulty, no_answer == in a command's place, for a line with a fault, and for one that gets no answer
---   command_in l       == the command that the line l asks for
 --   hex_in a           == the octets of the HEX words of a; value_in a n == what its word n stands for
 --   lent_of room       == a lent output of so many octets
 --   is_driven c        == the command c is to the row or to one of its devices
@@ -26,8 +24,6 @@ use Rattle.record.specs.Fresh.{blank_device}
 use Rattle.scan.specs.declared.Scan.{Scan}
 use Rattle.scan.specs.Scan.{fresh, probed, reported}
 use Rattle.script.specs.declared.Asked.{Asked}
-use Rattle.script.specs.declared.Line.{Line}
-use Rattle.script.specs.declared.Line.TheVariants.{Silent, Faulty, Asks}
 use Rattle.script.specs.Commands as command
 use Rattle.bus.specs.declared.Row.{Row}
 use Rattle.bus.specs.Cable.{row_most}
@@ -38,18 +34,6 @@ use Rattle.bench.specs.declared.ear.Ear.{Ear}
 -- "up to 32 tilt drives"
 unfoldable pub no_devices : Row
 no_devices = record { devices = replicate row_most blank_device; count = 0 }
-
--- behind the places of the commands
-abbrev pub faulty : ℕ
-faulty = command.commands
-
-abbrev pub no_answer : ℕ
-no_answer = command.commands + 1
-
-unfoldable pub command_in : Line → ℕ
-command_in Silent = no_answer
-command_in (Faulty f) = faulty
-command_in (Asks c) = c
 
 abbrev pub value_in : Asked → ℕ → ℕ
 value_in a n = get_or a.values n 0

@@ -1,10 +1,8 @@
 // Answers of the bench: words, numbers and octets, written to standard output. The words are those of `terms`; a number or
 // octets stand behind a mark, mostly a space. Assumes nothing of the caller: what is not there is left out.
 ghost use Rattle.std.specs.Prelude.{◌≡◌};
-ghost use Rattle.terms.specs.Terms.{letters_of};
 ghost use Rattle.bench.specs.Written.{digit_of, hex_row};
 
-use crate::rows;
 use antenna::Angle;
 use refusal::Refusal;
 use std::io::{self, Stdout};
@@ -24,16 +22,8 @@ pub fn say_octets(out: Stdout, s: &[u8]) -> io::Result<()> {
     out.write_all(s)
 }
 
-// What a name has before its first full stop.
-fn letters(name: &[u8]) -> &[u8]
-    ensures { result.now ≡ letters_of name.now }
-{
-    octets::part(name, 0, octets::find(b'.', name))
-}
-
 pub fn say(out: Stdout, term: Term) -> io::Result<()> {
-    let name = terms::word(term);
-    say_octets(out, letters(&name))
+    say_octets(out, terms::word(term).as_bytes())
 }
 
 pub fn say_number(out: Stdout, mark: u8, number: usize) -> io::Result<()> {
@@ -52,14 +42,12 @@ pub fn say_tilt(out: Stdout, mark: u8, tilt: Angle) -> io::Result<()> {
     say_number(out, b'-', 65536 - pattern)
 }
 
+#[tactic(auto, unfolding(crate::specs::Written::digit_of))]
 fn digit(value: u8) -> u8
     ensures { result ≡ digit_of value }
 {
     let d = value % 16;
-    if d < 10 {
-        return 48 + d;
-    }
-    87 + d
+    if d < 10 { b'0' + d } else { b'a' + (d - 10) }
 }
 
 // Octets in HEX behind a mark, as many as there is room for; a `-` stands where none does.
@@ -68,13 +56,9 @@ fn in_hex(mark: u8, s: &[u8]) -> [u8; LONGEST]
 {
     let mut row = [mark; LONGEST];
     row[1] = b'-';
-    let n = octets::fewer(s.len(), ROOM);
-    let mut i = 0;
-    while i < n {
-        let octet = s[i];
-        row[2 * i + 1] = digit(octet / 16);
-        row[2 * i + 2] = digit(octet);
-        i += 1;
+    for (i, octet) in octets::part(s, 0, ROOM).iter().enumerate() {
+        row[2 * i + 1] = digit(*octet / 16);
+        row[2 * i + 2] = digit(*octet);
     }
     row
 }
@@ -88,7 +72,7 @@ pub fn say_hex(out: Stdout, mark: u8, s: &[u8]) -> io::Result<()> {
     }
     say_octets(
         out,
-        octets::part(&row, 0, rows::moved(rows::moved(1, n, LONGEST), n, LONGEST)),
+        octets::part(&row, 0, n.saturating_mul(2).saturating_add(1)),
     )
 }
 

@@ -53,14 +53,21 @@ fn say_heard(out: Stdout, heard: Result<Received, Refusal>) -> io::Result<()> {
     }
 }
 
+// What a call told, and the receiver and the lent output after it.
+#[derive(Clone, Copy)]
+struct Called {
+    ear: Ear,
+    heard: Result<Received, Refusal>,
+    lent: [u8; ROOM],
+}
+
 // One call; octets that it did not take are forgotten.
-fn call(out: Stdout, ear: Ear, asked: Asked) -> io::Result<Ear>
-    ensures { IfOk result (λ after. ear_of after ≡ held_by (ear_call (ear_of ear) asked) (ear_of ear)) }
+fn call(ear: Ear, asked: Asked) -> Called
+    ensures { ear_of result.ear ≡ held_by (ear_call (ear_of ear) asked) (ear_of ear) }
 {
     let mut receiver = ear.receiver;
     let mut store = ear.store;
     let values = asked.values;
-    let room = values[3];
     let mut lent = [FILL; ROOM];
     let run = octets::part(&asked.octets, 0, asked.len as usize);
     let heard = receiver::receive(
@@ -68,23 +75,30 @@ fn call(out: Stdout, ear: Ear, asked: Asked) -> io::Result<Ear>
         values[1],
         run,
         &mut store,
-        rows::front(&mut lent, room),
+        rows::front(&mut lent, values[3]),
     );
-    say_heard(out, heard)?;
-    answers::say_buffer(out, lent, room)?;
-    Ok(Ear { receiver, store })
+    Called {
+        ear: Ear { receiver, store },
+        heard,
+        lent,
+    }
 }
 
 // Any other command leaves the receiver alone.
-pub fn hear(out: Stdout, ear: Ear, command: usize, asked: Asked) -> io::Result<Ear>
-    ensures { IfOk result (λ after. ear_of after ≡ ear_after command (ear_of ear) asked) }
+#[tactic(auto, unfolding(crate::specs::Bench::ear_after))]
+pub fn hear(out: Stdout, ear: Ear, asked: Asked) -> io::Result<Ear>
+    ensures { IfOk result (λ after. ear_of after ≡ ear_after asked.command (ear_of ear) asked) }
 {
-    if command == script::LISTEN {
+    if asked.command == script::LISTEN {
         answers::say(out, Term::Listening)?;
         return Ok(fresh());
     }
-    if command == script::OCTETS {
-        return call(out, ear, asked);
+    if asked.command == script::OCTETS {
+        let values = asked.values;
+        let called = call(ear, asked);
+        say_heard(out, called.heard)?;
+        answers::say_buffer(out, called.lent, values[3])?;
+        return Ok(called.ear);
     }
     Ok(ear)
 }

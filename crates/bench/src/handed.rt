@@ -12,23 +12,19 @@ use script::Asked;
 use std::io::{self, Stdout};
 use terms::Term;
 
+#[tactic(auto, unfolding(crate::specs::Bench::is_decode))]
 fn is_decode(command: usize) -> bool
     ensures { result ≡ is_decode command }
 {
-    if command == script::DECODE {
-        return true;
-    }
-    command == script::DECODE_N
+    command == script::DECODE || command == script::DECODE_N
 }
 
 // Whether a frame limit stands in front of the words.
+#[tactic(auto, unfolding(crate::specs::Bench::is_limited))]
 fn is_limited(command: usize) -> bool
     ensures { result ≡ is_limited command }
 {
-    if command == script::DECODE_N {
-        return true;
-    }
-    command == script::WRITE_N
+    command == script::DECODE_N || command == script::WRITE_N
 }
 
 // One of two values, by whether a frame limit stands in front.
@@ -42,11 +38,12 @@ fn by_limit(command: usize, limited: usize, plain: usize) -> usize
 }
 
 // The codec's commands.
-fn coded_by(command: usize, asked: Asked, lent: &mut [u8]) -> std::result::Result<usize, Refusal>
-    ensures { Hands (coded command asked (length lent.old)) lent.old result
+fn coded_by(asked: Asked, lent: &mut [u8]) -> Result<usize, Refusal>
+    ensures { Hands (coded asked.command asked (length lent.old)) lent.old result
         lent.new }
 {
     let values = asked.values;
+    let command = asked.command;
     let limit = by_limit(command, values[1], limits::LIMIT_LEAST);
     let hex = octets::part(&asked.octets, 0, asked.len as usize);
     if is_decode(command) {
@@ -57,31 +54,28 @@ fn coded_by(command: usize, asked: Asked, lent: &mut [u8]) -> std::result::Resul
     writer::write(limit, address, control, hex, lent)
 }
 
-fn handed_by(
-    scan: Scan,
-    command: usize,
-    asked: Asked,
-    lent: &mut [u8],
-) -> std::result::Result<usize, Refusal>
-    ensures { Hands (hands_out command scan asked (length lent.old)) lent.old result
+fn handed_by(scan: Scan, asked: Asked, lent: &mut [u8]) -> Result<usize, Refusal>
+    ensures { Hands (hands_out asked.command scan asked (length lent.old)) lent.old result
         lent.new }
 {
-    if command == script::PROBE {
+    if asked.command == script::PROBE {
         return scan::probe(scan, lent);
     }
-    coded_by(command, asked, lent)
+    coded_by(asked, lent)
 }
 
 // The word for what was handed out, and the whole of the lent output.
-fn hand_out(out: Stdout, scan: Scan, command: usize, asked: Asked, room: usize) -> io::Result<()> {
+fn hand_out(out: Stdout, scan: Scan, asked: Asked, room: usize) -> io::Result<()> {
     let mut lent = [FILL; ROOM];
-    let handed = handed_by(scan, command, asked, rows::front(&mut lent, room));
+    let command = asked.command;
+    let handed = handed_by(scan, asked, rows::front(&mut lent, room));
     answers::say(out, Term::Handed { command, handed })?;
     answers::say_handed(out, handed)?;
     answers::say_buffer(out, lent, room)
 }
 
 // The place of ROOM, the last word; 0 where a command hands out nothing.
+#[tactic(auto, unfolding(crate::specs::Bench::room_at))]
 fn room_at(command: usize) -> usize
     ensures { result ≡ room_at command }
 {
@@ -96,11 +90,11 @@ fn room_at(command: usize) -> usize
 }
 
 // Any other command hands out nothing.
-pub fn obey(out: Stdout, scan: Scan, command: usize, asked: Asked) -> io::Result<()> {
+pub fn obey(out: Stdout, scan: Scan, asked: Asked) -> io::Result<()> {
     let values = asked.values;
-    let at = room_at(command);
+    let at = room_at(asked.command);
     if at == 0 {
         return Ok(());
     }
-    hand_out(out, scan, command, asked, values[at % 8])
+    hand_out(out, scan, asked, values[at % 8])
 }

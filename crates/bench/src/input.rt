@@ -4,8 +4,9 @@ ghost use Rattle.script.specs.Script.{read_line};
 ghost use Rattle.bench.specs.Input.{unread, line_taken, refilled, Arrives, without_return};
 
 use crate::rows;
-use script::Asked;
-use std::io::{Read, Result, Stdin};
+use script::{Asked, Fault};
+use std::io;
+use std::io::{Read, Stdin};
 
 // Octets kept of a line: one more than the longest has and a 0x0D, so that a longer one is too long whatever follows.
 const KEPT: usize = script::LONGEST + 2;
@@ -13,8 +14,8 @@ const KEPT: usize = script::LONGEST + 2;
 // Octets read at a time.
 const RUN: usize = 4096;
 
-// The octets of the run from `from` to `end` are still to be read; `len` octets of a line have come. A whole line had a
-// 0x0A, and the last one, at the end of the input, has none.
+// Rows of a fixed size: a line can be longer than any memory. The octets of the run from `from` to `end` are still to be
+// read; `len` octets of a line have come. A whole line had a 0x0A, and the last one, at the end of the input, has none.
 #[derive(Clone, Copy)]
 pub struct Input {
     pub whole: bool,
@@ -25,6 +26,7 @@ pub struct Input {
     len: usize,
 }
 
+#[tactic(auto, unfolding(crate::specs::Input::unread))]
 pub fn unread() -> Input
     ensures { result ≡ unread }
 {
@@ -58,7 +60,8 @@ fn take(input: Input) -> Input
 }
 
 // The next run; none at the end of the input.
-fn refill(from: Stdin, input: Input) -> Result<Input>
+#[tactic(auto, unfolding(crate::specs::Input::refilled))]
+fn refill(from: Stdin, input: Input) -> io::Result<Input>
     ensures { IfOk result (λ next. next ≡ refilled input next.run next.end) }
 {
     let mut from = from;
@@ -71,14 +74,12 @@ fn refill(from: Stdin, input: Input) -> Result<Input>
 }
 
 // A proved loop has to end, and nothing says that a line does.
-pub fn next_line(from: Stdin, input: Input) -> Result<Input>
+pub fn next_line(from: Stdin, input: Input) -> io::Result<Input>
     ensures { IfOk result (λ next. Arrives input next) }
 {
     let mut next = input;
     next.len = 0;
-    let mut turns = u64::MAX;
-    while 0 < turns {
-        turns -= 1;
+    for _ in 0..u64::MAX {
         next = take(next);
         if next.whole {
             return Ok(next);
@@ -95,21 +96,14 @@ pub fn next_line(from: Stdin, input: Input) -> Result<Input>
 fn without_return(line: &[u8], whole: bool) -> &[u8]
     ensures { result.now ≡ without_return whole line.now }
 {
-    if !whole {
-        return line;
-    }
-    let n = line.len();
-    if n == 0 {
-        return line;
-    }
-    if line[n - 1] == b'\r' {
-        return octets::part(line, 0, n - 1);
+    if whole {
+        return line.strip_suffix(b"\r").unwrap_or(line);
     }
     line
 }
 
 // What the line asks of a bench with so many devices.
-pub fn asked_of(input: Input, devices: usize) -> Asked
+pub fn asked_of(input: Input, devices: usize) -> Result<Option<Asked>, Fault>
     ensures { result ≡ read_line (without_return input.whole (take input.len input.line)) (devices % 256) }
 {
     let line = octets::part(&input.line, 0, input.len);

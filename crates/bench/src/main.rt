@@ -16,59 +16,23 @@ mod scanned;
 mod scans;
 mod shown;
 
-ghost use Rattle.std.specs.Prelude.{◌≡◌, ◌%◌, IfOk};
-ghost use Rattle.mast.specs.Mast.{swept};
-ghost use Rattle.bench.specs.Bench.{no_devices, command_in, is_driven, row_driven, row_after};
+ghost use Rattle.std.specs.Prelude.{◌≡◌, IfOk};
+ghost use Rattle.bench.specs.Bench.{no_devices, is_driven, row_driven, row_after};
 
-use antenna::Angle;
 use bus::{MOST, Row};
 use drives::Response;
-use record::Span;
-use script::{Asked, Line};
+use script::Asked;
 use std::io::{Result, Stdin, Stdout};
 use terms::Term;
 
-// Behind the places of the commands: a line with a fault, and one that gets no answer.
-const FAULTY: usize = script::COMMANDS;
-
-const UNANSWERED: usize = script::COMMANDS + 1;
-
-// No device, so the blank record of a refusal everywhere.
+// No device, so the blank record everywhere.
+#[tactic(auto, unfolding(crate::specs::Bench::no_devices))]
 fn no_devices() -> Row
     ensures { result ≡ no_devices }
 {
-    let level = Angle { tenths: 0 };
-    let refused = fresh::fresh(
-        b"",
-        b"",
-        b"",
-        b"",
-        Span {
-            lowest: level,
-            highest: level,
-            present: level,
-        },
-    );
-    let device = refused.device;
     Row {
-        devices: [device; MOST],
+        devices: [fresh::blank(); MOST],
         count: 0,
-    }
-}
-
-// The command that a line asks for. One with a fault, which is said, asks for none, and one that gets no answer for
-// nothing.
-#[tactic(auto, unfolding(crate::specs::Bench::command_in))]
-fn command_of(out: Stdout, line: Line) -> Result<usize>
-    ensures { IfOk result (λ command. command ≡ command_in line) }
-{
-    match line {
-        Line::Silent => Ok(UNANSWERED),
-        Line::Faulty(fault) => {
-            answers::say(out, Term::Fault(fault))?;
-            Ok(FAULTY)
-        }
-        Line::Asks(command) => Ok(command),
     }
 }
 
@@ -95,89 +59,81 @@ fn say_behind(
     }
 }
 
-// The commands of `drives`: to a device, and `device`.
-fn drive(out: Stdout, row: Row, command: usize, asked: Asked) -> Result<Row>
-    ensures { IfOk result (λ after. after ≡ row_driven command row asked) }
-{
-    let values = asked.values;
-    let room = values[3];
-    let mut lent = [answers::FILL; answers::ROOM];
-    let hex = octets::part(&asked.octets, 0, asked.len as usize);
-    let mut next = row;
-    let answer = drives::obey(
-        &mut next,
-        command,
-        values,
-        hex,
-        rows::front(&mut lent, room),
-    );
-    answers::say(out, Term::Reply(answer))?;
-    say_behind(out, answer, next, lent, room)?;
-    Ok(next)
+// What came of a command of `drives`: the row, the answer and the lent output after it.
+#[derive(Clone, Copy)]
+struct Driven {
+    row: Row,
+    answer: Response,
+    lent: [u8; answers::ROOM],
 }
 
-// A scan of the row; the scan by hand stands aside.
-fn sweep(out: Stdout, row: Row, limit: usize) -> Result<Row>
-    ensures { IfOk result (λ after. after ≡ (swept row (limit % 65536)).row) }
+// The commands of `drives`: to a device, and `device`.
+fn drive(row: Row, asked: Asked) -> Driven
+    ensures { result.row ≡ row_driven asked.command row asked }
 {
-    let swept = mast::sweep(row, (limit % 65536) as u16);
-    scanned::say_scan(out, swept.scan)?;
-    Ok(swept.row)
+    let values = asked.values;
+    let mut lent = [answers::FILL; answers::ROOM];
+    let hex = octets::part(&asked.octets, 0, asked.len as usize);
+    let front = rows::front(&mut lent, values[3]);
+    let mut row = row;
+    let answer = drives::obey(&mut row, asked.command, values, hex, front);
+    Driven { row, answer, lent }
+}
+
+fn say_driven(out: Stdout, driven: Driven, room: usize) -> Result<()> {
+    answers::say(out, Term::Reply(driven.answer))?;
+    say_behind(out, driven.answer, driven.row, driven.lent, room)
 }
 
 // Whether a command is one of `drives`.
+#[tactic(auto, unfolding(crate::specs::Bench::is_driven, drives::specs::Drives::for_device))]
 fn is_driven(command: usize) -> bool
     ensures { result ≡ is_driven command }
 {
-    if command <= script::CLEAR {
-        return true;
-    }
-    if command == script::LIMIT {
-        return true;
-    }
-    command == script::DEVICE
+    command <= script::CLEAR || command == script::LIMIT || command == script::DEVICE
 }
 
-// The commands to the row; any other leaves it alone.
-fn obey(out: Stdout, row: Row, command: usize, asked: Asked) -> Result<Row>
-    ensures { IfOk result (λ after. after ≡ row_after command row asked) }
+// The commands to the row; any other leaves it alone. A scan of the row leaves the scan by hand aside.
+#[tactic(auto, unfolding(crate::specs::Bench::row_after))]
+fn obey(out: Stdout, row: Row, asked: Asked) -> Result<Row>
+    ensures { IfOk result (λ after. after ≡ row_after asked.command row asked) }
 {
-    if is_driven(command) {
-        return drive(out, row, command, asked);
+    let values = asked.values;
+    if is_driven(asked.command) {
+        let driven = drive(row, asked);
+        say_driven(out, driven, values[3])?;
+        return Ok(driven.row);
     }
-    if command == script::SCAN {
-        let values = asked.values;
-        return sweep(out, row, values[1]);
+    if asked.command == script::SCAN {
+        let swept = mast::sweep(row, (values[1] % 65536) as u16);
+        scanned::say_scan(out, swept.scan)?;
+        return Ok(swept.row);
     }
     Ok(row)
 }
 
-fn end_answer(out: Stdout, command: usize) -> Result<()> {
-    if command < UNANSWERED {
-        return answers::say_octets(out, b"\n");
-    }
-    Ok(())
-}
-
-// A proved loop has to end, and nothing says that a script does: the turns are counted down from a number that no script
-// uses up.
+// A proved loop has to end, and nothing says that a script does: no script uses up so many turns.
 fn play(from: Stdin, out: Stdout, row: Row) -> Result<()> {
     let mut row = row;
     let mut scan = scanner::new(0);
     let mut ear = ear::fresh();
     let mut input = input::unread();
-    let mut turns = u64::MAX;
-    while 0 < turns {
-        turns -= 1;
+    for _ in 0..u64::MAX {
         input = input::next_line(from, input)?;
-        let asked = input::asked_of(input, row.count);
-        let line = asked.line;
-        let command = command_of(out, line)?;
-        row = obey(out, row, command, asked)?;
-        scan = scans::by_hand(out, scan, command, asked)?;
-        handed::obey(out, scan, command, asked)?;
-        ear = ear::hear(out, ear, command, asked)?;
-        end_answer(out, command)?;
+        match input::asked_of(input, row.count) {
+            Ok(None) => {}
+            Ok(Some(asked)) => {
+                row = obey(out, row, asked)?;
+                scan = scans::by_hand(out, scan, asked)?;
+                handed::obey(out, scan, asked)?;
+                ear = ear::hear(out, ear, asked)?;
+                answers::say_octets(out, b"\n")?;
+            }
+            Err(fault) => {
+                answers::say(out, Term::Fault(fault))?;
+                answers::say_octets(out, b"\n")?;
+            }
+        }
         if !input.whole {
             return Ok(());
         }

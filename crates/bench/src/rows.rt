@@ -12,21 +12,13 @@ pub fn octet(value: usize) -> u8
 pub fn front(s: &mut [u8], n: usize) -> &mut [u8]
     ensures { result.now ≡ take n s.old }
 {
-    if s.len() < n {
-        return s;
-    }
-    &mut s[..n]
+    let end = n.min(s.len());
+    &mut s[..end]
 }
 
 // So far on, but not past the end.
 pub fn moved(at: usize, by: usize, end: usize) -> usize
     ensures { result ≡ min (at + by) end }
 {
-    if end < at {
-        return end;
-    }
-    if end - at < by {
-        return end;
-    }
-    at + by
+    at.saturating_add(by).min(end)
 }

@@ -9,18 +9,10 @@ fn say_list(out: Stdout, list: [u8; scan::LIST], listed: usize) -> Result<()> {
     if listed == 0 {
         return answers::say_hex(out, b' ', octets::part(&list, 0, 0));
     }
-    let end = octets::fewer(listed, scan::LIST_MOST);
     let mut mark = b' ';
-    let mut i = 0;
-    while i < end {
-        let from = identity::OCTETS * i;
-        answers::say_hex(
-            out,
-            mark,
-            octets::part(&list, from, from + identity::OCTETS),
-        )?;
+    for identity in list.chunks(identity::OCTETS).take(listed) {
+        answers::say_hex(out, mark, identity)?;
         mark = b',';
-        i += 1;
     }
     Ok(())
 }

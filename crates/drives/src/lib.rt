@@ -36,6 +36,7 @@ pub enum Response {
 
 // ---- words
 
+#[tactic(auto, unfolding(crate::specs::Drives::is_tilt))]
 fn is_tilt(pattern: usize) -> bool
     ensures { result ≡ is_tilt pattern }
 {
@@ -43,6 +44,7 @@ fn is_tilt(pattern: usize) -> bool
 }
 
 // The tilt of a pattern of 16 bits.
+#[tactic(auto, unfolding(crate::specs::Drives::tilt_of))]
 fn tilt_of(pattern: usize) -> Angle
     ensures { result ≡ tilt_of pattern }
 {
@@ -71,15 +73,11 @@ fn fresh(values: Values, octets: &[u8]) -> Result<Device, Refusal>
     )
 }
 
+#[tactic(auto, unfolding(crate::specs::Drives::are_tilts))]
 fn are_tilts(values: Values) -> bool
     ensures { result ≡ are_tilts values }
 {
-    if is_tilt(values[5]) {
-        if is_tilt(values[6]) {
-            return is_tilt(values[7]);
-        }
-    }
-    false
+    is_tilt(values[5]) && is_tilt(values[6]) && is_tilt(values[7])
 }
 
 // A refused device takes no number.
@@ -113,16 +111,11 @@ fn add(row: &mut Row, values: Values, octets: &[u8]) -> Response
 // ---- the commands to a device
 
 // Whether the device K is one of so many.
+#[tactic(auto, unfolding(crate::specs::Drives::is_device))]
 fn is_device(count: usize, k: usize) -> bool
     ensures { result ≡ is_device count k }
 {
-    if k == 0 {
-        return false;
-    }
-    if MOST < k {
-        return false;
-    }
-    k <= count
+    k != 0 && k <= MOST && k <= count
 }
 
 // `frame`: decoded octets; else `hear`: octets as they come from the line.
@@ -150,6 +143,7 @@ fn deliver(row: &mut Row, place: usize, command: usize, octets: &[u8], lent: &mu
 }
 
 // Whether an event has such a value: `stopped` a tilt, `raise` and `clear` an alarm.
+#[tactic(auto, unfolding(crate::specs::Drives::is_value))]
 fn is_value(command: usize, value: usize) -> bool
     ensures { result ≡ is_value command value }
 {
@@ -159,6 +153,7 @@ fn is_value(command: usize, value: usize) -> bool
     value < 256
 }
 
+#[tactic(auto, unfolding(crate::specs::Drives::event_of, crate::specs::Drives::is_value))]
 fn event_of(command: usize, value: usize) -> Event
     requires { is_value command value ≡ true }
     ensures { result ≡ event_of command value }
@@ -228,13 +223,11 @@ fn to_device(
 }
 
 // The commands to a device stand first among the names, but for `limit`.
+#[tactic(auto, unfolding(crate::specs::Drives::for_device))]
 fn is_for_device(command: usize) -> bool
     ensures { result ≡ for_device command }
 {
-    if command <= script::CLEAR {
-        return true;
-    }
-    command == script::LIMIT
+    command <= script::CLEAR || command == script::LIMIT
 }
 
 // The commands to a device, and `device`; no other is for the row. Where the answer is a "no", the row is as it was.

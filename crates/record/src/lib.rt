@@ -112,12 +112,6 @@ pub enum Event {
     Cleared(u8),
 }
 
-#[derive(Clone, Copy)]
-pub struct Changed {
-    pub outcome: Result<(), Refusal>,
-    pub device: Device,
-}
-
 // ---- allowed or not
 
 #[tactic(auto, unfolding(crate::specs::Allowed::identity_allowed))]

@@ -84,32 +84,77 @@ fn tell(rt: &HostRuntime, turn: u64, stretch: OpenStretch) {
 
 // ---- the work
 
-// Works through a run: what a call writes goes to GOOD, and what it leaves out is listed.
-fn sift(
-    rt: &impl Print,
-    salvage: &mut Salvage,
+// What runs are worked through with: the library's state, the room that it is lent, and GOOD.
+#[derive(Drop)]
+struct Sieve {
     limit: usize,
-    run: &[u8],
-    store: &mut [u8; PLACES],
-    raw: &mut [u8; RAW],
-    out: &mut [u8; ROOM],
-    good: &mut File,
-) -> Result<(), Failure> {
-    let mut at = 0;
-    while at < run.len() {
-        let told = match salvage::read(salvage, limit, &run[at..], store, raw, out) {
-            Ok(told) => told,
-            Err(_) => return Err(stuck()),
-        };
-        let n = octets::fewer(told.taken, run.len() - at);
-        if n == 0 {
-            return Err(stuck());
+    good: File,
+    salvage: Salvage,
+    store: [u8; PLACES],
+    raw: [u8; RAW],
+    out: [u8; ROOM],
+}
+
+impl Sieve {
+    fn new(limit: usize, good: File) -> Self {
+        Self {
+            limit,
+            good,
+            salvage: salvage::new(),
+            store: [0u8; PLACES],
+            raw: [0u8; RAW],
+            out: [0u8; ROOM],
         }
-        at += n;
-        put(good, octets::part(out, 0, told.written))?;
-        listed(rt, told.left_out)?;
     }
-    Ok(())
+
+    // Works through a run: what a call writes goes to GOOD, and what it leaves out is listed.
+    fn sift(&mut self, rt: &impl Print, run: &[u8]) -> Result<(), Failure> {
+        let mut rest = run;
+        while !rest.is_empty() {
+            let told = salvage::read(
+                &mut self.salvage,
+                self.limit,
+                rest,
+                &mut self.store,
+                &mut self.raw,
+                &mut self.out,
+            )
+            .map_err(|_| stuck())?;
+            let taken = told.taken.min(rest.len());
+            if taken == 0 {
+                return Err(stuck());
+            }
+            rest = &rest[taken..];
+            let written = octets::part(&self.out, 0, told.written);
+            self.good.write_all(written).map_err(Failure::Unwritten)?;
+            listed(rt, told.left_out)?;
+        }
+        Ok(())
+    }
+
+    // Reads the capture to its end. A proved loop has to end, and nothing says that a file does.
+    fn read_all(&mut self, rt: &HostRuntime, from: &mut File) -> Result<(), Failure> {
+        let mut run = [0u8; RUN];
+        for turn in 0..u64::MAX {
+            let n = from.read(&mut run).map_err(Failure::Unread)?;
+            if n == 0 {
+                return Ok(());
+            }
+            self.sift(rt, octets::part(&run, 0, n))?;
+            tell(rt, turn, self.salvage.stretch);
+        }
+        Err(Failure::Unread(io::Error::other("no end was found")))
+    }
+
+    // Behind the last octet: what is open is listed, and GOOD is on its disk.
+    fn close(&mut self, rt: &impl Print) -> Result<Salvage, Failure> {
+        let left_out = salvage::finish(&mut self.salvage).map_err(|_| Failure::Unlisted(
+            io::Error::other("a call is refused"),
+        ))?;
+        listed(rt, left_out)?;
+        self.good.sync_all().map_err(Failure::Unwritten)?;
+        Ok(self.salvage)
+    }
 }
 
 // No call that has octets is refused or takes none of them (crate capture).
@@ -117,100 +162,20 @@ fn stuck() -> Failure {
     Failure::Unwritten(io::Error::other("a run is refused"))
 }
 
-fn put(good: &mut File, octets: &[u8]) -> Result<(), Failure> {
-    match good.write_all(octets) {
-        Ok(()) => Ok(()),
-        Err(e) => Err(Failure::Unwritten(e)),
-    }
-}
-
 // Lists what was left out.
 fn listed(rt: &impl Print, left_out: Option<Stretch>) -> Result<(), Failure> {
     match left_out {
         None => Ok(()),
-        Some(stretch) => match list(rt, stretch) {
-            Ok(()) => Ok(()),
-            Err(e) => Err(Failure::Unlisted(e)),
-        },
-    }
-}
-
-// The next run; whether there was one, or CAPTURE is at its end.
-fn read_some(
-    rt: &impl Print,
-    salvage: &mut Salvage,
-    limit: usize,
-    from: &mut File,
-    run: &mut [u8; RUN],
-    store: &mut [u8; PLACES],
-    raw: &mut [u8; RAW],
-    out: &mut [u8; ROOM],
-    good: &mut File,
-) -> Result<bool, Failure> {
-    let n = match from.read(run) {
-        Ok(n) => n,
-        Err(e) => return Err(Failure::Unread(e)),
-    };
-    if n == 0 {
-        return Ok(false);
-    }
-    let run = octets::part(run, 0, n);
-    sift(rt, salvage, limit, run, store, raw, out, good)?;
-    Ok(true)
-}
-
-// Reads the capture to its end. A proved loop has to end, and nothing says that a file does.
-fn read_all(
-    rt: &HostRuntime,
-    from: &mut File,
-    good: &mut File,
-    limit: usize,
-) -> Result<Salvage, Failure> {
-    let mut salvage = salvage::new();
-    let mut store = [0u8; PLACES];
-    let mut raw = [0u8; RAW];
-    let mut run = [0u8; RUN];
-    let mut out = [0u8; ROOM];
-    for turn in 0..u64::MAX {
-        let more = read_some(
-            rt,
-            &mut salvage,
-            limit,
-            from,
-            &mut run,
-            &mut store,
-            &mut raw,
-            &mut out,
-            good,
-        )?;
-        if !more {
-            return Ok(salvage);
-        }
-        tell(rt, turn, salvage.stretch);
-    }
-    Err(Failure::Unread(io::Error::other("no end was found")))
-}
-
-// Behind the last octet: what is open is listed, and GOOD is on its disk.
-fn close(rt: &impl Print, salvage: &mut Salvage, good: &File) -> Result<(), Failure> {
-    let left_out = match salvage::finish(salvage) {
-        Ok(left_out) => left_out,
-        Err(_) => return Err(Failure::Unlisted(io::Error::other("a call is refused"))),
-    };
-    listed(rt, left_out)?;
-    match good.sync_all() {
-        Ok(()) => Ok(()),
-        Err(e) => Err(Failure::Unwritten(e)),
+        Some(stretch) => list(rt, stretch).map_err(Failure::Unlisted),
     }
 }
 
 // Reads and writes files that are open, and ends.
 fn work(rt: &HostRuntime, from: File, to: File, limit: usize) -> Result<Salvage, Failure> {
     let mut from = from;
-    let mut to = to;
-    let mut salvage = read_all(rt, &mut from, &mut to, limit)?;
-    close(rt, &mut salvage, &to)?;
-    Ok(salvage)
+    let mut sieve = Sieve::new(limit, to);
+    sieve.read_all(rt, &mut from)?;
+    sieve.close(rt)
 }
 
 // GOOD gets its name.
@@ -275,10 +240,9 @@ fn main(rt: HostRuntime) -> io::Result<()> {
     if 4 < count {
         return refuse(&rt, "two names and a frame limit are all that is asked for");
     }
-    let limit = words::limit(words.get(3), LIMIT_MOST);
-    if !limits::is_limit(limit) {
+    let Some(limit) = words::limit(words.get(3), LIMIT_MOST) else {
         return refuse(&rt, "a frame limit is a number from 78 to 260");
-    }
+    };
     let good = words[2].as_str();
     if !words::is_name(good) {
         return refuse(&rt, "GOOD is a name, and this one is empty or too long");

@@ -22,30 +22,24 @@ pub fn beside(alloc: Global, good: &str) -> Result<String, AllocError>
     format!(in alloc; "{good}.part")
 }
 
-// The number that digits stand for, as far as it is asked; 0 for anything else.
-fn number(s: &[u8]) -> usize
+// The number that digits stand for, as far as it is asked.
+fn number(s: &[u8]) -> Option<usize>
     ensures { result ≡ number_in s.now }
 {
     let mut n = 0;
-    let mut i = 0;
-    while i < s.len() {
-        let b = s[i];
-        if b < b'0' {
-            return 0;
+    for b in s {
+        if !b.is_ascii_digit() {
+            return None;
         }
-        if b'9' < b {
-            return 0;
-        }
-        n = octets::fewer(n * 10 + octets::wide(b - b'0'), PAST);
-        i += 1;
+        n = (n * 10 + usize::from(*b - b'0')).min(PAST);
     }
-    n
+    Some(n)
 }
 
-// The third word as a frame limit; `given` where there is none.
-pub fn limit(word: Option<&String>, given: usize) -> usize {
+// The third word as a frame limit, if it is one; `given` where there is no third word.
+pub fn limit(word: Option<&String>, given: usize) -> Option<usize> {
     match word {
-        Some(word) => number(word.as_bytes()),
-        None => given,
+        Some(word) => number(word.as_bytes()).filter(|n| limits::is_limit(*n)),
+        None => Some(given),
     }
 }

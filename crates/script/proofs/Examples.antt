@@ -3,6 +3,7 @@ use mathlib.Core.Path.{◌≡◌, refl}
 use mathlib.Core.Bool.{cond}
 use mathlib.Core.List.{List, [], ◌∷◌, map}
 use Prim.Native.Nat.{ℕ}
+use Rattle.std.specs.Prelude.{Option, Some, None, Result, Ok, Err, option_map}
 use Prim.Native.Char.{code}
 use Prim.Native.String.{String}
 use lib.Dec.{eqb}
@@ -15,16 +16,21 @@ use Rattle.script.specs.Commands as command
 use Rattle.script.specs.Values.{hex_digit, octet_by, octet_of, octet_then, pairs_of, hex_of, all_digits, numeral}
 use Rattle.script.specs.Values.{decimal, is_negative, digits_of, pattern_of, ranged, number_by, from_one, heard_means}
 use Rattle.script.specs.Values.{value_of}
-use Rattle.script.specs.Script.{command_of, kinds_of, wordless, with_value, with_octets, with_hex, with_word}
-use Rattle.script.specs.Script.{words_by, is_unanswered, read_line}
+use Rattle.script.specs.Script.{command_of, kinds_of, with_value, with_octets, with_hex, with_word}
+use Rattle.script.specs.Script.{words_by, is_unanswered, asked_by, read_line}
+use Rattle.script.specs.declared.Fault.{Fault}
 use Rattle.script.specs.declared.Fault.TheVariants.{Long, Command, Words, Hex, Number, Room, Device}
-use Rattle.script.specs.declared.Line.TheVariants.{Silent, Faulty, Asks}
 use Rattle.script.specs.declared.Asked.{Asked}
 
 -- a command, the values of the words behind it, and the octets of its HEX words
-abbrev asks : ℕ → List ℕ → List ℕ → Asked
+abbrev asks : ℕ → List ℕ → List ℕ → Result (Option Asked) Fault
 asks c vs os =
-    record { line = Asks c; values = sets (replicate 8 0) 1 vs; octets = sets (replicate 1000 0) 0 os; len = length os }
+    Ok (Some (record {
+      command = c;
+      values = sets (replicate 8 0) 1 vs;
+      octets = sets (replicate 1000 0) 0 os;
+      len = length os;
+    }))
 
 -- each command's name stands at its place
 places : (command_of (spelled "frame") ∷ command_of (spelled "hear") ∷ command_of (spelled "show")
@@ -33,9 +39,9 @@ places : (command_of (spelled "frame") ∷ command_of (spelled "hear") ∷ comma
     ∷ command_of (spelled "probe") ∷ command_of (spelled "report") ∷ command_of (spelled "decode")
     ∷ command_of (spelled "write") ∷ command_of (spelled "decode-n") ∷ command_of (spelled "write-n")
     ∷ command_of (spelled "limit") ∷ command_of (spelled "listen") ∷ command_of (spelled "octets") ∷ [])
-    ≡ command.frame ∷ command.hear ∷ command.show ∷ command.stopped ∷ command.raise ∷ command.clear ∷ command.device
-    ∷ command.scan ∷ command.begin ∷ command.probe ∷ command.report ∷ command.decode ∷ command.write
-    ∷ command.decode_n ∷ command.write_n ∷ command.limit ∷ command.listen ∷ command.octets ∷ []
+    ≡ map Some (command.frame ∷ command.hear ∷ command.show ∷ command.stopped ∷ command.raise ∷ command.clear
+    ∷ command.device ∷ command.scan ∷ command.begin ∷ command.probe ∷ command.report ∷ command.decode ∷ command.write
+    ∷ command.decode_n ∷ command.write_n ∷ command.limit ∷ command.listen ∷ command.octets ∷ [])
 unfolding spelled first_of behind_first word_at place_from place_of same command_of
 places = refl
 
@@ -50,21 +56,21 @@ named k =
     (cond (eqb k (code "l")) "LIMIT"
     (cond (eqb k (code "o")) "two digits" (cond (eqb k (code "h")) "heard or silent" "none")))))))
 
-abbrev pub words_of : String → List String
-words_of c = map named (kinds_of (spelled c))
+abbrev pub words_of : String → Option (List String)
+words_of c = option_map (λ p. map named (kinds_of p)) (command_of (spelled c))
 
 -- the words behind each command, as the bench script has them; of `device` "the four texts in HEX"; N is a LIMIT
 pub words-of : (words_of "frame" ∷ words_of "hear" ∷ words_of "show" ∷ words_of "stopped" ∷ words_of "raise"
     ∷ words_of "clear" ∷ words_of "device" ∷ words_of "scan" ∷ words_of "begin" ∷ words_of "probe" ∷ words_of "report"
     ∷ words_of "decode" ∷ words_of "write" ∷ words_of "decode-n" ∷ words_of "write-n" ∷ words_of "limit"
     ∷ words_of "listen" ∷ words_of "octets" ∷ [])
-    ≡ ("K" ∷ "HEX" ∷ "ROOM" ∷ []) ∷ ("K" ∷ "HEX" ∷ "ROOM" ∷ []) ∷ ("K" ∷ [])
+    ≡ map Some (("K" ∷ "HEX" ∷ "ROOM" ∷ []) ∷ ("K" ∷ "HEX" ∷ "ROOM" ∷ []) ∷ ("K" ∷ [])
     ∷ ("K" ∷ "TILT" ∷ []) ∷ ("K" ∷ "ALARM" ∷ []) ∷ ("K" ∷ "ALARM" ∷ [])
     ∷ ("HEX" ∷ "HEX" ∷ "HEX" ∷ "HEX" ∷ "TILT" ∷ "TILT" ∷ "TILT" ∷ [])
     ∷ ("LIMIT" ∷ []) ∷ ("LIMIT" ∷ []) ∷ ("ROOM" ∷ []) ∷ ("heard or silent" ∷ [])
     ∷ ("HEX" ∷ "ROOM" ∷ []) ∷ ("two digits" ∷ "two digits" ∷ "HEX" ∷ "ROOM" ∷ [])
     ∷ ("LIMIT" ∷ "HEX" ∷ "ROOM" ∷ []) ∷ ("LIMIT" ∷ "two digits" ∷ "two digits" ∷ "HEX" ∷ "ROOM" ∷ [])
-    ∷ ("K" ∷ []) ∷ [] ∷ ("LIMIT" ∷ "HEX" ∷ "ROOM" ∷ []) ∷ []
+    ∷ ("K" ∷ []) ∷ [] ∷ ("LIMIT" ∷ "HEX" ∷ "ROOM" ∷ []) ∷ [])
 unfolding spelled first_of behind_first word_at place_from place_of same command_of kinds_of
 words-of = refl
 
@@ -86,28 +92,28 @@ read : (read_line (spelled "raise 1 20") 1 ≡ asks command.raise (1 ∷ 20 ∷ 
     ≡ asks command.device (1 ∷ 3 ∷ 3 ∷ 4 ∷ 65531 ∷ 5 ∷ 0 ∷ []) (0x4e ∷ 0x41 ∷ 0x41 ∷ 0x31 ∷ []))
 unfolding spelled first_of behind_first word_at spaces_in place_from place_of same hex_digit octet_by octet_of octet_then pairs_of
     hex_of all_digits numeral decimal is_negative digits_of pattern_of ranged number_by from_one heard_means value_of command_of kinds_of
-    with_value with_octets with_hex with_word words_by is_unanswered read_line
+    with_value with_octets with_hex with_word words_by is_unanswered asked_by read_line
 read = (refl, refl, refl, refl, refl, refl, refl, refl, refl, refl, refl, refl)
 
 -- a line that is long has that fault before every other, unless it is a comment
-faults : (read_line (spelled "probe 601") 0 ≡ wordless (Faulty Room))
-    × (read_line (spelled "probe 99999999999999999999") 0 ≡ wordless (Faulty Room))
-    × (read_line (spelled "probe --1") 0 ≡ wordless (Faulty Number))
-    × (read_line (spelled "hear 1 zz 9") 1 ≡ wordless (Faulty Hex))
-    × (read_line (spelled "hear 1 123 9") 1 ≡ wordless (Faulty Hex))
-    × (read_line (spelled "show 2") 1 ≡ wordless (Faulty Device))
-    × (read_line (spelled "show -1") 1 ≡ wordless (Faulty Device))
-    × (read_line (spelled "stopped 1 32768") 1 ≡ wordless (Faulty Number))
-    × (read_line (spelled "decode-n 65536 - 9") 0 ≡ wordless (Faulty Number))
-    × (read_line (spelled "report twice") 0 ≡ wordless (Faulty Words))
-    × (read_line (spelled "probe  1") 0 ≡ wordless (Faulty Words))
-    × (read_line (spelled "listen 1") 0 ≡ wordless (Faulty Words))
-    × (read_line (spelled "Probe 1") 0 ≡ wordless (Faulty Command))
-    × (read_line (replicate 2001 97) 0 ≡ wordless (Faulty Long))
-    × (read_line (replicate 2001 35) 0 ≡ wordless Silent)
-    × (read_line [] 0 ≡ wordless Silent)
+faults : (read_line (spelled "probe 601") 0 ≡ Err Room)
+    × (read_line (spelled "probe 99999999999999999999") 0 ≡ Err Room)
+    × (read_line (spelled "probe --1") 0 ≡ Err Number)
+    × (read_line (spelled "hear 1 zz 9") 1 ≡ Err Hex)
+    × (read_line (spelled "hear 1 123 9") 1 ≡ Err Hex)
+    × (read_line (spelled "show 2") 1 ≡ Err Device)
+    × (read_line (spelled "show -1") 1 ≡ Err Device)
+    × (read_line (spelled "stopped 1 32768") 1 ≡ Err Number)
+    × (read_line (spelled "decode-n 65536 - 9") 0 ≡ Err Number)
+    × (read_line (spelled "report twice") 0 ≡ Err Words)
+    × (read_line (spelled "probe  1") 0 ≡ Err Words)
+    × (read_line (spelled "listen 1") 0 ≡ Err Words)
+    × (read_line (spelled "Probe 1") 0 ≡ Err Command)
+    × (read_line (replicate 2001 97) 0 ≡ Err Long)
+    × (read_line (replicate 2001 35) 0 ≡ Ok None)
+    × (read_line [] 0 ≡ Ok None)
 unfolding spelled first_of behind_first word_at spaces_in place_from place_of same hex_digit octet_by octet_of octet_then pairs_of
     hex_of all_digits numeral decimal is_negative digits_of pattern_of ranged number_by from_one heard_means value_of command_of kinds_of
-    with_value with_octets with_hex with_word words_by is_unanswered read_line
+    with_value with_octets with_hex with_word words_by is_unanswered asked_by read_line
 faults =
     (refl, refl, refl, refl, refl, refl, refl, refl, refl, refl, refl, refl, refl, refl, refl, refl)

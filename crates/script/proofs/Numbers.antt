@@ -11,6 +11,7 @@ use mathlib.Core.Bool.{Bool, true, false, cond, not, false≢true}
 use mathlib.Core.Logic.{◌↔◌, ◌⊎◌, inl, inr, ⊎_elim}
 use mathlib.Core.List.Memᴰ
 use mathlib.Core.List.{List, [], ◌∷◌, Memᴰ}
+use Rattle.std.specs.Prelude.{Result, Ok, Err}
 use Prim.Native.Nat.{ℕ, zero, suc, ◌+◌, ◌-◌, ◌*◌, ◌%◌, ◌^◌, ◌<◌, ◌≤◌}
 use Prim.Native.Char.{code}
 use native.Mathlib.Numerals.{unary_clauses}
@@ -23,8 +24,6 @@ use Rattle.script.specs.Values.{is_from_to, all_digits, numeral, decimal, is_neg
 use Rattle.script.specs.Values.{number_by, from_one, value_of}
 use Rattle.script.specs.declared.Fault.{Fault}
 use Rattle.script.specs.declared.Fault.TheVariants.{Number, Room, Device}
-use Rattle.script.specs.declared.Value.{Value}
-use Rattle.script.specs.declared.Value.TheVariants.{Means, Bad}
 use Rattle.script.proofs.Hexes.{between}
 
 -- ---- what a number is
@@ -114,20 +113,20 @@ module _ (below above : ℕ) (f : Fault) (w : List ℕ) where
   unfolding number_by
   says-number b n s = let (i, j, k) = (says-exactly w b n).1 s in rw (j, i, k)
 
-  no_number : NoNumber w → number_by below above f w ≡ Bad Number
+  no_number : NoNumber w → number_by below above f w ≡ Err Number
   unfolding number_by
   no_number h = go (numeral (digits_of w)) refl
     where
-      go : (t : Bool) → numeral (digits_of w) ≡ t → number_by below above f w ≡ Bad Number
+      go : (t : Bool) → numeral (digits_of w) ≡ t → number_by below above f w ≡ Err Number
       go true e = absurd (h (is_negative w) (decimal 0 (digits_of w)) ((says-exactly w _ _).0 (refl, e, refl)))
       go false e = rw e
 
-  number-within : {v : ℕ} → Within below above w v → number_by below above f w ≡ Means v
+  number-within : {v : ℕ} → Within below above w v → number_by below above f w ≡ Ok v
   unfolding ranged pattern_of
   number-within (up n s h e) = says-number false n s ∙ rw (le-leb n above h, e)
   number-within (down n s h e) = says-number true n s ∙ rw (le-leb n below h, e)
 
-  number-outside : Outside below above w → number_by below above f w ≡ Bad f
+  number-outside : Outside below above w → number_by below above f w ≡ Err f
   unfolding ranged
   number-outside (up n s h) = says-number false n s ∙ rw (lt-leb n above h)
   number-outside (down n s h) = says-number true n s ∙ rw (lt-leb n below h)
@@ -135,12 +134,12 @@ module _ (below above : ℕ) (f : Fault) (w : List ℕ) where
 -- ---- both ways
 
 -- a word is no number, has a value, or is outside; what comes of each says when it comes
-module _ (x : Value) (No : Type 0) (Is : ℕ → Type 0) (Out : Type 0) (f : Fault) (no-bad : No → x ≡ Bad Number)
-    (is-means : (v : ℕ) → Is v → x ≡ Means v) (out-bad : Out → x ≡ Bad f) (one : No ⊎ (((v : ℕ) × Is v) ⊎ Out)) where
-  means-not-bad : {v : ℕ} {g : Fault} → Means v ≡ Bad g → ⊥
+module _ (x : Result ℕ Fault) (No : Type 0) (Is : ℕ → Type 0) (Out : Type 0) (f : Fault) (no-bad : No → x ≡ Err Number)
+    (is-means : (v : ℕ) → Is v → x ≡ Ok v) (out-bad : Out → x ≡ Err f) (one : No ⊎ (((v : ℕ) × Is v) ⊎ Out)) where
+  means-not-bad : {v : ℕ} {g : Fault} → Ok v ≡ Err g → ⊥
   means-not-bad e = let z : ◌≡◌ {A = ℕ} 0 1 = cc in omega arith
 
-  means-exactly : (v : ℕ) → x ≡ Means v ↔ Is v
+  means-exactly : (v : ℕ) → x ≡ Ok v ↔ Is v
   means-exactly v = (
     λ e. ⊎_elim (λ h. absurd (means-not-bad (sym e ∙ no-bad h)))
         (⊎_elim (λ (u, i). let j = sym (is-means u i) ∙ e in let same : u ≡ v = cc in rw same at i)
@@ -148,7 +147,7 @@ module _ (x : Value) (No : Type 0) (Is : ℕ → Type 0) (Out : Type 0) (f : Fau
     is-means v,
   )
 
-  bad-exactly : (g : Fault) → x ≡ Bad g ↔ (No × (g ≡ Number)) ⊎ (Out × (g ≡ f))
+  bad-exactly : (g : Fault) → x ≡ Err g ↔ (No × (g ≡ Number)) ⊎ (Out × (g ≡ f))
   bad-exactly g = (
     λ e. ⊎_elim (λ h. let i = sym (no-bad h) ∙ e in let j : g ≡ Number = cc in inl (h, j))
         (⊎_elim (λ (u, i). absurd (means-not-bad (sym (is-means u i) ∙ e)))
@@ -156,8 +155,8 @@ module _ (x : Value) (No : Type 0) (Is : ℕ → Type 0) (Out : Type 0) (f : Fau
     ⊎_elim (λ (h, e). rw e (no-bad h)) (λ (h, e). rw e (out-bad h)),
   )
 
-  both_ways : ((v : ℕ) → x ≡ Means v ↔ Is v)
-      × ((g : Fault) → x ≡ Bad g ↔ (No × (g ≡ Number)) ⊎ (Out × (g ≡ f)))
+  both_ways : ((v : ℕ) → x ≡ Ok v ↔ Is v)
+      × ((g : Fault) → x ≡ Err g ↔ (No × (g ≡ Number)) ⊎ (Out × (g ≡ f)))
   both_ways = (means-exactly, bad-exactly)
 
 -- which it is
@@ -202,19 +201,19 @@ bounded alarm d w = refl
 bounded limit d w = refl
 
 module _ {k below above : ℕ} {f : Fault} (b : Bounds k below above f) (d : ℕ) (w : List ℕ) where
-  number-ways : ((v : ℕ) → value_of k d w ≡ Means v ↔ Within below above w v)
-      × ((g : Fault) → value_of k d w ≡ Bad g ↔ (NoNumber w × (g ≡ Number)) ⊎ (Outside below above w × (g ≡ f)))
+  number-ways : ((v : ℕ) → value_of k d w ≡ Ok v ↔ Within below above w v)
+      × ((g : Fault) → value_of k d w ≡ Err g ↔ (NoNumber w × (g ≡ Number)) ⊎ (Outside below above w × (g ≡ f)))
   number-ways =
       rw (bounded b d w)
       (both_ways (number_by below above f w) (NoNumber w) (Within below above w) (Outside below above w) f
       (no_number below above f w) (λ v i. number-within below above f w i) (number-outside below above f w)
       (within-or below above w))
 
-  pub number-taken : (v : ℕ) → value_of k d w ≡ Means v ↔ Within below above w v
+  pub number-taken : (v : ℕ) → value_of k d w ≡ Ok v ↔ Within below above w v
   number-taken = number-ways.0
 
   -- "anything else is `error number`"
-  pub number-fault : (g : Fault) → value_of k d w ≡ Bad g
+  pub number-fault : (g : Fault) → value_of k d w ≡ Err g
       ↔ (NoNumber w × (g ≡ Number)) ⊎ (Outside below above w × (g ≡ f))
   number-fault = number-ways.1
 
@@ -228,7 +227,7 @@ pub data NoDevice (d : ℕ) (w : List ℕ) : Type 0 where
   negative : (n : ℕ) → Says w true n → NoDevice d w
 
 module _ (d : ℕ) (w : List ℕ) where
-  device-no : NoDevice d w → value_of (code "d") d w ≡ Bad Device
+  device-no : NoDevice d w → value_of (code "d") d w ≡ Err Device
   unfolding value_of from_one
   device-no (nought s) = rw (number-within 0 d Device w {v = 0} (up 0 s (omega arith) refl))
   device-no (past n s h) = rw (number-outside 0 d Device w (up n s h))
@@ -236,11 +235,11 @@ module _ (d : ℕ) (w : List ℕ) where
       ⊎_elim (λ h. rw (number-within 0 d Device w {v = 0} (down n s h (omega (arith, h)))))
       (λ h. rw (number-outside 0 d Device w (down n s h))) (up_to n 0)
 
-  device-is : (v : ℕ) → Says w false v → 1 ≤ v → v ≤ d → value_of (code "d") d w ≡ Means v
+  device-is : (v : ℕ) → Says w false v → 1 ≤ v → v ≤ d → value_of (code "d") d w ≡ Ok v
   unfolding value_of from_one
   device-is v s a b = rw (number-within 0 d Device w (up v s b refl), ne_eqb v 0 (λ e. omega (arith, a, e)))
 
-  device-not : NoNumber w → value_of (code "d") d w ≡ Bad Number
+  device-not : NoNumber w → value_of (code "d") d w ≡ Err Number
   unfolding value_of from_one
   device-not h = rw (no_number 0 d Device w h)
 
@@ -253,15 +252,15 @@ module _ (d : ℕ) (w : List ℕ) where
       go false (suc n) s =
           ⊎_elim (λ h. inl (suc n, (s, omega arith, h))) (λ h. inr (past (suc n) s h)) (up_to (suc n) d)
 
-  device-ways : ((v : ℕ) → value_of (code "d") d w ≡ Means v ↔ ADevice d w v)
-      × ((g : Fault) → value_of (code "d") d w ≡ Bad g ↔ (NoNumber w × (g ≡ Number)) ⊎ (NoDevice d w × (g ≡ Device)))
+  device-ways : ((v : ℕ) → value_of (code "d") d w ≡ Ok v ↔ ADevice d w v)
+      × ((g : Fault) → value_of (code "d") d w ≡ Err g ↔ (NoNumber w × (g ≡ Number)) ⊎ (NoDevice d w × (g ≡ Device)))
   device-ways =
       both_ways (value_of (code "d") d w) (NoNumber w) (ADevice d w) (NoDevice d w) Device
       device-not (λ v (s, a, b). device-is v s a b) device-no device-or
 
-  pub device-taken : (v : ℕ) → value_of (code "d") d w ≡ Means v ↔ ADevice d w v
+  pub device-taken : (v : ℕ) → value_of (code "d") d w ≡ Ok v ↔ ADevice d w v
   device-taken = device-ways.0
 
-  pub device-fault : (g : Fault) → value_of (code "d") d w ≡ Bad g
+  pub device-fault : (g : Fault) → value_of (code "d") d w ≡ Err g
       ↔ (NoNumber w × (g ≡ Number)) ⊎ (NoDevice d w × (g ≡ Device))
   device-fault = device-ways.1

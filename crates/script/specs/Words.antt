@@ -3,9 +3,9 @@
 --   first_of s       == the octets of s before its first space; behind_first s == those behind it
 --   word_at n s      == the word of s behind n others; empty where there is none
 --   spaces_in s      == how many spaces s has: one less than its words
---   place_from i n t w == the first of the n places from i on at which the text t has the word w; i + n where none has
+--   place_from i n t w == the first of the n places from i on at which the text t has the word w
 -- Assumes nothing.
-use Rattle.std.specs.Prelude.{cond, List, [], ◌∷◌, ℕ, zero, suc, eqb, take, drop}
+use Rattle.std.specs.Prelude.{cond, List, [], ◌∷◌, Option, Some, None, ℕ, zero, suc, eqb, take, drop}
 use Prim.Native.Char.{code}
 use Prim.Native.String.{String}
 use Prim.Native.String as text
@@ -31,6 +31,6 @@ unfoldable pub spaces_in : List ℕ → ℕ
 spaces_in [] = 0
 spaces_in (x ∷ s) = cond (eqb x 0x20) (suc (spaces_in s)) (spaces_in s)
 
-unfoldable pub place_from : ℕ → ℕ → List ℕ → List ℕ → ℕ
-place_from i zero t w = i
-place_from i (suc n) t w = cond (same (word_at i t) w) i (place_from (suc i) n t w)
+unfoldable pub place_from : ℕ → ℕ → List ℕ → List ℕ → Option ℕ
+place_from i zero t w = None
+place_from i (suc n) t w = cond (same (word_at i t) w) (Some i) (place_from (suc i) n t w)

@@ -1,5 +1,6 @@
--- What is said of a name is the word itself, and `complete` is said of a scan that is complete and of no other. Assumes
--- nothing.
+-- A word has no full stop and at most 14 letters, so of a row of them with full stops behind it the word can be read; and
+-- `complete` is said of a scan that is complete and of no other. Assumes nothing.
+--   name_of w == the word w with full stops behind it; letters_of x == what the name x has before its first
 use Rattle.std.proofs.Common.{Option, Some, None, Result, Ok, Err}
 use Rattle.refusal.specs.declared.Refusal.{Refusal}
 use mathlib.Core.Path.{◌≡◌, refl, ap}
@@ -9,7 +10,8 @@ use mathlib.Core.Logic.{◌↔◌}
 use Prim.Native.Nat.{ℕ}
 use native.Mathlib.Omega.{arith}
 use lib.Dec.{eqb}
-use lib.ListN.{get_or}
+use lib.ListN.{get_or, replicate, take}
+use Prim.Native.Char.{code}
 use Rattle.octets.specs.Octets.{place_of, ◌at_start_of◌}
 use Rattle.receiver.specs.declared.Received.{Received}
 use Rattle.antenna.specs.declared.Motion.{Motion}
@@ -29,10 +31,16 @@ use Rattle.drives.specs.declared.Response.{Response}
 use Rattle.drives.specs.declared.Response.TheVariants as reply
 use Rattle.terms.specs.declared.Term.{Term}
 use Rattle.terms.specs.declared.Term.TheVariants as term
-use Rattle.terms.specs.Terms.{name_of, letters_of, fault_word, outcome_word, said_word, reply_word, given_word}
+use Rattle.terms.specs.Terms.{fault_word, outcome_word, said_word, reply_word, given_word}
 use Rattle.terms.specs.Terms.{handed_word, told_word, heard_word, end_word, link_word, pending_word, drive_word, word_of}
 
--- the octets that are written of a word's name
+unfoldable pub name_of : List ℕ → List ℕ
+name_of w = w at_start_of replicate 14 (code ".")
+
+unfoldable pub letters_of : List ℕ → List ℕ
+letters_of x = take (place_of (code ".") x) x
+
+-- the letters of a word's name
 abbrev Spoken : List ℕ → Type 0
 Spoken w = letters_of (name_of w) ≡ w
 
@@ -116,7 +124,7 @@ drive-said Moving = refl
 drive-said (Owing asked) = refl
 drive-said (Stopped reached) = either-said reached refl refl
 
--- what the bench writes of a name that it gets is the word, for every term
+-- what is written of the name of a word is the word, for every term
 pub word-said : (t : Term) → letters_of (name_of (word_of t)) ≡ word_of t
 unfolding name_of letters_of word_of spelled place_of ◌at_start_of◌
 word-said (term.Fault f) = fault-said f

@@ -1,5 +1,4 @@
 -- The words of the bench's answers, a case for each. docs/BENCH.md: its table, and "`show`".
---   name_of w        == the word w with full stops behind it; letters_of x == what the name x has before its first
 --   fault_word f     == a line with the fault f
 --   reply_word x     == the answer x of the row of devices; outcome_word x, said_word x == its parts
 --   handed_word c x  == the command c, of `probe`, `decode`, `write`, `decode-n` and `write-n`, that was to hand out octets
@@ -10,10 +9,8 @@
 --   word_of t        == the word for t
 -- Assumes nothing.
 use Rattle.std.specs.Prelude.{Option, Some, None, Result, Ok, Err}
+use Rattle.std.specs.Prelude.{cond, List, ℕ, eqb}
 use Rattle.refusal.specs.declared.Refusal.{Refusal}
-use Rattle.std.specs.Prelude.{cond, List, ℕ, eqb, replicate, take}
-use Prim.Native.Char.{code}
-use Rattle.octets.specs.Octets.{place_of, ◌at_start_of◌}
 use Rattle.receiver.specs.declared.Received.{Received}
 use Rattle.antenna.specs.declared.Motion.{Motion}
 use Rattle.antenna.specs.declared.Motion.TheVariants.{Still, Moving, Owing, Stopped}
@@ -32,12 +29,6 @@ use Rattle.drives.specs.declared.Response.{Response}
 use Rattle.drives.specs.declared.Response.TheVariants as reply
 use Rattle.terms.specs.declared.Term.{Term}
 use Rattle.terms.specs.declared.Term.TheVariants as term
-
-unfoldable pub name_of : List ℕ → List ℕ
-name_of w = w at_start_of replicate 14 (code ".")
-
-unfoldable pub letters_of : List ℕ → List ℕ
-letters_of x = take (place_of (code ".") x) x
 
 -- "`error` and one word: `command`, `words`, `hex`, `number`, `room`, `device`, `long`"
 unfoldable pub fault_word : Fault → List ℕ

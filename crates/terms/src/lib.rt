@@ -4,7 +4,7 @@
 #![tactic(auto)]
 
 ghost use Rattle.std.specs.Prelude.{◌≡◌};
-ghost use Rattle.terms.specs.Terms.{name_of, fault_word, outcome_word, said_word, reply_word, given_word};
+ghost use Rattle.terms.specs.Terms.{fault_word, outcome_word, said_word, reply_word, given_word};
 ghost use Rattle.terms.specs.Terms.{handed_word, heard_word, end_word, link_word, pending_word, drive_word, word_of};
 ghost use Rattle.terms.specs.Terms.{behind_of};
 
@@ -15,9 +15,6 @@ use record::{Link, Pending};
 use refusal::Refusal;
 use scan::State;
 use script::Fault;
-
-// A word, up to the first full stop.
-pub type Name = [u8; 14];
 
 // What a word is for: a line's fault; an answer of the row of devices; an outcome; what a command handed out, by its place
 // among the names; what a call of the receiver told; where a scan stands; LINK, PENDING and DRIVE of `show`; a scan by hand
@@ -43,86 +40,87 @@ pub enum Term {
 
 // ---- the words
 
-const REFUSED: Name = *b"refused.......";
+const REFUSED: &str = "refused";
 
-const DONE: Name = *b"done..........";
+const DONE: &str = "done";
 
-const SILENCE: Name = *b"silence.......";
+const SILENCE: &str = "silence";
 
-const ANSWER: Name = *b"answer........";
+const ANSWER: &str = "answer";
 
-const DEVICE: Name = *b"device........";
+const DEVICE: &str = "device";
 
-const STATE: Name = *b"state.........";
+const STATE: &str = "state";
 
-const PROBE: Name = *b"probe.........";
+const PROBE: &str = "probe";
 
-const FRAME: Name = *b"frame.........";
+const FRAME: &str = "frame";
 
-const LINE: Name = *b"line..........";
+const LINE: &str = "line";
 
-const BEGUN: Name = *b"begun.........";
+const BEGUN: &str = "begun";
 
 // Of the receiver.
-const LISTENING: Name = *b"listening.....";
+const LISTENING: &str = "listening";
 
-const TOOK: Name = *b"took..........";
+const TOOK: &str = "took";
 
-const NOTHING: Name = *b"nothing.......";
+const NOTHING: &str = "nothing";
 
 // Faults.
-const ERROR_LONG: Name = *b"error long....";
+const ERROR_LONG: &str = "error long";
 
-const ERROR_COMMAND: Name = *b"error command.";
+const ERROR_COMMAND: &str = "error command";
 
-const ERROR_WORDS: Name = *b"error words...";
+const ERROR_WORDS: &str = "error words";
 
-const ERROR_HEX: Name = *b"error hex.....";
+const ERROR_HEX: &str = "error hex";
 
-const ERROR_NUMBER: Name = *b"error number..";
+const ERROR_NUMBER: &str = "error number";
 
-const ERROR_ROOM: Name = *b"error room....";
+const ERROR_ROOM: &str = "error room";
 
-const ERROR_DEVICE: Name = *b"error device..";
+const ERROR_DEVICE: &str = "error device";
 
-const ERROR_FULL: Name = *b"error full....";
+const ERROR_FULL: &str = "error full";
 
 // Where a scan stands; the fourth is the word for a frame limit, too.
-const GOING: Name = *b"going.........";
+const GOING: &str = "going";
 
-const COMPLETE: Name = *b"complete......";
+const COMPLETE: &str = "complete";
 
-const DOUBTFUL: Name = *b"doubtful......";
+const DOUBTFUL: &str = "doubtful";
 
-const LIMIT: Name = *b"limit.........";
+const LIMIT: &str = "limit";
 
-const FULL: Name = *b"full..........";
+const FULL: &str = "full";
 
 // Of `show`.
-const NONE: Name = *b"none..........";
+const NONE: &str = "none";
 
-const ASSIGNED: Name = *b"assigned......";
+const ASSIGNED: &str = "assigned";
 
-const CONNECTED: Name = *b"connected.....";
+const CONNECTED: &str = "connected";
 
-const DASH: Name = *b"-.............";
+const DASH: &str = "-";
 
-const BARE: Name = *b"..............";
+const BARE: &str = "";
 
-const INDICATION: Name = *b"i.............";
+const INDICATION: &str = "i";
 
-const STILL: Name = *b"still.........";
+const STILL: &str = "still";
 
-const MOVING: Name = *b"moving........";
+const MOVING: &str = "moving";
 
-const STOPPED_OK: Name = *b"stopped:ok....";
+const STOPPED_OK: &str = "stopped:ok";
 
-const STOPPED_JAM: Name = *b"stopped:jam...";
+const STOPPED_JAM: &str = "stopped:jam";
 
 // ---- which word
 
-fn fault_word(fault: Fault) -> Name
-    ensures { result ≡ name_of (fault_word fault) }
+#[tactic(auto, unfolding(crate::specs::Terms::fault_word, script::specs::Words::spelled))]
+fn fault_word(fault: Fault) -> &'static str
+    ensures { result.now ≡ fault_word fault }
 {
     match fault {
         Fault::Long => ERROR_LONG,
@@ -135,8 +133,9 @@ fn fault_word(fault: Fault) -> Name
     }
 }
 
-fn outcome_word(outcome: Result<(), Refusal>) -> Name
-    ensures { result ≡ name_of (outcome_word outcome) }
+#[tactic(auto, unfolding(crate::specs::Terms::outcome_word, script::specs::Words::spelled))]
+fn outcome_word(outcome: Result<(), Refusal>) -> &'static str
+    ensures { result.now ≡ outcome_word outcome }
 {
     match outcome {
         Ok(()) => DONE,
@@ -144,8 +143,9 @@ fn outcome_word(outcome: Result<(), Refusal>) -> Name
     }
 }
 
-fn said_word(said: Result<Option<usize>, Refusal>) -> Name
-    ensures { result ≡ name_of (said_word said) }
+#[tactic(auto, unfolding(crate::specs::Terms::said_word, script::specs::Words::spelled))]
+fn said_word(said: Result<Option<usize>, Refusal>) -> &'static str
+    ensures { result.now ≡ said_word said }
 {
     match said {
         Ok(None) => SILENCE,
@@ -154,8 +154,9 @@ fn said_word(said: Result<Option<usize>, Refusal>) -> Name
     }
 }
 
-fn reply_word(answer: Response) -> Name
-    ensures { result ≡ name_of (reply_word answer) }
+#[tactic(auto, unfolding(crate::specs::Terms::reply_word, script::specs::Words::spelled))]
+fn reply_word(answer: Response) -> &'static str
+    ensures { result.now ≡ reply_word answer }
 {
     match answer {
         Response::NoCommand => ERROR_COMMAND,
@@ -170,23 +171,20 @@ fn reply_word(answer: Response) -> Name
 }
 
 // `probe`, `decode` and `decode-n`, else `write` and `write-n`.
-fn given_word(command: usize) -> Name
-    ensures { result ≡ name_of (given_word command) }
+#[tactic(auto, unfolding(crate::specs::Terms::given_word, script::specs::Words::spelled))]
+fn given_word(command: usize) -> &'static str
+    ensures { result.now ≡ given_word command }
 {
-    if command == script::PROBE {
-        return PROBE;
+    match command {
+        script::PROBE => PROBE,
+        script::DECODE | script::DECODE_N => FRAME,
+        _ => LINE,
     }
-    if command == script::DECODE {
-        return FRAME;
-    }
-    if command == script::DECODE_N {
-        return FRAME;
-    }
-    LINE
 }
 
-fn handed_word(command: usize, handed: Result<usize, Refusal>) -> Name
-    ensures { result ≡ name_of (handed_word command handed) }
+#[tactic(auto, unfolding(crate::specs::Terms::handed_word, script::specs::Words::spelled))]
+fn handed_word(command: usize, handed: Result<usize, Refusal>) -> &'static str
+    ensures { result.now ≡ handed_word command handed }
 {
     match handed {
         Ok(_) => given_word(command),
@@ -195,8 +193,9 @@ fn handed_word(command: usize, handed: Result<usize, Refusal>) -> Name
 }
 
 // A closing flag hands out what the decoder says.
-fn heard_word(heard: Result<Received, Refusal>) -> Name
-    ensures { result ≡ name_of (heard_word heard) }
+#[tactic(auto, unfolding(crate::specs::Terms::heard_word, crate::specs::Terms::told_word, script::specs::Words::spelled))]
+fn heard_word(heard: Result<Received, Refusal>) -> &'static str
+    ensures { result.now ≡ heard_word heard }
 {
     match heard {
         Ok(received) => match received.handed {
@@ -207,8 +206,9 @@ fn heard_word(heard: Result<Received, Refusal>) -> Name
     }
 }
 
-fn end_word(state: State) -> Name
-    ensures { result ≡ name_of (end_word state) }
+#[tactic(auto, unfolding(crate::specs::Terms::end_word, script::specs::Words::spelled))]
+fn end_word(state: State) -> &'static str
+    ensures { result.now ≡ end_word state }
 {
     match state {
         State::Asking { quiet: _, doubt: _ } => GOING,
@@ -219,8 +219,9 @@ fn end_word(state: State) -> Name
     }
 }
 
-fn link_word(link: Link) -> Name
-    ensures { result ≡ name_of (link_word link) }
+#[tactic(auto, unfolding(crate::specs::Terms::link_word, script::specs::Words::spelled))]
+fn link_word(link: Link) -> &'static str
+    ensures { result.now ≡ link_word link }
 {
     match link {
         Link::NoAddress => NONE,
@@ -229,8 +230,9 @@ fn link_word(link: Link) -> Name
     }
 }
 
-fn pending_word(pending: Pending) -> Name
-    ensures { result ≡ name_of (pending_word pending) }
+#[tactic(auto, unfolding(crate::specs::Terms::pending_word, script::specs::Words::spelled))]
+fn pending_word(pending: Pending) -> &'static str
+    ensures { result.now ≡ pending_word pending }
 {
     match pending {
         Pending::Nothing => DASH,
@@ -239,24 +241,22 @@ fn pending_word(pending: Pending) -> Name
     }
 }
 
-fn drive_word(motion: Motion) -> Name
-    ensures { result ≡ name_of (drive_word motion) }
+#[tactic(auto, unfolding(crate::specs::Terms::drive_word, script::specs::Words::spelled))]
+fn drive_word(motion: Motion) -> &'static str
+    ensures { result.now ≡ drive_word motion }
 {
     match motion {
         Motion::Still => STILL,
         Motion::Moving => MOVING,
         Motion::Owing { asked: _ } => MOVING,
-        Motion::Stopped { reached } => {
-            if reached {
-                return STOPPED_OK;
-            }
-            STOPPED_JAM
-        }
+        Motion::Stopped { reached: true } => STOPPED_OK,
+        Motion::Stopped { reached: false } => STOPPED_JAM,
     }
 }
 
-pub fn word(term: Term) -> Name
-    ensures { result ≡ name_of (word_of term) }
+#[tactic(auto, unfolding(crate::specs::Terms::word_of, script::specs::Words::spelled))]
+pub fn word(term: Term) -> &'static str
+    ensures { result.now ≡ word_of term }
 {
     match term {
         Term::Fault(fault) => fault_word(fault),

@@ -6,7 +6,5 @@ use Rattle.bench.proofs.drive.Goals as goal
 pub returns : goal.returns
 unfolding lent_of
 returns c =
-    let obey = c in
-    let part = obey in
-    let a = part.args in
-    driven-is a.command a.row a.asked part.part-hex.ensures obey.front.ensures obey.obey-answer.ensures
+    let a = c.args in
+    driven-is a.asked.command a.row a.asked c.part-hex.ensures c.front-front.ensures c.obey-answer.ensures

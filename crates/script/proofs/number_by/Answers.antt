@@ -1,31 +1,37 @@
--- `number_by` meets its promise: no number, one below zero, or one above. Assumes nothing.
-use mathlib.Core.Path.{sym, ap, ◌∙◌}
-use native.Mathlib.Omega.{arith}
-use Rattle.script.specs.Values.{decimal_of}
-use Rattle.script.proofs.ValueLaws.{number-none, number-below, number-above}
+-- `number_by` meets its promise: a number below zero or above, or none. Assumes nothing.
+use Rattle.std.proofs.Common.{sym, ◌∙◌, arith}
+use Rattle.std.proofs.lemmas.Result.{err_from_is_err_and}
+use Rattle.script.proofs.ValueLaws.{sign-is, signed-none, signed-ranged, plain-none, plain-ranged}
 use Rattle.script.proofs.number_by.Goals as goal
 
-pub returns-then-n-gt1000000 : goal.returns-then-n-gt1000000
-returns-then-n-gt1000000 c =
-    let number = c.decimal_of-n.ensures ∙ ap decimal_of c.digits_of.ensures in
-    number-none _ _ _ _ _ number c.if-n-gt1000000.true
+pub returns-in_err-decimal_of-in-Some : goal.returns-in_err-decimal_of-in-Some
+returns-in_err-decimal_of-in-Some c =
+    let p = err_from_is_err_and c.from_residual.result c.from_residual.ensures.1 in
+    let a = c.args in
+    let cases = c.in-Some.ensures.cases in
+    rw (p.1, p.2)
+    (signed-none a.below a.above a.outside a.word.now (sym (sign-is a.word.now) ∙ cases.0) cases.1
+    c.in_err-decimal_of-in-Some.ensures)
 
-pub returns-then-is_negative : goal.returns-then-is_negative
-returns-then-is_negative c =
-    let called = c in
-    let read = called in
-    let a = read.args in
-    let number = read.decimal_of-n.ensures ∙ ap decimal_of read.digits_of.ensures in
-    let negative = sym called.is_negative.ensures ∙ c.if-is_negative.true in
+pub returns-in_ok-decimal_of-in-Some : goal.returns-in_ok-decimal_of-in-Some
+returns-in_ok-decimal_of-in-Some c =
+    let a = c.args in
+    let cases = c.in-Some.ensures.cases in
     c.ranged.ensures
-    ∙ number-below a.below a.above a.outside _ _ number negative (omega arith) called.if-n-gt1000000.false
+    ∙ signed-ranged a.below a.above a.outside a.word.now (sym (sign-is a.word.now) ∙ cases.0) cases.1
+    c.in_ok-decimal_of-in-Some.ensures (omega arith)
 
-pub returns : goal.returns
-returns c =
-    let called = c in
-    let read = called in
-    let a = read.args in
-    let number = read.decimal_of-n.ensures ∙ ap decimal_of read.digits_of.ensures in
-    let negative = sym called.is_negative.ensures ∙ c.if-is_negative.false in
-    c.ranged-2.ensures
-    ∙ number-above a.below a.above a.outside _ _ number negative (omega arith) called.if-n-gt1000000.false
+pub returns-in_err-decimal_of-in-None : goal.returns-in_err-decimal_of-in-None
+returns-in_err-decimal_of-in-None c =
+    let p = err_from_is_err_and c.from_residual-in_err-decimal_of-in-None.result c.from_residual-in_err-decimal_of-in-None.ensures.1 in
+    let a = c.args in
+    rw (p.1, p.2)
+    (plain-none a.below a.above a.outside a.word.now (sym (sign-is a.word.now) ∙ c.in-None.ensures.cases)
+    c.in_err-decimal_of-in-None.ensures)
+
+pub returns-in_ok-decimal_of-in-None : goal.returns-in_ok-decimal_of-in-None
+returns-in_ok-decimal_of-in-None c =
+    let a = c.args in
+    c.ranged-in-None.ensures
+    ∙ plain-ranged a.below a.above a.outside a.word.now (sym (sign-is a.word.now) ∙ c.in-None.ensures.cases)
+    c.in_ok-decimal_of-in-None.ensures (omega arith)

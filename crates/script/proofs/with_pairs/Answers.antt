@@ -1,55 +1,32 @@
 -- `with_pairs` meets its promise: the octets so far, with those of the digits left behind them, are all. Assumes
 -- nothing.
-use borrow.Author.Rules.{rules}
-use mathlib.Core.Path.{refl, sym, ◌∙◌}
-use Rattle.script.proofs.ValueLaws.{octet-below}
-use Rattle.script.proofs.LineLaws.{stored-length, pairs-odd, pairs-bad, pairs-more, pairs-done}
+use Rattle.std.proofs.Common.{length, sym, ap, ◌∙◌, arith, length-append}
+use Rattle.std.specs.Slice.Iter.{chunks_rest}
+use Rattle.std.proofs.lemmas.Result.{err_from_is_err_and}
+use Rattle.script.proofs.ValueLaws.{octet-two}
+use Rattle.script.proofs.LineLaws.{stored-length, pairs-bad, pairs-more, pairs-done}
 use Rattle.script.proofs.with_pairs.Goals as goal
 
-pub loop-i-init : goal.loop-i-init
-loop-i-init c = (search rules, search rules, search rules, refl)
+pub returns-in_err-octet : goal.returns-in_err-octet
+returns-in_err-octet c =
+    let p = err_from_is_err_and c.from_residual.result c.from_residual.ensures.1 in
+    let turn = c.in-Some.ensures.steps.1 in
+    let size = rw c.loop-pair.invariant.two at turn.1 in
+    rw (p.1, p.2)
+    (pairs-bad c.args.asked _ _ _ _ c.loop-pair.invariant.same _ _ turn.0 size turn.2 (sym c.in_err-octet.ensures))
 
-pub returns-then-digits-i-lt2 : goal.returns-then-digits-i-lt2
-returns-then-digits-i-lt2 c =
-    let test = c in
-    let a = test.args in
-    c.wordless.ensures
-    ∙ pairs-odd a.asked _ _ _ _ _ test.loop-i.invariant.3 test.loop-i-test.true c.if-digits-i-lt2.true
-
-pub returns-in-Bad : goal.returns-in-Bad
-returns-in-Bad c =
-    let called = c in
-    let test = called in
-    let a = test.args in
-    let bad = sym called.octet_by-value.ensures ∙ c.in-Bad.is in
-    c.wordless-in-Bad.ensures
-    ∙ pairs-bad a.asked _ _ _ a.digits.now _ test.loop-i.invariant.3 (search rules) bad
-
-pub slice_bounds-put-end : goal.slice_bounds-put-end
-slice_bounds-put-end c =
-    let test = c in
-    sym test.loop-i.invariant.2
-
-pub overflow_cast-octet : goal.overflow_cast-octet
-overflow_cast-octet c =
-    let called = c in
-    record { fits = octet-below _ _ _ (sym called.octet_by-value.ensures ∙ c.in-Means.is) }
-
-pub loop-i-preserved : goal.loop-i-preserved
-loop-i-preserved c =
-    let called = c in
-    let test = called in
-    let a = test.args in
-    let at = test.loop-i in
-    let means = sym called.octet_by-value.ensures ∙ c.in-Means.is in (
-      search rules,
-      search rules,
-      stored-length at.octets at.at c.in-Means.octet c.put.ensures ∙ at.invariant.2,
-      pairs-more a.asked _ _ _ a.digits.now at.i at.invariant.3 (search rules) means c.put.ensures,
-    )
+pub loop-pair-preserved : goal.loop-pair-preserved
+loop-pair-preserved c =
+    let turn = c.in-Some.ensures.steps.1 in
+    let size = rw c.loop-pair.invariant.two at turn.1 in
+    let value = sym c.in_ok-octet.ensures in
+    let pair = octet-two _ _ value in record {
+      two = c.in-Some.ensures.steps.0 ∙ c.loop-pair.invariant.two;
+      room = omega (arith, c.loop-pair.invariant.room, ap length turn.0 ∙ length-append c.in-Some.pair.now (chunks_rest c.next.new.self), pair);
+      row = stored-length _ _ _ c.put.ensures ∙ c.loop-pair.invariant.row;
+      same = pairs-more c.args.asked _ _ _ _ c.loop-pair.invariant.same _ _ turn.0 size turn.2 value c.put.ensures;
+    }
 
 pub returns : goal.returns
 returns c =
-    let at = c in
-    let a = at.args in
-    c.with_octets.ensures ∙ pairs-done a.asked _ _ _ _ _ at.loop-i.invariant.3 c.loop-i-test.false
+    c.with_octets.ensures ∙ pairs-done c.args.asked _ _ _ _ c.loop-pair.invariant.same c.in-None.ensures.steps.1.0

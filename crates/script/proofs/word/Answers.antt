@@ -1,14 +1,13 @@
--- `word` meets its promise: the word behind those left, of what is left of the line. The measure is how many are
--- left. Assumes nothing.
-use mathlib.Core.Path.{refl, ◌∙◌}
-use Rattle.script.proofs.WordLaws.{word_more, word-done}
+-- `word` meets its promise: the words of a line are the parts that its spaces leave. Assumes nothing.
+use Rattle.std.proofs.Common.{refl, ap, ◌∙◌, rules, tests}
+use Rattle.std.proofs.lemmas.Iterator.Consumers.{nth_from_yields_List}
+use Rattle.std.proofs.lemmas.Iterator.Splits.{YieldsList-from_slice_split}
+use Rattle.script.proofs.WordLaws.{is_space, word-nth}
 use Rattle.script.proofs.word.Goals as goal
 
-pub loop-left-init : goal.loop-left-init
-loop-left-init c = refl
-
-pub loop-left-preserved : goal.loop-left-preserved
-loop-left-preserved c = word_more _ _ c.loop-left.invariant c.loop-left-test.true c.behind-next.ensures
-
 pub returns : goal.returns
-returns c = c.first.ensures ∙ word-done _ _ c.loop-left.invariant c.loop-left-test.false
+returns c =
+    let nth = nth_from_yields_List _ _ c.args.others c.nth.ensures.ran
+    (YieldsList-from_slice_split _ is_space c.args.line.now c.split.ensures.rest c.split.ensures.done
+    c.split.ensures.closure (λ x r q k. search (rules, tests))) in
+    ap (λ x. x.now) c.unwrap_or.ensures ∙ word-nth _ _ _ c.args.line.now refl nth

@@ -6,8 +6,5 @@ use Rattle.bench.proofs.ear.call.Goals as goal
 pub returns : goal.returns
 unfolding lent_of
 returns c =
-    let receive = c in
-    let front = receive in
-    let part = front in
-    let a = part.args in
-    ear-held (ear_of a.ear) a.asked part.part-run.ensures front.front.ensures receive.receive-heard.ensures
+    let a = c.args in
+    ear-held (ear_of a.ear) a.asked c.part-run.ensures c.front.ensures c.receive-heard.ensures

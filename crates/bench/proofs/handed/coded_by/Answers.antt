@@ -7,7 +7,7 @@ returns-then-is_decode c =
     let decode = c in
     let limit = decode in
     let a = limit.args in
-    hands-decode a.command a.asked _ limit.by_limit-limit.ensures decode.part-hex.ensures
+    hands-decode a.asked.command a.asked _ limit.by_limit-limit.ensures decode.part-hex.ensures
     decode.is_decode.ensures c.if-is_decode.true c.decode.ensures
 
 pub returns : goal.returns
@@ -17,7 +17,7 @@ returns c =
     let decode = address in
     let limit = decode in
     let a = limit.args in
-    hands-write a.command a.asked _ limit.by_limit-limit.ensures decode.part-hex.ensures
+    hands-write a.asked.command a.asked _ limit.by_limit-limit.ensures decode.part-hex.ensures
     decode.is_decode.ensures address.if-is_decode.false address.by_limit.ensures
     address.octet-address.ensures control.by_limit-2.ensures control.octet-control.ensures
     c.write.ensures

@@ -2,14 +2,12 @@
 use Rattle.bench.proofs.Laws.{hands-probe, hands-coded}
 use Rattle.bench.proofs.handed.handed_by.Goals as goal
 
-pub returns-then-command-eq-PROBE : goal.returns-then-command-eq-PROBE
-returns-then-command-eq-PROBE c =
+pub returns-then-asked-eq-PROBE : goal.returns-then-asked-eq-PROBE
+returns-then-asked-eq-PROBE c =
     let a = c.args in
-    hands-probe a.command a.scan a.asked _ c.if-command-eq-PROBE.true
-    c.probe.ensures
+    hands-probe a.asked.command a.scan a.asked _ c.if-asked-eq-PROBE.true c.probe.ensures
 
 pub returns : goal.returns
 returns c =
     let a = c.args in
-    hands-coded a.command a.scan a.asked _ c.if-command-eq-PROBE.false
-    c.coded_by.ensures
+    hands-coded a.asked.command a.scan a.asked _ c.if-asked-eq-PROBE.false c.coded_by.ensures

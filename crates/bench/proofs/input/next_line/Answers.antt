@@ -5,24 +5,24 @@ use Rattle.bench.specs.Input.{anew, after_runs}
 use Rattle.bench.proofs.Laws.{run_more, comes-ended, comes-whole}
 use Rattle.bench.proofs.input.next_line.Goals as goal
 
-pub loop-turns-init : goal.loop-turns-init
+pub loop-init : goal.loop-init
 unfolding after_runs
-loop-turns-init c = ([], refl)
+loop-init c = ([], refl)
 
 pub returns-then-next : goal.returns-then-next
 unfolding anew
 returns-then-next c =
-    let loop = c.loop-turns in
+    let loop = c.loop in
     comes-whole c.args.input loop.invariant c.take-next.ensures c.if-next.true
 
-pub loop-turns-preserved : goal.loop-turns-preserved
-loop-turns-preserved c = run_more _ c.loop-turns.invariant c.take-next.ensures c.in_ok-next.ensures
+pub loop-preserved : goal.loop-preserved
+loop-preserved c = run_more _ c.loop.invariant c.take-next.ensures c.in_ok-next.ensures
 
 pub returns-then-next-eq0 : goal.returns-then-next-eq0
 unfolding anew
 returns-then-next-eq0 c =
-    comes-ended c.args.input (run_more _ c.loop-turns.invariant c.take-next.ensures c.in_ok-next.ensures)
+    comes-ended c.args.input (run_more _ c.loop.invariant c.take-next.ensures c.in_ok-next.ensures)
 
 pub returns : goal.returns
 unfolding anew
-returns c = comes-ended c.args.input c.loop-turns.invariant
+returns c = comes-ended c.args.input c.loop.invariant

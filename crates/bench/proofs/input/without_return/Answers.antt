@@ -1,27 +1,14 @@
--- `without_return` meets its promise: each way out, by the tests that lead to it. Assumes nothing.
-use mathlib.Core.Bool.{not}
-use mathlib.Core.Path.{ap, ◌∙◌}
-use native.Mathlib.Omega.{arith}
-use Rattle.bench.proofs.Laws.{return-half, return-none, return-there, return-other}
+-- `without_return` meets its promise: a 0x0D at the end, of a line that had a 0x0A, goes. Assumes nothing.
+use Rattle.std.proofs.Common.{refl, ap, ◌∙◌, rules}
+use Rattle.bench.proofs.Laws.{return-dropped}
+use Rattle.bench.specs.Input.{without_return}
 use Rattle.bench.proofs.input.without_return.Goals as goal
 
-pub returns-then-not-whole : goal.returns-then-not-whole
-returns-then-not-whole c =
-    let a = c.args in
-    return-half a.line.now a.whole (ap not c.if-not-whole.true)
-
-pub returns-then-n-eq0 : goal.returns-then-n-eq0
-returns-then-n-eq0 c =
-    let a = c.args in
-    return-none a.line.now a.whole c.if-n-eq0.true
-
-pub returns-then-line-n-eq13 : goal.returns-then-line-n-eq13
-returns-then-line-n-eq13 c =
-    let a = c.args in
-    c.part.ensures
-    ∙ return-there a.line.now a.whole (ap not c.if-not-whole.false) (omega arith) c.if-line-n-eq13.true
+pub returns-then-whole : goal.returns-then-whole
+returns-then-whole c =
+    ap (λ x. x.now) c.unwrap_or.ensures
+    ∙ return-dropped c.args.line.now _ _ c.args.whole _ c.if-whole.true refl c.strip_suffix.ensures.cases
 
 pub returns : goal.returns
-returns c =
-    let a = c.args in
-    return-other a.line.now a.whole (omega arith) c.if-line-n-eq13.false
+unfolding without_return
+returns c = search (rules, c.if-whole.false)
