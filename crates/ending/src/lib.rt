@@ -7,50 +7,39 @@ ghost use Rattle.std.specs.Prelude.{◌≡◌};
 ghost use Rattle.antenna.specs.Motions.{unowed_of};
 ghost use Rattle.record.specs.Changes.{unsaid_at, emptied_as};
 
-use antenna::{Antenna, Motion};
+use antenna::Motion;
 use record::{Device, Link, Station};
 
 // A result owed is dropped; a running movement stays.
+#[tactic(auto, unfolding(antenna::specs::Motions::unowed_of))]
 fn unowed(motion: Motion) -> Motion
     ensures { result ≡ unowed_of motion }
 {
     match motion {
-        Motion::Still => Motion::Still,
-        Motion::Moving => Motion::Moving,
-        Motion::Owing { asked: _ } => Motion::Moving,
-        Motion::Stopped { reached: _ } => Motion::Still,
+        Motion::Still | Motion::Stopped { .. } => Motion::Still,
+        Motion::Moving | Motion::Owing { .. } => Motion::Moving,
     }
 }
 
 // The station at an address, with a frame limit and in a link state, with nothing pending.
-fn unsaid(station: Station, address: u8, limit: usize, link: Link) -> Station
+#[tactic(auto, unfolding(record::specs::Changes::unsaid_at))]
+fn unsaid(mut station: Station, address: u8, limit: usize, link: Link) -> Station
     ensures { result ≡ unsaid_at station address limit link }
 {
-    let mut desk = station.desk;
-    let said = antenna::CALM;
-    let reply = record::NO_REPLY;
-    desk.address = address;
-    desk.limit = limit;
-    desk.said = said;
-    desk.reply = reply;
-    Station { link, desk }
+    station.link = link;
+    station.desk.address = address;
+    station.desk.limit = limit;
+    station.desk.said = antenna::CALM;
+    station.desk.reply = record::NO_REPLY;
+    station
 }
 
 // The device at an address, with a frame limit and in a link state: what was pending or owed is dropped.
-pub fn emptied(device: Device, address: u8, limit: usize, link: Link) -> Device
+#[tactic(auto, unfolding(record::specs::Changes::emptied_as, antenna::specs::Motions::moves))]
+pub fn emptied(mut device: Device, address: u8, limit: usize, link: Link) -> Device
     ensures { result ≡ emptied_as device address limit link }
 {
-    let plate = device.plate;
-    let station = device.station;
-    let antenna = device.antenna;
-    let motion = antenna.motion;
-    let drive = antenna.drive;
-    Device {
-        plate,
-        station: unsaid(station, address, limit, link),
-        antenna: Antenna {
-            motion: unowed(motion),
-            drive,
-        },
-    }
+    device.station = unsaid(device.station, address, limit, link);
+    device.antenna.motion = unowed(device.antenna.motion);
+    device
 }

@@ -29,11 +29,11 @@ pub struct Turn {
 }
 
 // The pending answer again, else RR.
+#[tactic(auto, unfolding(crate::specs::Station::resent))]
 pub fn resend(s: Session) -> Say
     ensures { result ≡ resent s }
 {
-    let pending = s.pending;
-    if session::is_pending(pending) {
+    if session::is_pending(s.pending) {
         return Say::Pend {
             control: control::info(s.s, s.r),
         };
@@ -43,34 +43,24 @@ pub fn resend(s: Session) -> Say
     }
 }
 
-fn answered(station: Station, s: Session, payload: Payload) -> Station
+#[tactic(auto, unfolding(crate::specs::Station::answers_with, crate::specs::Station::awaiting))]
+fn answered(mut station: Station, mut s: Session, payload: Payload) -> Station
     ensures { result ≡ answers_with station s payload }
 {
-    let mut desk = station.desk;
-    desk.reply = payload;
-    Station {
-        link: Link::Connected(Session {
-            r: s.r,
-            s: s.s,
-            pending: Pending::Answer,
-        }),
-        desk,
-    }
+    s.pending = Pending::Answer;
+    station.link = Link::Connected(s);
+    station.desk.reply = payload;
+    station
 }
 
 // A payload becomes the pending answer, and is said.
-pub fn answer(device: Device, s: Session, payload: Payload) -> Turn
+#[tactic(auto, unfolding(crate::specs::Turns::answering, crate::specs::Turns::saying, record::specs::Changes::device_of))]
+pub fn answer(mut device: Device, s: Session, payload: Payload) -> Turn
     ensures { result ≡ answering device s payload }
 {
-    let plate = device.plate;
-    let station = device.station;
-    let antenna = device.antenna;
+    device.station = answered(device.station, s, payload);
     Turn {
-        device: Device {
-            plate,
-            station: answered(station, s, payload),
-            antenna,
-        },
+        device,
         say: Say::Pend {
             control: control::info(s.s, s.r),
         },

@@ -4,13 +4,12 @@ use mathlib.Core.List.{[], ◌∷◌}
 use lib.IntN.{pos, negsuc}
 use mir.Val.{SFits, of_z}
 use mir.Syntax.{w16}
-use mir.Facts.{to_z-of_z}
+use mir.Facts.{to_z-of_z, Fits-of_z}
 use Rattle.octets.specs.Octets.{low_of, high_of}
 use Rattle.octets.proofs.Bounds.{pair_parts}
 use Rattle.antenna.specs.declared.Angle.{Angle}
 use Rattle.payload.specs.Payloads.{message_of, success_of}
 use Rattle.tilt.specs.Tilts.{tilt_octets, angle_of}
-use Rattle.tilt.proofs.Signs.{fits}
 
 -- "Tilt -15: get tilt gives 34 03 00 00 F1 FF"
 pub tilt-minus-15 : success_of 0x34 (tilt_octets (record { tenths = negsuc 14 }))
@@ -32,5 +31,5 @@ pub angle-tilt : (t : Angle) → SFits w16 t.tenths
     → angle_of (low_of (of_z w16 t.tenths)) (high_of (of_z w16 t.tenths)) ≡ t
 unfolding angle_of
 angle-tilt t f =
-    let e = pair_parts (of_z w16 t.tenths) (fits t.tenths f) in
+    let e = pair_parts (of_z w16 t.tenths) (Fits-of_z f).fits in
     rw (e, to_z-of_z f)

@@ -1,4 +1,3 @@
 -- The laws of tilts as octets that the layers above cite.
 pub mod Laws
 pub mod Only
-pub mod Signs

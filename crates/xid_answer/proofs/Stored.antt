@@ -6,13 +6,15 @@ use mathlib.Core.Bool.{Bool, true, false, cond}
 use Prim.Native.Nat.{ℕ, ◌+◌, ◌-◌, ◌*◌, ◌/◌, ◌%◌, ◌≤◌}
 use native.Mathlib.Nat.{add-zero, zero-add}
 use native.Mathlib.Omega.{arith}
-use lib.ListN.{length, set, replicate, length-append}
+use lib.ListN.{length, replicate, length-append}
 use lib.Seq.{sets}
-use Rattle.octets.proofs.Runs.{Run, run-all, run-two, run-some, run-put, run-done}
+use mir.Syntax.{w16}
+use Rattle.std.specs.Int.{to_be_bytes}
+use Rattle.octets.proofs.Runs.{Run, run-all, run-some, run-put, run-done}
 use Rattle.octets.proofs.Stores.{sets-start}
 use Rattle.identity.specs.Identity.{width}
 use Rattle.record.specs.Allowed.{reply_most}
-use Rattle.params.specs.Field.{Param, ◌is◌, format, triple_of, field_of, xid_payload}
+use Rattle.params.specs.Field.{Param, ◌is◌, triple_of, field_of, xid_payload}
 use Rattle.control.specs.declared.AskedFor.{AskedFor}
 use Rattle.negotiation.specs.Negotiation.{sent_id, received_id, sending_id, receiving_id, negotiating_octet}
 use Rattle.xid.specs.Addressing.{identity_id, address_id, kind_id, group_octet}
@@ -23,18 +25,14 @@ use Rattle.octets.specs.Puts.{Puts}
 use Rattle.payload.specs.Payloads.{payload_of as held}
 
 -- identifier, length, value
-pub param-stored : (at n : ℕ) (v o : List ℕ) {o₁ o₂ o₃ : List ℕ} → o₁ ≡ set o at n → o₂ ≡ set o₁ (at + 1) (length v)
-    → o₃ ≡ sets o₂ (at + 2) v → Puts o at (triple_of (n is v)) (at + 2 + length v) o₃
+pub param-stored : (at n : ℕ) (v o : List ℕ) {o₁ o₂ : List ℕ} → o₁ ≡ sets o at (n ∷ length v ∷ [])
+    → o₂ ≡ sets o₁ (at + 2) v → Puts o at (triple_of (n is v)) (at + 2 + length v) o₂
 unfolding triple_of
-param-stored at n v o {o₃ = o₃} s₁ s₂ s₃ =
+param-stored at n v o {o₂ = o₂} s₁ s₂ =
     let all : Run o at (n ∷ length v ∷ v) o at (n ∷ length v ∷ v) = run-all in
-    let done : Run o₃ (at + 2 + length v) [] o at (n ∷ length v ∷ v) =
-    run-some v s₃ refl (sym (append-nil v)) (run-two n (length v) s₁ s₂ refl all) in
+    let done : Run o₂ (at + 2 + length v) [] o at (n ∷ length v ∷ v) =
+    run-some v s₂ refl (sym (append-nil v)) (run-some (n ∷ length v ∷ []) s₁ refl refl all) in
     run-done refl done
-
-pub opening-stored : (g k : ℕ) (o : List ℕ) {o₁ o₂ o₃ : List ℕ} → o₁ ≡ set o 0 format → o₂ ≡ set o₁ 1 g
-    → o₃ ≡ set o₂ 2 k → o₃ ≡ sets o 0 (opening g k)
-opening-stored g k o {o₃ = o₃} s₁ s₂ s₃ = rw (s₃, s₂, s₁)
 
 -- how many octets a triple has, and the triples of the answers to a scan and an assignment
 pub length-triple : (n : ℕ) (v : List ℕ) → length (triple_of (n is v)) ≡ length v + 2
@@ -101,11 +99,13 @@ length-asking : (asked : Bool) (n : ℕ) (v : List ℕ) → length (asking asked
 length-asking true n v = length-triple n v
 length-asking false n v = refl
 
--- the octets of (N - 4) · 8
-pub length-octets : (N : ℕ) {high low : ℕ} → high ≡ (N - 4) * 8 / 256 % 256 → low ≡ (N - 4) * 8 % 256
-    → high ∷ low ∷ [] ≡ length_value N
+-- the octets of (N - 4) · 8, of which those above the sixteenth bit do not count
+pub length_octets : (N : ℕ) → to_be_bytes w16 ((N - 4) % 8192 * 8) ≡ length_value N
 unfolding length_value
-length-octets N h l = rw (h, l)
+length_octets N =
+    let h : (N - 4) % 8192 * 8 / 256 % 256 ≡ (N - 4) * 8 / 256 % 256 = omega arith in
+    let l : (N - 4) % 8192 * 8 % 256 ≡ (N - 4) * 8 % 256 = omega arith in
+    rw (h, l)
 
 field-asked : (asked : Bool) (n : ℕ) (v : List ℕ) (ps : List Param)
     → field_of (if_asked asked (n is v) ps) ≡ asking asked n v ++ field_of ps

@@ -25,8 +25,7 @@ fn put_param(out: &mut [u8], at: usize, id: u8, value: &[u8]) -> usize
     requires { (at ≤ reply_most) × (length value.now ≤ width) }
     ensures { Puts out.old at (triple_of (id is value.now)) result out.new }
 {
-    octets::put(out, at, id);
-    octets::put(out, at + 1, value.len() as u8);
+    octets::put_all(out, at, &[id, value.len() as u8]);
     octets::put_all(out, at + 2, value);
     at + 2 + value.len()
 }
@@ -35,41 +34,36 @@ fn put_param(out: &mut [u8], at: usize, id: u8, value: &[u8]) -> usize
 fn put_opening(out: &mut [u8], group: u8, len: u8)
     ensures { out.new ≡ sets out.old 0 (opening group len) }
 {
-    octets::put(out, 0, FORMAT);
-    octets::put(out, 1, group);
-    octets::put(out, 2, len);
+    octets::put_all(out, 0, &[FORMAT, group, len]);
 }
 
 fn put_scan_answer(out: &mut [u8], identity: &[u8], address: u8) -> usize
     requires { length identity.now ≤ width }
     ensures { Puts out.old 0 (scan_answer identity.now address) result out.new }
 {
-    let own = [address];
-    let kind = [KIND];
     put_opening(out, GROUP_OCTET, identity.len() as u8 + 8);
     let a = put_param(out, 3, IDENTITY_ID, identity);
-    let b = put_param(out, a, ADDRESS_ID, &own);
-    put_param(out, b, KIND_ID, &kind)
+    let b = put_param(out, a, ADDRESS_ID, &[address]);
+    put_param(out, b, KIND_ID, &[KIND])
 }
 
 fn put_assignment_answer(out: &mut [u8], identity: &[u8]) -> usize
     requires { length identity.now ≤ width }
     ensures { Puts out.old 0 (assignment_answer identity.now) result out.new }
 {
-    let kind = [KIND];
     put_opening(out, GROUP_OCTET, identity.len() as u8 + 5);
     let a = put_param(out, 3, IDENTITY_ID, identity);
-    put_param(out, a, KIND_ID, &kind)
+    put_param(out, a, KIND_ID, &[KIND])
 }
 
 // The I-field length of a frame limit, in bits: two octets, highest first.
+#[tactic(auto, using(crate::proofs::Stored::length_octets))]
 fn length_value(limit: usize) -> [u8; 2]
     ensures { result ≡ length_value limit }
 {
-    let most = limit - octets::fewer(limit, AROUND);
-    let high = (most / 32 % 256) as u8;
-    let low = (most % 32 * 8) as u8;
-    [high, low]
+    // Of 8192 octets the bits are 65536, which two octets have no room for.
+    let most = limit.saturating_sub(AROUND);
+    ((most % 8192 * 8) as u16).to_be_bytes()
 }
 
 // How many octets a triple of `count` octets takes: none where it was not asked.
