@@ -14,7 +14,7 @@ use control::Order;
 use limits::LIMIT_LEAST;
 use negotiation::Agreed;
 use params::Malformed;
-use record::{Device, Link, Station};
+use record::{Device, Link};
 use station::{Say, Turn};
 use xid::Xid;
 
