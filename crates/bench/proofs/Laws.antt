@@ -140,7 +140,7 @@ module _ (a : Asked) (room : ℕ) where
 
 -- "`probe ROOM`", .. "`write-n N ADDRESS CONTROL HEX ROOM`": ROOM is the last word of each
 pub room-last : map room_at (command.probe ∷ command.decode ∷ command.write ∷ command.decode_n ∷ command.write_n ∷ [])
-    ≡ map (λ (c : ℕ). length (word_at c (spelled command.kinds)))
+    ≡ map (λ (c : ℕ). Some (length (word_at c (spelled command.kinds))))
     (command.probe ∷ command.decode ∷ command.write ∷ command.decode_n ∷ command.write_n ∷ [])
 unfolding room_at word_at first_of behind_first place_of spelled
 room-last = refl

@@ -11,9 +11,9 @@
 --   is_decode c        == the command c decodes; is_limited c == its words have a frame limit in front
 --   limit_in c a       == its frame limit; octet_in c a n == the octet of the word n, not counting that limit
 --   coded c a room     == what the codec hands out; hands_out c s a room == what it and `probe` do
---   room_at c          == the place of ROOM among the words of a command that hands out octets; 0 for any other
+--   room_at c          == the place of ROOM among the words of a command that hands out octets
 -- Assumes nothing.
-use Rattle.std.specs.Prelude.{Bool, cond, ◌||◌, List, ℕ, ◌+◌, ◌%◌, eqb, length, get_or, take, replicate}
+use Rattle.std.specs.Prelude.{Bool, Option, Some, None, cond, ◌||◌, List, ℕ, ◌+◌, ◌%◌, eqb, length, get_or, take, replicate}
 use Rattle.refusal.specs.Answer.{Answer, state_after}
 use Rattle.limits.specs.Limits.{limit_least}
 use Rattle.frame.specs.Decode.{decoded}
@@ -104,8 +104,9 @@ unfoldable pub hands_out : ℕ → Scan → Asked → ℕ → Answer (List ℕ)
 hands_out c s a room = cond (eqb c command.probe) (probed s room) (coded c a room)
 
 -- "`probe ROOM`", "`decode HEX ROOM`", "`write ADDRESS CONTROL HEX ROOM`", and one place on behind a limit
-unfoldable pub room_at : ℕ → ℕ
+unfoldable pub room_at : ℕ → Option ℕ
 room_at c =
-    cond (eqb c command.probe) 1
-    (cond (eqb c command.decode) 2
-    (cond (eqb c command.write) 4 (cond (eqb c command.decode_n) 3 (cond (eqb c command.write_n) 5 0))))
+    cond (eqb c command.probe) (Some 1)
+    (cond (eqb c command.decode) (Some 2)
+    (cond (eqb c command.write) (Some 4)
+    (cond (eqb c command.decode_n) (Some 3) (cond (eqb c command.write_n) (Some 5) None))))

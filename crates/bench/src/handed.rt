@@ -74,27 +74,25 @@ fn hand_out(out: Stdout, scan: Scan, asked: Asked, room: usize) -> io::Result<()
     answers::say_buffer(out, lent, room)
 }
 
-// The place of ROOM, the last word; 0 where a command hands out nothing.
+// The place of ROOM, the last word, of a command that hands out octets.
 #[tactic(auto, unfolding(crate::specs::Bench::room_at))]
-fn room_at(command: usize) -> usize
+fn room_at(command: usize) -> Option<usize>
     ensures { result ≡ room_at command }
 {
     match command {
-        script::PROBE => 1,
-        script::DECODE => 2,
-        script::WRITE => 4,
-        script::DECODE_N => 3,
-        script::WRITE_N => 5,
-        _ => 0,
+        script::PROBE => Some(1),
+        script::DECODE => Some(2),
+        script::WRITE => Some(4),
+        script::DECODE_N => Some(3),
+        script::WRITE_N => Some(5),
+        _ => None,
     }
 }
 
 // Any other command hands out nothing.
 pub fn obey(out: Stdout, scan: Scan, asked: Asked) -> io::Result<()> {
-    let values = asked.values;
-    let at = room_at(asked.command);
-    if at == 0 {
-        return Ok(());
+    match room_at(asked.command) {
+        Some(at) => hand_out(out, scan, asked, asked.values[at % 8]),
+        None => Ok(()),
     }
-    hand_out(out, scan, asked, values[at % 8])
 }

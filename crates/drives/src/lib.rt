@@ -134,6 +134,7 @@ fn listen(
     device::hear(device, octets, lent)
 }
 
+// A place of the row, here and in the two below: a type for it would be made and taken apart in one line.
 fn deliver(row: &mut Row, place: usize, command: usize, octets: &[u8], lent: &mut [u8]) -> Response
     requires { place < row_most }
     ensures { Obeys (tells row.old place (listens command (device_at row.old place) octets.now
