@@ -4,6 +4,7 @@
 --   heard ids p  == one of the identities answers the probe of the beginning p
 --   Row          == what is tried, and what comes of it; Holds r == it does
 -- Assumes nothing.
+use Rattle.octets.specs.Text.{laid}
 use mathlib.Core.Path.{◌≡◌, refl}
 use mathlib.Core.Bool.{Bool, false, ◌||◌}
 use mathlib.Core.List.{List, [], ◌∷◌}
@@ -31,7 +32,7 @@ use Rattle.record.specs.declared.Device.{Device}
 use Rattle.record.specs.declared.Event.TheVariants.{Stopped, Raised}
 use Rattle.record.specs.Allowed.{identity_allowed, plates_allowed, numbers_allowed, pending_fits, session_allowed, addressed}
 use Rattle.record.specs.Allowed.{link_allowed, station_allowed, owed_allowed, allowed_device}
-use Rattle.record.specs.Fresh.{identity_from, product_from, version_from, plate_from, fresh_from, texts_allowed, data_allowed}
+use Rattle.record.specs.Fresh.{plate_from, fresh_from, texts_allowed, data_allowed}
 use Rattle.record.specs.Fresh.{fresh_of, blank_device}
 use Rattle.record.specs.Changes.{unsaid_at, emptied_as, limited_to, can_be, after_event, event_rows, happened}
 use Rattle.session.specs.Session.{acknowledges, good_number, accepts, taken, vs_of, counts_of}
@@ -45,7 +46,7 @@ use Rattle.xid.specs.Addressing.{values_of}
 use Rattle.xid.specs.Match.{is_scan, scan_shape, assignment_shape, scan_matches, identity_matches, kind_matches}
 use Rattle.xid.specs.Match.{vendor_matches, no_params, malformed, values_in, neither, bad_address, other_identity, other_type}
 use Rattle.xid.specs.Match.{other_vendor, other_scan, value_rows, payload_rows, meaning_of, or_silence, payload_answer, read_of}
-use Rattle.payload.specs.Payloads.{message_of, success_of, failure_of, result_of, payload_of}
+use Rattle.payload.specs.Payloads.{message_of, success_of, failure_of, result_of}
 use Rattle.tilt.specs.Tilts.{tilt_octets, angle_of}
 use Rattle.message.specs.Messages.{drive_checks, checks, in_table, taken_by}
 use Rattle.message.specs.Carried.{carried_of, outcome, done_by, replies, unanswered}
@@ -273,7 +274,7 @@ unfolding All Holds heard scan.driven scan.fresh scan.ended scan.over scan.repor
     linked_by assigned_by connected_by rr_by info_by rejected released begun renewed poll_of waiting_poll informed_by inform_of
     carried_by replied_by polled_by saying device_of acknowledged session_after station_after resent awaiting answers_with heeded acknowledges good_number
     accepts taken vs_of counts_of polled next_of info_of rr_of numbered_by asked_by unsaid_at emptied_as limited_to can_be after_event event_rows
-    happened fresh_of fresh_from plate_from identity_from product_from version_from texts_allowed data_allowed state_after
+    happened fresh_of fresh_from plate_from laid texts_allowed data_allowed state_after
     answered allowed_device owed_allowed station_allowed link_allowed addressed session_allowed pending_fits numbers_allowed
     plates_allowed identity_allowed allowed_identity all_printable printable last_of holds ◌at_start_of◌ in_range
     waiting_of moves started rested_of rested_at can_stop at_most same_as read_of payload_answer payload_rows
@@ -281,7 +282,7 @@ unfolding All Holds heard scan.driven scan.fresh scan.ended scan.over scan.repor
     other_scan params_of
     opened triples_after before checked all_right right_length identifiers none_twice values_of value_for given
     octets_in is_scan scan_shape assignment_shape scan_matches answers_scan padded masked same identity_matches kind_matches
-    vendor_matches message_of success_of failure_of result_of payload_of tilt_octets angle_of
+    vendor_matches message_of success_of failure_of result_of tilt_octets angle_of
     drive_checks checks in_table taken_by carried_of outcome done_by replies unanswered pending_octets link_octets
     control_by payload_by frame_by reacts size_of told_of frame_at buffer_after emptied told_after relieved indicates to_tell
     idle_poll paused_by rnr_by indication_of changes_among any_differ with_alarm is_alarm place_of scan_answer assignment_answer

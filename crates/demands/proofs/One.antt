@@ -20,7 +20,7 @@ use Rattle.std.specs.Prelude.{Result}
 use Rattle.octets.specs.Octets.{OneOf, ◌at_start_of◌}
 use Rattle.octets.proofs.Words.{true-not-false}
 use Rattle.refusal.specs.Answer.{Answer, gives, refuses, handed_out, answer_of, counted, out_after, Hands}
-use Rattle.refusal.specs.Answer.{settled, state_after, Changes}
+use Rattle.refusal.specs.Answer.{settled, state_after, made_of, Changes}
 use Rattle.refusal.specs.Numbers.{number_of}
 use Rattle.refusal.specs.declared.Refusal.{Refusal}
 use Rattle.refusal.proofs.Answers.{gives-not-refuses, gives_same, refusal-told, change-told, unchange-told}
@@ -83,7 +83,7 @@ use Rattle.record.specs.declared.Device.{Device}
 use Rattle.record.specs.declared.Event.{Event}
 use Rattle.record.specs.declared.Span.{Span}
 use Rattle.record.specs.Allowed.{limit_of, allowed_device, AllowedRecord}
-use Rattle.record.specs.Fresh.{fresh_of, data_allowed, AllowedData, antenna_from, blank_device}
+use Rattle.record.specs.Fresh.{fresh_of, data_allowed, AllowedData, antenna_from}
 use Rattle.record.specs.Changes.{can_be, CanHappen, happened}
 use Rattle.record.proofs.Only.{fresh-6, happen-6, happen-8}
 use Rattle.record.proofs.Exactly.{allowed-exactly, data-exactly, can-exactly}
@@ -120,6 +120,16 @@ pub data Changes-to {S : Type 0} (x : Answer S) (s : S) (r : Result (Unit {0}) R
 changes-to : {S : Type 0} {s s' : S} (x : Answer S) (r : Result (Unit {0}) Refusal) → Changes x s r s' → Changes-to x s r s'
 changes-to x (Ok tt) c = done (change-told x c) refl
 changes-to x (Err k) c = let (number, same) = unchange-told x c in refusal k number refl same
+
+-- what is made, as the answer x has it; or the number of x
+pub data Makes {S : Type 0} (x : Answer S) (r : Result S Refusal) : Type 0 where
+  made : (s : S) → x ≡ gives s → r ≡ Ok s → Makes x r
+  refusal : (k : Refusal) → x ≡ refuses (number_of k) → r ≡ Err k → Makes x r
+
+makes : {S : Type 0} (x : Answer S) (r : Result S Refusal) → made_of r ≡ x → Makes x r
+unfolding made_of
+makes x (Ok s) e = made s (sym e) refl
+makes x (Err k) e = refusal k (sym e) refl
 
 -- what becomes of the device d and of the answer buffer o, as the answer x has it: r, d' and o'
 pub data Defined (x : Answer Reaction) (d : Device) (o : List ℕ) (r : Said) (d' : Device) (o' : List ℕ) : Type 0 where
@@ -299,11 +309,10 @@ pub report-answers : (κs : _) (a : _) (r : _) (s : _) → report-reads.Learnt �
     → Changes-to (reported a.0.now a.1.0) a.0.now r s.0.now
 report-answers κs a r s = changes-to _ r
 
--- a device: a fresh one (there is none before it: a constant record stands beside the number), and what happens to it
+-- a device: a fresh one, and what happens to it
 pub fresh-answers : (κs : _) (a : _) (r : _) (s : _) → fresh-reads.Learnt κs a r s
-    → Changes-to (fresh_of a.0.now a.1.0.now a.1.1.0.now a.1.1.1.0.now a.1.1.1.1.0)
-    blank_device r.outcome r.device
-fresh-answers κs a r s = changes-to _ r.outcome
+    → Makes (fresh_of a.0.now a.1.0.now a.1.1.0.now a.1.1.1.0.now a.1.1.1.1.0) r
+fresh-answers κs a r s = makes _ r
 
 pub happen-answers : (κs : _) (a : _) (r : _) (s : _) → happen-reads.Learnt κs a r s
     → Changes-to (happened a.0.now a.1.0) a.0.now r s.0.now

@@ -3,9 +3,10 @@
 use mathlib.Core.Path.{◌≡◌, sym, ap, ◌∙◌}
 use mathlib.Core.Bool.{Bool}
 use mathlib.Core.List.{List}
-use mathlib.Core.Logic.{◌⊎◌, inl, inr}
+use mathlib.Core.HLevel.{×_prop, Π_prop, →_prop}
+use mathlib.Core.Logic.{◌⊎◌, ⊎_elim, ∥∥₁_elim}
 use Prim.Native.Nat.{ℕ, ◌*◌, ◌/◌, ◌%◌, ◌^◌, ◌<◌, ◌≤◌}
-use native.Mathlib.Nat.{mod-lt, one-mul}
+use native.Mathlib.Nat.{ℕ_set, mod-lt, one-mul}
 use native.Mathlib.Omega.{arith}
 use lib.Bits.{bit_xor}
 use lib.Dec.{T, eqb, eqb→eq, lit<}
@@ -38,17 +39,20 @@ by-entry k t r x = ap (bit_xor (x / 2 ^ k)) (r.1 (x % 2 ^ k) (mod-lt x (pow_pos 
 pub low_bits : (k x : ℕ) → k ≤ 8 → x % (1 * 2 ^ k % 2 ^ 16) ≡ x % 2 ^ k
 low_bits k x h = ap (λ (m : ℕ). x % m) (shl_exact 1 k 16 (lit< tt) (omega arith) ∙ one-mul (2 ^ k))
 
--- of the two tables, the number of entries tells which it is
-pub sixteen : (t : List ℕ) → Remainders 4 t ⊎ Remainders 8 t → length t ≡ 16 → Remainders 4 t
+-- a table is right in one way
+right_prop : (k : ℕ) (t : List ℕ) → IsProp (Remainders k t)
 unfolding Remainders
-sixteen t (inl r) e = r
-sixteen t (inr r) e =
-    let long : length t ≡ 256 = r.0 in absurd (omega arith)
+right_prop k t = ×_prop (ℕ_set _ _) (Π_prop (λ x. →_prop (ℕ_set _ _)))
 
-pub not-sixteen : (t : List ℕ) → Remainders 4 t ⊎ Remainders 8 t → (length t ≡ 16 → ⊥) → Remainders 8 t
+-- of the two tables, the number of entries tells which it is
+pub sixteen : (t : List ℕ) → ∥ Remainders 4 t ⊎ Remainders 8 t ∥₁ → length t ≡ 16 → Remainders 4 t
 unfolding Remainders
-not-sixteen t (inl r) d = absurd (d r.0)
-not-sixteen t (inr r) d = r
+sixteen t one e =
+    ∥∥₁_elim one (right_prop 4 t) (⊎_elim (λ r. r) (λ r. let long : length t ≡ 256 = r.0 in absurd (omega arith)))
+
+pub not-sixteen : (t : List ℕ) → ∥ Remainders 4 t ⊎ Remainders 8 t ∥₁ → (length t ≡ 16 → ⊥) → Remainders 8 t
+unfolding Remainders
+not-sixteen t one d = ∥∥₁_elim one (right_prop 8 t) (⊎_elim (λ r. absurd (d r.0)) (λ r. r))
 
 -- and what it gives for eight bits is the same: two halves, the low one first, or all at once
 pub two-halves : (x : ℕ) {y z : ℕ} → y ≡ bit_steps 4 x → z ≡ bit_steps 4 y → z ≡ bit_steps 8 x

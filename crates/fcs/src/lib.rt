@@ -23,56 +23,61 @@ fn bits_on<const BITS: u16>(table: &[u16], x: u16) -> u16
     (x >> BITS) ^ table[usize::from(x % (1 << BITS))]
 }
 
-// The register `x` eight bits on: by a table of 16 in two halves, the low one first; by one of 256 at once.
-fn eight_on(table: &[u16], x: u16) -> u16
-    requires { Remainders 4 table.now ⊎ Remainders 8 table.now }
-    ensures { result ≡ bit_steps 8 x }
-{
-    if table.len() == 16 {
-        let low = bits_on::<4>(table, x);
-        return bits_on::<4>(table, low);
-    }
-    bits_on::<8>(table, x)
+// A table of remainders, that of 16 or that of 256. Which of them the fact leaves out (`∥ .. ∥₁`), since the length tells.
+#[derive(Clone, Copy)]
+struct RemainderTable<'a> {
+    rows: &'a [u16],
+    ghost right: { ∥ Remainders 4 rows.now ⊎ Remainders 8 rows.now ∥₁ },
 }
 
-// The register `r` two octets on: they are one number, of which the second comes down with the register.
-fn two_on(table: &[u16], r: u16, a: u8, b: u8) -> u16
-    requires { Remainders 4 table.now ⊎ Remainders 8 table.now }
-    ensures { result ≡ register_after r (a ∷ b ∷ []) }
-{
-    eight_on(table, eight_on(table, r ^ octets::pair(a, b)))
-}
+impl<'a> RemainderTable<'a> {
+    // The register `x` eight bits on: by a table of 16 in two halves, the low one first; by one of 256 at once.
+    fn eight_on(self, x: u16) -> u16
+        ensures { result ≡ bit_steps 8 x }
+    {
+        if self.rows.len() == 16 {
+            let low = bits_on::<4>(self.rows, x);
+            return bits_on::<4>(self.rows, low);
+        }
+        bits_on::<8>(self.rows, x)
+    }
 
-// The register after the octets of `s`, from `register` on: two octets a turn, and the last one of an odd number.
-fn run_by_two(table: &[u16], register: u16, s: &[u8]) -> u16
-    requires { Remainders 4 table.now ⊎ Remainders 8 table.now }
-    ensures { result ≡ register_after register s.now }
-{
-    let (pairs, rest) = s.as_chunks::<2>();
-    let mut r = register;
-    for &[a, b] in pairs {
-        r = two_on(table, r, a, b);
+    // The register `r` two octets on: they are one number, of which the second comes down with the register.
+    fn two_on(self, r: u16, a: u8, b: u8) -> u16
+        ensures { result ≡ register_after r (a ∷ b ∷ []) }
+    {
+        self.eight_on(self.eight_on(r ^ octets::pair(a, b)))
     }
-    match rest {
-        [last, ..] => eight_on(table, r ^ u16::from(*last)),
-        [] => r,
-    }
-}
 
-// The same, eight octets a turn, and what is left by two.
-fn run(table: &[u16], register: u16, s: &[u8]) -> u16
-    requires { Remainders 4 table.now ⊎ Remainders 8 table.now }
-    ensures { result ≡ register_after register s.now }
-{
-    let (eights, rest) = s.as_chunks::<8>();
-    let mut r = register;
-    for &[a, b, c, d, e, f, g, h] in eights {
-        let two = two_on(table, r, a, b);
-        let four = two_on(table, two, c, d);
-        let six = two_on(table, four, e, f);
-        r = two_on(table, six, g, h);
+    // The register after the octets of `s`, from `register` on: two octets a turn, and the last one of an odd number.
+    fn run_by_two(self, register: u16, s: &[u8]) -> u16
+        ensures { result ≡ register_after register s.now }
+    {
+        let (pairs, rest) = s.as_chunks::<2>();
+        let mut r = register;
+        for &[a, b] in pairs {
+            r = self.two_on(r, a, b);
+        }
+        match rest {
+            [last, ..] => self.eight_on(r ^ u16::from(*last)),
+            [] => r,
+        }
     }
-    run_by_two(table, r, rest)
+
+    // The same, eight octets a turn, and what is left by two.
+    fn run(self, register: u16, s: &[u8]) -> u16
+        ensures { result ≡ register_after register s.now }
+    {
+        let (eights, rest) = s.as_chunks::<8>();
+        let mut r = register;
+        for &[a, b, c, d, e, f, g, h] in eights {
+            let two = self.two_on(r, a, b);
+            let four = self.two_on(two, c, d);
+            let six = self.two_on(four, e, f);
+            r = self.two_on(six, g, h);
+        }
+        self.run_by_two(r, rest)
+    }
 }
 
 // The register after the octets of `s`, from `register` on, by the table of 16: two octets a turn, for less code.
@@ -80,16 +85,16 @@ fn run(table: &[u16], register: u16, s: &[u8]) -> u16
 fn by_halves(register: u16, s: &[u8]) -> u16
     ensures { result ≡ register_after register s.now }
 {
-    let table = halves::REMAINDERS;
-    run_by_two(&table, register, s)
+    let rows = halves::REMAINDERS;
+    RemainderTable { rows: &rows }.run_by_two(register, s)
 }
 
 // The same by the table of 256.
 fn by_octets(register: u16, s: &[u8]) -> u16
     ensures { result ≡ register_after register s.now }
 {
-    let table = table::REMAINDERS;
-    run(&table, register, s)
+    let rows = table::REMAINDERS;
+    RemainderTable { rows: &rows }.run(register, s)
 }
 
 // The register after the octets of `s`, from `register` on.

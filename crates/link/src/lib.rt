@@ -14,7 +14,7 @@ use control::Order;
 use limits::LIMIT_LEAST;
 use negotiation::Agreed;
 use params::Malformed;
-use record::{Device, Link, Station};
+use record::{Device, Link};
 use station::{Say, Turn};
 use xid::Xid;
 
@@ -24,6 +24,7 @@ const ALL_STATIONS: u8 = 0xFF;
 // ---- what a control octet asks
 
 // Whether the poll bit is set.
+#[tactic(auto, unfolding(control::specs::Control::polled))]
 fn polls(control: u8) -> bool
     ensures { result ≡ polled control }
 {
@@ -31,42 +32,39 @@ fn polls(control: u8) -> bool
 }
 
 // An I-frame, or a supervisory one, by its numbers.
+#[tactic(auto, unfolding(control::specs::Control::numbered_by))]
 fn numbered(control: u8) -> Order
     ensures { result ≡ numbered_by control }
 {
+    let nr = control / 32;
     if control % 2 == 0 {
         return Order::Info {
             ns: control / 2 % 8,
-            nr: control / 32,
+            nr,
         };
     }
-    if control % 32 == 0x11 {
-        return Order::Rr { nr: control / 32 };
+    match control % 32 {
+        0x11 => Order::Rr { nr },
+        0x15 => Order::Rnr { nr },
+        _ => Order::Unknown,
     }
-    if control % 32 == 0x15 {
-        return Order::Rnr { nr: control / 32 };
-    }
-    Order::Unknown
 }
 
 // What a control octet with its poll bit set asks; of one whose poll bit is clear it means nothing, and `polls` tells.
 fn asked(control: u8) -> Order
     ensures { Asks control result }
 {
-    if control == control::XID {
-        return Order::Xid;
+    match control {
+        control::XID => Order::Xid,
+        0x93 => Order::Snrm,
+        0x53 => Order::Disc,
+        _ => numbered(control),
     }
-    if control == 0x93 {
-        return Order::Snrm;
-    }
-    if control == 0x53 {
-        return Order::Disc;
-    }
-    numbered(control)
 }
 
 // ---- the frame
 
+#[tactic(auto, unfolding(station::specs::Turns::saying))]
 fn say(device: Device, say: Say) -> Turn
     ensures { result ≡ saying device say }
 {
@@ -78,54 +76,38 @@ fn is_quiet(order: Order, bare: bool) -> bool
 {
     match order {
         Order::Xid => true,
-        Order::Snrm => !bare,
-        Order::Disc => !bare,
-        Order::Info { ns: _, nr: _ } => false,
-        Order::Rr { nr: _ } => !bare,
-        Order::Rnr { nr: _ } => !bare,
-        Order::Unknown => false,
+        Order::Snrm | Order::Disc | Order::Rr { .. } | Order::Rnr { .. } => !bare,
+        Order::Info { .. } | Order::Unknown => false,
     }
 }
 
 // At the own address, an order that is no XID.
+#[tactic(auto, unfolding(crate::specs::Link::ordered_by))]
 fn ordered(device: Device, order: Order, control: u8, m: &[u8]) -> Turn
     ensures { result ≡ ordered_by device order control m.now }
 {
-    let station = device.station;
-    let link = station.link;
-    if is_quiet(order, m.len() == 0) {
+    if is_quiet(order, m.is_empty()) {
         return say(device, Say::Silence);
     }
-    states::linked(device, link, order, control, m)
+    states::linked(device, device.station.link, order, control, m)
 }
 
 fn has_address(link: Link) -> bool
     ensures { result ≡ has_address link }
 {
-    match link {
-        Link::NoAddress => false,
-        Link::AddressAssigned => true,
-        Link::Connected(_) => true,
-    }
+    !matches!(link, Link::NoAddress)
 }
 
 // The device with another frame limit.
-fn limited(device: Device, limit: usize) -> Device
+#[tactic(auto, unfolding(record::specs::Changes::limited_to, record::specs::Changes::device_of))]
+fn limited(mut device: Device, limit: usize) -> Device
     ensures { result ≡ limited_to device limit }
 {
-    let plate = device.plate;
-    let station = device.station;
-    let antenna = device.antenna;
-    let link = station.link;
-    let mut desk = station.desk;
-    desk.limit = limit;
-    Device {
-        plate,
-        station: Station { link, desk },
-        antenna,
-    }
+    device.station.desk.limit = limit;
+    device
 }
 
+#[tactic(auto, unfolding(crate::specs::Link::agreed_by))]
 fn agree(device: Device, offer: Result<Agreed, Malformed>) -> Turn
     ensures { result ≡ agreed_by device offer }
 {
@@ -136,18 +118,17 @@ fn agree(device: Device, offer: Result<Agreed, Malformed>) -> Turn
 }
 
 // At the own address, an XID: a negotiation, where an address is assigned.
+#[tactic(auto, unfolding(crate::specs::Link::negotiated_by))]
 fn negotiate(device: Device, m: &[u8]) -> Turn
     ensures { result ≡ negotiated_by device m.now }
 {
-    let station = device.station;
-    let link = station.link;
-    let desk = station.desk;
-    if has_address(link) {
-        return agree(device, negotiation::read(desk.limit, m));
+    if has_address(device.station.link) {
+        return agree(device, negotiation::read(device.station.desk.limit, m));
     }
     say(device, Say::Silence)
 }
 
+#[tactic(auto, unfolding(crate::specs::Link::own_by))]
 fn own(device: Device, control: u8, m: &[u8]) -> Turn
     ensures { result ≡ own_by device control m.now }
 {
@@ -157,6 +138,7 @@ fn own(device: Device, control: u8, m: &[u8]) -> Turn
     ordered(device, asked(control), control, m)
 }
 
+#[tactic(auto, unfolding(crate::specs::Link::xid_by))]
 fn by_xid(device: Device, xid: Xid) -> Turn
     ensures { result ≡ xid_by device xid }
 {
@@ -172,28 +154,24 @@ fn by_xid(device: Device, xid: Xid) -> Turn
     }
 }
 
+#[tactic(auto, unfolding(crate::specs::Link::everyone_by))]
 fn everyone(device: Device, control: u8, m: &[u8]) -> Turn
     ensures { result ≡ everyone_by device control m.now }
 {
-    let plate = device.plate;
     if control == control::XID {
-        return by_xid(device, xid::read(plate, m));
+        return by_xid(device, xid::read(device.plate, m));
     }
     say(device, Say::Silence)
 }
 
+#[tactic(auto, unfolding(crate::specs::Link::is_own))]
 fn is_own(device: Device, address: u8) -> bool
     ensures { result ≡ is_own device address }
 {
-    let station = device.station;
-    let desk = station.desk;
-    if address == desk.address {
-        address != 0
-    } else {
-        false
-    }
+    address == device.station.desk.address && address != 0
 }
 
+#[tactic(auto, unfolding(crate::specs::Link::addressed_by))]
 fn addressed(device: Device, address: u8, control: u8, m: &[u8]) -> Turn
     ensures { result ≡ addressed_by device address control m.now }
 {
@@ -206,6 +184,7 @@ fn addressed(device: Device, address: u8, control: u8, m: &[u8]) -> Turn
     say(device, Say::Silence)
 }
 
+#[tactic(auto, unfolding(crate::specs::Link::controlled_by))]
 fn controlled(device: Device, address: u8, control: u8, m: &[u8]) -> Turn
     ensures { result ≡ controlled_by device address control m.now }
 {
@@ -219,12 +198,7 @@ fn controlled(device: Device, address: u8, control: u8, m: &[u8]) -> Turn
 pub fn judge_frame(device: Device, frame: &[u8]) -> Turn
     ensures { result ≡ judged_frame device frame.now }
 {
-    let station = device.station;
-    let desk = station.desk;
-    if frame.len() < 2 {
-        return say(device, Say::Silence);
-    }
-    if limits::frame_most(desk.limit) < frame.len() {
+    if frame.len() < 2 || limits::frame_most(device.station.desk.limit) < frame.len() {
         return say(device, Say::Silence);
     }
     controlled(device, frame[0], frame[1], &frame[2..])

@@ -6,6 +6,6 @@ use Rattle.fcs.specs.Check.{bit_step, bit_steps}
 use Rattle.fcs.proofs.Rule.{rule}
 use Rattle.fcs.proofs.by_halves.Goals as goal
 
-pub run_by_two-requires : goal.run_by_two-requires
+pub invariant_of-run_by_two : goal.invariant_of-run_by_two
 unfolding bit_steps bit_step
-run_by_two-requires c = inl (rule 4 _ refl tt)
+invariant_of-run_by_two c = record { right = ∣ inl (rule 4 _ refl tt) ∣₁ }

@@ -6,6 +6,6 @@ use Rattle.fcs.specs.Check.{bit_step, bit_steps}
 use Rattle.fcs.proofs.Rule.{rule}
 use Rattle.fcs.proofs.by_octets.Goals as goal
 
-pub run-requires : goal.run-requires
+pub invariant_of-run : goal.invariant_of-run
 unfolding bit_steps bit_step
-run-requires c = inr (rule 8 _ refl tt)
+invariant_of-run c = record { right = ∣ inr (rule 8 _ refl tt) ∣₁ }

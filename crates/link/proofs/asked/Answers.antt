@@ -5,18 +5,18 @@ use Rattle.octets.proofs.Rules.{tests}
 use Rattle.control.proofs.Named.{asks}
 use Rattle.link.proofs.asked.Goals as goal
 
-pub returns-then-control-eq-XID : goal.returns-then-control-eq-XID
+pub returns-in-191 : goal.returns-in-191
 unfolding asked_by
-returns-then-control-eq-XID c = asks (search tests)
+returns-in-191 c = asks (rw c.in-191.is)
 
-pub returns-then-control-eq147 : goal.returns-then-control-eq147
+pub returns-in-147 : goal.returns-in-147
 unfolding asked_by
-returns-then-control-eq147 c = asks (search tests)
+returns-in-147 c = asks (rw c.in-147.is)
 
-pub returns-then-control-eq83 : goal.returns-then-control-eq83
+pub returns-in-83 : goal.returns-in-83
 unfolding asked_by
-returns-then-control-eq83 c = asks (search tests)
+returns-in-83 c = asks (rw c.in-83.is)
 
-pub returns : goal.returns
+pub returns-in_default : goal.returns-in_default
 unfolding asked_by
-returns c = asks (search (tests, sym c.numbered.ensures))
+returns-in_default c = asks (search (tests, sym c.numbered.ensures, c.in_default))

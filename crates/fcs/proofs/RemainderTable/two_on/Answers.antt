@@ -1,7 +1,7 @@
--- `fcs::two_on` meets its promise: the second octet comes down with the register. Assumes nothing.
+-- `fcs::RemainderTable::two_on` meets its promise: the second octet comes down with the register. Assumes nothing.
 use borrow.Author.Rules.{rules}
 use Rattle.fcs.proofs.Register.{register-both}
-use Rattle.fcs.proofs.two_on.Goals as goal
+use Rattle.fcs.proofs.RemainderTable.two_on.Goals as goal
 
 pub returns : goal.returns
 returns c =

@@ -1,4 +1,4 @@
--- `fcs::run_by_two` meets its promise: the octets that are left, from the register as it is, give what all gave from
+-- `fcs::RemainderTable::run_by_two` meets its promise: the octets that are left, from the register as it is, give what all gave from
 -- the start. Assumes nothing.
 use mathlib.Core.Path.{◌≡◌, ap, ◌∙◌}
 use Prim.Native.Nat.{ℕ, ◌*◌, ◌/◌}
@@ -7,7 +7,7 @@ use lib.ListN.{length, get_or}
 use Rattle.std.proofs.lemmas.List.{get_or-drop}
 use Rattle.octets.proofs.Chunks.{chunk-length}
 use Rattle.fcs.proofs.Register.{register-chunk, register-pair, register-last, register-done}
-use Rattle.fcs.proofs.run_by_two.Goals as goal
+use Rattle.fcs.proofs.RemainderTable.run_by_two.Goals as goal
 
 pub loop-a-preserved : goal.loop-a-preserved
 loop-a-preserved c =

@@ -1,9 +1,9 @@
--- `fcs::run` meets its promise: the octets that are left, from the register as it is, give what all gave from the
+-- `fcs::RemainderTable::run` meets its promise: the octets that are left, from the register as it is, give what all gave from the
 -- start. Assumes nothing.
 use native.Mathlib.Omega.{arith}
 use Rattle.octets.proofs.Chunks.{chunk-length}
 use Rattle.fcs.proofs.Register.{register-chunk, register-whole}
-use Rattle.fcs.proofs.run.Goals as goal
+use Rattle.fcs.proofs.RemainderTable.run.Goals as goal
 
 pub loop-a-preserved : goal.loop-a-preserved
 loop-a-preserved c =
