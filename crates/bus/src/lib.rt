@@ -8,7 +8,7 @@ use record::Device;
 // The most devices of a row in memory.
 pub const MOST: usize = 32;
 
-// The first `count` of the devices hang on the cable.
+// The first `count` of the devices hang on the cable. A fixed row with a count: no heap.
 #[derive(Clone, Copy)]
 pub struct Row {
     pub devices: [Device; MOST],

@@ -49,7 +49,7 @@ pub fn gorittaem_decode(src: &[u8], out: &mut [u8]) -> usize
     crossing(answer)
 }
 
-// The same, with the frame limit `limit`.
+// The same, with the frame limit `limit`: the C interface has two of each.
 pub fn gorittaem_decode_n(limit: usize, src: &[u8], out: &mut [u8]) -> usize
     ensures { Crosses (decoded limit src.now (length out.old))
         out.old result out.new }

@@ -1,5 +1,5 @@
 // The exports of capi, as a static library for a program in C (include/gorittaem.h): each calls the function of its name there and
-// promises the same. Assumes of a caller in C what capi says.
+// promises the same, since an export for C stands in a crate of its own. Assumes of a caller in C what capi says.
 #![tactic(auto)]
 
 ghost use Rattle.std.specs.Prelude.{◌≡◌, length};

@@ -61,6 +61,7 @@ fn octet(beginning: &[bool; BITS], bits: usize, from: usize) -> u8
 }
 
 // The beginning, so many bits of a row, as octets, zeros behind it.
+// The row and its bits are two, as in a scan's record: one type more would be taken apart at each use.
 pub fn octets_of(beginning: [bool; BITS], bits: usize) -> [u8; OCTETS]
     ensures { result ≡ octets_of (take bits beginning) }
 {

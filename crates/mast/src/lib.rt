@@ -62,6 +62,7 @@ fn inner(line: &[u8]) -> &[u8]
 }
 
 // A device hears the line: whether it answers with a frame.
+// A match: by `matches!` the proof has no fact that tells silence from a refusal (tried).
 fn listen(device: &mut Device, line: Written) -> bool
     ensures { Listens device.old (line_in line) result device.new }
 {

@@ -35,6 +35,7 @@ pub fn put_all(out: &mut [u8], at: usize, s: &[u8])
 }
 
 // The place of the first `octet` in `s`; its length where there is none.
+// A number and no Option: it is promised for every slice, as the place to cut at (`place_of`).
 pub fn find(octet: u8, s: &[u8]) -> usize
     ensures { result ≡ place_of octet s.now }
 {

@@ -40,7 +40,7 @@ fn stands_at(s: &[u8], at: usize) -> Result<Option<Triple>, Malformed>
     }))
 }
 
-// What a step of the reader finds, and the cursor after it.
+// What a step of the reader finds, and the cursor after it: `next_at` promises both.
 #[derive(Clone, Copy)]
 pub struct Step {
     pub found: Result<Option<Triple>, Malformed>,

@@ -19,6 +19,7 @@ use refusal::Refusal;
 pub const PLACES: usize = LIMIT_MOST;
 
 // What is held of the stretch since the last flag, beside the decoded octets in the store.
+// The count stands apart from the lent store: fixed memory of the caller's, and any record may be handed in.
 #[derive(Clone, Copy)]
 pub struct Receiver {
     // how many of them
@@ -113,6 +114,7 @@ fn closing(receiver: Receiver) -> bool
 
 // Works through the run: up to and with the first flag that hands something out, or to its end. Most octets stand for
 // themselves: those are copied as many at once as there are.
+// By a place: a turn takes one octet or a whole copied run, and the answer tells the place; an iterator is no plainer.
 fn listen(
     receiver: &mut Receiver,
     limit: usize,

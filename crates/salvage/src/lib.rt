@@ -375,6 +375,7 @@ fn until(verdict: Verdict, at: usize, end: usize) -> usize
 }
 
 // Works through the run, a stretch a turn: up to and with the first flag that closes one that is left out, or to its end.
+// By a place: a turn takes what the receiver takes, and the answer tells the place; an iterator is no plainer.
 fn work(
     salvage: &mut Salvage,
     limit: usize,

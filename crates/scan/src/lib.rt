@@ -39,6 +39,7 @@ pub enum State {
 }
 
 // The limit and the count of the probes answered, the identities listed, the beginning that is asked or named.
+// Fixed rows with their counts: no heap, and any record of the type may be handed in.
 #[derive(Clone, Copy)]
 pub struct Scan {
     pub limit: u16,

@@ -83,6 +83,8 @@ fn reject(device: Device, s: Session, control: u8, why: u8) -> Turn
 
 // ---- in a session
 
+// The session stands beside its device: `poll` and `inform` promise their answers for any two of them.
+
 // Whether N(R) is good: S, or S+1 where an answer is pending.
 #[tactic(auto, unfolding(session::specs::Session::good_number))]
 fn is_good(session: Session, nr: u8) -> bool
