@@ -33,7 +33,7 @@ pub enum Motion {
     Stopped { reached: bool },
 }
 
-// All of an antenna but its motion: who changes one field copies the rest as one.
+// All of an antenna but its motion.
 #[derive(Clone, Copy)]
 pub struct Drive {
     pub lowest: Angle,

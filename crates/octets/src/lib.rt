@@ -1,5 +1,5 @@
 // Octets in a lent buffer: stored where they are inside it, and nowhere else. A part of a slice. Two octets as
-// a number.
+// a number. Texts: octets of any number up to N.
 // Assumes nothing of its caller.
 #![tactic(auto)]
 

@@ -4,7 +4,7 @@
 --   plate_from i p h s == the plate with these texts, zeros behind each
 --   fresh_station      == address 0, the frame limit 78, no session, nothing told, nothing subscribed
 --   fresh_from ..      == the fresh device; fresh_of .. == what is answered
---   blank_device       == the record beside a refusal
+--   blank_device       == the record of no device
 -- Assumes nothing.
 use Rattle.std.specs.Prelude.{Bool, false, not, ◌&&◌, List, [], ◌∷◌, ℕ, ◌≤◌, leb, pos, length, ◌≤ℤ◌}
 use Rattle.octets.specs.Text.{laid}
@@ -86,7 +86,7 @@ unfoldable pub fresh_of : List ℕ → List ℕ → List ℕ → List ℕ → Sp
 fresh_of i p h s w =
     answered (6 when not (data_allowed i p h s (antenna_from w)) ∷ []) (fresh_from (plate_from i p h s) (antenna_from w))
 
--- the constant record that stands beside a refusal
+-- the constant record that stands where there is no device
 abbrev pub level : Angle
 level = record { tenths = pos 0 }
 

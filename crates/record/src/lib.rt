@@ -71,7 +71,7 @@ pub const NO_REPLY: Payload = Text {
     len: 0,
 };
 
-// All of a station but its link: who changes one field copies the rest as one. `limit` is the link's frame limit.
+// All of a station but its link. `limit` is the link's frame limit.
 #[derive(Clone, Copy)]
 pub struct Desk {
     pub address: u8,
