@@ -40,6 +40,12 @@ use Rattle.bench.specs.Input.{line_kept, run_most}
 use Rattle.bench.specs.Input.{rest_of, taken_to, line_taken, refilled, anew, Run, after_runs, Arrives, without_return}
 use Rattle.bench.specs.declared.input.Input.{Input}
 
+-- ---- what is handed back, if nothing failed
+
+pub ok-same : {T E A : Type 0} (r : Result T E) (f : T → A) {x y : A} → IfOk r (λ v. f v ≡ x) → x ≡ y → IfOk r (λ v. f v ≡ y)
+ok-same (Ok v) f e g = e ∙ g
+ok-same (Err x) f e g = tt
+
 -- ---- HEX
 
 module _ (row s : List ℕ) (i : ℕ) {w : List ℕ} where

@@ -7,3 +7,4 @@ pub mod Three
 pub mod Cable
 pub mod Cases
 pub mod Index
+pub mod Verdicts

@@ -26,7 +26,8 @@ use Rattle.scan.specs.Scan.{probe_length, probe_of, over, probed}
 use Rattle.scan.proofs.Probes.{length-probe, probed-over, probed-open}
 use Rattle.bus.specs.Cable.{octets_given, line_with, line_for, hears, is_frame, with_frame}
 use Rattle.mast.specs.Steps.{line_in, frame_in, is_handed_out, Probing, Listens}
-use Rattle.mast.specs.Steps.{Written}
+use Rattle.octets.specs.declared.Text.{Text}
+use Rattle.limits.specs.Limits.{limit_least, line_most}
 
 -- ---- the line of the probe that is next
 
@@ -82,7 +83,7 @@ given-fills s f {o} n h e =
     h.octets ∙ ap (λ (x : Answer (List ℕ)). out_after x o) e
     ∙ rw (drop_of_length-le o {i = length f} (omega arith), append-nil f)
 
-pub asks-line : (s : Scan) {o o' : List ℕ} {r : Result ℕ Refusal} {n : ℕ} {w : Written} → length o ≡ probe_length
+pub asks-line : (s : Scan) {o o' : List ℕ} {r : Result ℕ Refusal} {n : ℕ} {w : Text (line_most limit_least)} → length o ≡ probe_length
     → Hands (probed s probe_length) o r o' → r ≡ Ok n → line_in w ≡ line_for o'
     → Probing (probed s probe_length) (Some w)
 asks-line s {r = r} {n} {w} size h e l =

@@ -18,7 +18,8 @@ use Rattle.bus.specs.Cable.{row_most, line_for, replies_to, after_line, any_repl
 use Rattle.bus.specs.Scanning.{Bus, one_probe_by, one_probe, probes_asked, scanned}
 use Rattle.mast.specs.Mast.{on_cable, off_cable, with_devices, swept_by, swept}
 use Rattle.mast.specs.Steps.{line_in, is_handed_out, Probing, Listens, Sends}
-use Rattle.mast.specs.Steps.{Written}
+use Rattle.octets.specs.declared.Text.{Text}
+use Rattle.limits.specs.Limits.{limit_least, line_most}
 use Rattle.bus.specs.declared.Row.{Row}
 
 -- ---- a line goes to every device
@@ -155,7 +156,7 @@ stays (suc n) b e = ap (probes_asked n) (one (probed b.scan probe_length) refl e
 
 module _ (row : Row) (limit : ℕ) {s : Scan} {r : Row} where
   -- a probe is asked, heard and reported
-  pub sweeping-one : {m n : ℕ} {a : Option Written} {w : Written} {b : Bool} {es : List Device} {t : Scan} → m ≡ n + 1
+  pub sweeping-one : {m n : ℕ} {a : Option (Text (line_most limit_least))} {w : Text (line_most limit_least)} {b : Bool} {es : List Device} {t : Scan} → m ≡ n + 1
       → Sweeping m s r row limit → Probing (probed s probe_length) a → a ≡ Some w
       → Sends r.devices r.count (line_in w) b es → t ≡ state_after (reported s b) s
       → Sweeping n t (record { devices = es; count = r.count }) row limit
@@ -207,7 +208,7 @@ module _ (row : Row) (limit : ℕ) {s : Scan} {r : Row} where
   unfolding probes_asked
   sweeping-none e w = sweeping-end w (rw e at w.ahead)
 
-  pub sweeping-over : {n : ℕ} {a : Option Written} → Sweeping n s r row limit → Probing (probed s probe_length) a
+  pub sweeping-over : {n : ℕ} {a : Option (Text (line_most limit_least))} → Sweeping n s r row limit → Probing (probed s probe_length) a
       → a ≡ None → record { scan = s; row = r } ≡ swept row limit
   sweeping-over {n} w asked over =
       sweeping-end w (sym (stays n (now r s) (sym asked.asks ∙ ap is_some over)) ∙ w.ahead)

@@ -15,10 +15,7 @@ use Rattle.octets.specs.Text.{content}
 use Rattle.octets.specs.declared.Text.{Text}
 use Rattle.limits.specs.Limits.{limit_least, line_most}
 
-abbrev pub Written : Type 0
-Written = Text (line_most limit_least)
-
-abbrev pub line_in : Written → List ℕ
+abbrev pub line_in : Text (line_most limit_least) → List ℕ
 line_in = content
 
 abbrev pub frame_in : Said → Bool
@@ -30,9 +27,9 @@ unfoldable pub is_handed_out : Answer (List ℕ) → Bool
 is_handed_out (gives f) = true
 is_handed_out (refuses k) = false
 
-pub record Probing (x : Answer (List ℕ)) (r : Option Written) : Type 0 where
+pub record Probing (x : Answer (List ℕ)) (r : Option (Text (line_most limit_least))) : Type 0 where
   pub asks : is_some r ≡ is_handed_out x
-  pub line : (f : List ℕ) (w : Written) → x ≡ gives f → r ≡ Some w → line_in w ≡ line_for f
+  pub line : (f : List ℕ) (w : Text (line_most limit_least)) → x ≡ gives f → r ≡ Some w → line_in w ≡ line_for f
 
 pub record Listens (d : Device) (l : List ℕ) (b : Bool) (d' : Device) : Type 0 where
   pub heard : b ≡ replies_to d l

@@ -22,7 +22,7 @@ use Rattle.script.specs.Commands.{names, commands}
 use Rattle.script.specs.Values.{hex_digit, octet_from, octet_by, octet_of, hex_of, numeral, is_negative, digits_of, decimal}
 use Rattle.script.specs.Values.{ranged, number_by, from_one, heard_means, value_of}
 use Rattle.script.specs.Script.{command_of, kinds_of, wordless, with_value, with_hex, with_word, unless_faulty}
-use Rattle.script.specs.Script.{words_by, is_unanswered, asked_by, read_line}
+use Rattle.script.specs.Script.{words_by, is_unanswered, line_asks, read_line}
 use Rattle.script.specs.declared.Fault.{Fault}
 use Rattle.script.specs.declared.Fault.TheVariants.{Long, Command, Words, Hex, Number, Room, Device}
 use Rattle.script.specs.declared.Asked.{Asked}
@@ -173,8 +173,8 @@ NoCommand s =
     (0 < length s) × (get_or s 0 0 ≡ code "#" → ⊥) × (length s ≤ 2000) × (Memᴰ (first_of s) command_names → ⊥)
 
 module _ (s : List ℕ) (d : ℕ) where
-  asked-free : (c : ℕ) → Free (asked_by s d (Some c))
-  unfolding asked_by blamed
+  asked-free : (c : ℕ) → Free (line_asks s d (Some c))
+  unfolding line_asks blamed
   asked-free c =
       either (eqb (spaces_in s) (length (kinds_of c))) (words-free d (kinds_of c) 1 s (wordless c)) (bad refl)
 
@@ -183,7 +183,7 @@ module _ (s : List ℕ) (d : ℕ) where
   line-blamed = go (is_unanswered s) refl (ltb 2000 (length s)) refl (command_of s) refl
     where
       go : (u : Bool) → is_unanswered s ≡ u → (l : Bool) → ltb 2000 (length s) ≡ l → (k : Option ℕ) → command_of s ≡ k
-          → cond u (Ok None) (cond l (Err Long) (unless_faulty (λ a. Ok (Some a)) (asked_by s d k))) ≡ Err Command
+          → cond u (Ok None) (cond l (Err Long) (unless_faulty (λ a. Ok (Some a)) (line_asks s d k))) ≡ Err Command
           → NoCommand s
       go true p l q k r e = cc
       go false p true q k r e = cc

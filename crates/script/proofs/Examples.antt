@@ -17,7 +17,7 @@ use Rattle.script.specs.Values.{hex_digit, octet_by, octet_of, octet_then, pairs
 use Rattle.script.specs.Values.{decimal, is_negative, digits_of, pattern_of, ranged, number_by, from_one, heard_means}
 use Rattle.script.specs.Values.{value_of}
 use Rattle.script.specs.Script.{command_of, kinds_of, with_value, with_octets, with_hex, with_word}
-use Rattle.script.specs.Script.{words_by, is_unanswered, asked_by, read_line}
+use Rattle.script.specs.Script.{words_by, is_unanswered, line_asks, read_line}
 use Rattle.script.specs.declared.Fault.{Fault}
 use Rattle.script.specs.declared.Fault.TheVariants.{Long, Command, Words, Hex, Number, Room, Device}
 use Rattle.script.specs.declared.Asked.{Asked}
@@ -92,7 +92,7 @@ read : (read_line (spelled "raise 1 20") 1 ≡ asks command.raise (1 ∷ 20 ∷ 
     ≡ asks command.device (1 ∷ 3 ∷ 3 ∷ 4 ∷ 65531 ∷ 5 ∷ 0 ∷ []) (0x4e ∷ 0x41 ∷ 0x41 ∷ 0x31 ∷ []))
 unfolding spelled first_of behind_first word_at spaces_in place_from place_of same hex_digit octet_by octet_of octet_then pairs_of
     hex_of all_digits numeral decimal is_negative digits_of pattern_of ranged number_by from_one heard_means value_of command_of kinds_of
-    with_value with_octets with_hex with_word words_by is_unanswered asked_by read_line
+    with_value with_octets with_hex with_word words_by is_unanswered line_asks read_line
 read = (refl, refl, refl, refl, refl, refl, refl, refl, refl, refl, refl, refl)
 
 -- a line that is long has that fault before every other, unless it is a comment
@@ -114,6 +114,6 @@ faults : (read_line (spelled "probe 601") 0 ≡ Err Room)
     × (read_line [] 0 ≡ Ok None)
 unfolding spelled first_of behind_first word_at spaces_in place_from place_of same hex_digit octet_by octet_of octet_then pairs_of
     hex_of all_digits numeral decimal is_negative digits_of pattern_of ranged number_by from_one heard_means value_of command_of kinds_of
-    with_value with_octets with_hex with_word words_by is_unanswered asked_by read_line
+    with_value with_octets with_hex with_word words_by is_unanswered line_asks read_line
 faults =
     (refl, refl, refl, refl, refl, refl, refl, refl, refl, refl, refl, refl, refl, refl, refl, refl)

@@ -9,7 +9,7 @@ use Rattle.identity.specs.Identity.{same}
 use Rattle.script.specs.Words.{spelled, word_at, spaces_in}
 use Rattle.script.specs.Values.{octet_of, octet_then, pairs_of, hex_of}
 use Rattle.script.specs.Script.{command_of, kinds_of, wordless, with_value, with_octets, with_hex, stored, with_word, words_by}
-use Rattle.script.specs.Script.{is_unanswered, asked_by, read_line}
+use Rattle.script.specs.Script.{is_unanswered, line_asks, read_line}
 use Rattle.script.specs.declared.Fault.{Fault}
 use Rattle.script.specs.declared.Fault.TheVariants.{Command, Words, Hex}
 use Rattle.script.specs.declared.Asked.{Asked}
@@ -83,21 +83,21 @@ module _ (d : ℕ) (ks s : List ℕ) (i : ℕ) (a : Asked) {w : Result Asked Fau
 
 module _ (s : List ℕ) (d : ℕ) (silent : is_unanswered s ≡ false) (short : length s ≤ 2000) where
   pub line-command : command_of s ≡ None → Err Command ≡ read_line s d
-  unfolding read_line asked_by
+  unfolding read_line line_asks
   line-command e = rw (silent, le-ltb 2000 (length s) short, e)
 
   module _ (c : ℕ) (ks : List ℕ) (e : command_of s ≡ Some c) (k : ks ≡ kinds_of c) where
     pub line-words : (spaces_in s ≡ length ks → ⊥) → Err Words ≡ read_line s d
-    unfolding read_line asked_by
+    unfolding read_line line_asks
     line-words n = rw (silent, le-ltb 2000 (length s) short, e, ← k, ne_eqb (spaces_in s) (length ks) n)
 
     module _ (i : spaces_in s ≡ length ks) where
       pub line-fault : {f : Fault} → Err f ≡ words_by d ks 1 s (wordless c) → Err f ≡ read_line s d
-      unfolding read_line asked_by
+      unfolding read_line line_asks
       line-fault w =
           rw (silent, le-ltb 2000 (length s) short, e, ← k, eq-eqb (spaces_in s) (length ks) i, ← w)
 
       pub line-reads : {a : Asked} → Ok a ≡ words_by d ks 1 s (wordless c) → Ok (Some a) ≡ read_line s d
-      unfolding read_line asked_by
+      unfolding read_line line_asks
       line-reads w =
           rw (silent, le-ltb 2000 (length s) short, e, ← k, eq-eqb (spaces_in s) (length ks) i, ← w)

@@ -6,7 +6,7 @@
 --   stored a os n    == the code's: a with the octets os up to n
 --   with_word k d a n w == a, and the word w of the kind k at the place n
 --   words_by d ks n s a == a, and the words of the line s from the place n on, of the kinds ks, up to the first fault
---   asked_by s d c   == what the line s of the command c asks of a bench with d devices
+--   line_asks s d c   == what the line s of the command c asks of a bench with d devices
 --   read_line s d    == what any line asks of it; nothing where it gets no answer
 -- The octets of all HEX words lie one behind the other, and the value of HEX is where its octets end. Assumes nothing.
 use Rattle.std.specs.Prelude.{Bool, cond, ◌||◌, List, [], ◌∷◌, Option, Some, None, Result, Ok, Err, ℕ, suc, ◌+◌, min, ltb, eqb, length, get_or, set, replicate}
@@ -82,13 +82,13 @@ line_longest = 2000
 
 -- "A line's faults are looked for in this order: `long` (more than 2,000 octets ..; a comment is never too long),
 -- `command` (the first word), `words` (their number), then each word from the left."
-unfoldable pub asked_by : List ℕ → ℕ → Option ℕ → Result Asked Fault
-asked_by s d None = Err Command
-asked_by s d (Some c) =
+unfoldable pub line_asks : List ℕ → ℕ → Option ℕ → Result Asked Fault
+line_asks s d None = Err Command
+line_asks s d (Some c) =
     cond (eqb (spaces_in s) (length (kinds_of c))) (words_by d (kinds_of c) 1 s (wordless c)) (Err Words)
 
 unfoldable pub read_line : List ℕ → ℕ → Result (Option Asked) Fault
 read_line s d =
     cond (is_unanswered s) (Ok None)
     (cond (ltb line_longest (length s)) (Err Long)
-    (unless_faulty (λ a. Ok (Some a)) (asked_by s d (command_of s))))
+    (unless_faulty (λ a. Ok (Some a)) (line_asks s d (command_of s))))

@@ -115,7 +115,12 @@ fn hand_line(d: &[u8], out: &mut [u8]) -> Result<usize, Refusal>
 
 // Writes a frame that a store of so many places has room for: the fewer there are, the sooner they are set to zero. The compiler
 // knows how many.
-fn write_in<const PLACES: usize>(address: u8, control: u8, payload: &[u8], out: &mut [u8]) -> Result<usize, Refusal>
+fn write_in<const PLACES: usize>(
+    address: u8,
+    control: u8,
+    payload: &[u8],
+    out: &mut [u8],
+) -> Result<usize, Refusal>
     requires { (length payload.now + 4 ≤ PLACES) × (PLACES ≤ limit_most) }
     ensures { Hands (handed_out (line_of (address ∷ control ∷ payload.now)) (length out.old))
         out.old result out.new }
@@ -126,7 +131,13 @@ fn write_in<const PLACES: usize>(address: u8, control: u8, payload: &[u8], out: 
 }
 
 // Writes flag, frame, flag to the start of `out`, with the frame limit `limit`.
-pub fn write(limit: usize, address: u8, control: u8, payload: &[u8], out: &mut [u8]) -> Result<usize, Refusal>
+pub fn write(
+    limit: usize,
+    address: u8,
+    control: u8,
+    payload: &[u8],
+    out: &mut [u8],
+) -> Result<usize, Refusal>
     ensures { Hands (written limit address control payload.now (length out.old))
         out.old result out.new }
 {
