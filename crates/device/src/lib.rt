@@ -46,6 +46,9 @@ pub fn hear(device: &mut Device, line: &[u8], answer: &mut [u8]) -> Result<Optio
         result device.new answer.new }
 {
     let mut store = [0u8; LONGEST_FRAME];
-    let n = frame::decode(device.station.desk.limit, line, &mut store)?;
+    let handed = frame::decode(device.station.desk.limit, line, &mut store);
+    let Ok(n) = handed else {
+        return handed.and(Ok(None));
+    };
     judge(device, &store[..n], answer)
 }
