@@ -112,6 +112,12 @@ fn closing(receiver: Receiver) -> bool
     receiver.seen && receiver.any
 }
 
+fn told(taken: usize, handed: Option<Result<usize, Refusal>>) -> Received
+    ensures { result ≡ record { taken = taken; handed = handed } }
+{
+    Received { taken, handed }
+}
+
 // Works through the run: up to and with the first flag that hands something out, or to its end. Most octets stand for
 // themselves: those are copied as many at once as there are.
 // By a place: a turn takes one octet or a whole copied run, and the answer tells the place; an iterator is no plainer.
@@ -136,10 +142,7 @@ fn listen(
             if closing(*receiver) {
                 let handed = close(limit, *receiver, store, out);
                 *receiver = opened();
-                return Received {
-                    taken: at,
-                    handed: Some(handed),
-                };
+                return told(at, Some(handed));
             }
             *receiver = opened();
         } else if !receiver.seen {
@@ -167,10 +170,7 @@ fn listen(
             }
         }
     }
-    Received {
-        taken: at,
-        handed: None,
-    }
+    told(at, None)
 }
 
 // As `receive`, over a store that is part of something larger: any other number of places is no receiver's.

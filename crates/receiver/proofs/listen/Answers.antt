@@ -23,7 +23,7 @@ pub returns-then-closing : goal.returns-then-closing
 returns-then-closing c =
     let loop = c.loop-at in
     let some = sym c.closing.ensures ∙ c.if-closing.true in
-    rw c.opened.ensures
+    rw (c.told.ensures, c.opened.ensures)
     (flag-closes _ _ _ _ _ loop.invariant.0 c.loop-at-test.true
     c.if-b-eq-FLAG.true some
     (rw loop.invariant.1 at c.close-handed.ensures))
@@ -111,4 +111,4 @@ shape_of-out c = ap length c.loop-at.invariant.1
 pub returns : goal.returns
 returns c =
     let loop = c.loop-at in
-    rw loop.invariant.1 (all-taken _ _ _ _ _ loop.invariant.0 c.loop-at-test.false)
+    rw (c.told-2.ensures, loop.invariant.1) (all-taken _ _ _ _ _ loop.invariant.0 c.loop-at-test.false)
