@@ -4,7 +4,7 @@ use mathlib.Core.Bool.{Bool, true, false, not, beq}
 use mathlib.Core.List.{List, [], ◌∷◌}
 use mathlib.Core.Logic.{◌↔◌}
 use native.Mathlib.Omega.{arith}
-use lib.ListN.{length}
+use lib.ListN.{length, get_or}
 use lib.Pointwise.{pointwise}
 use Rattle.octets.proofs.Words.{true-not-false}
 use Rattle.antenna.specs.Alarms.{any_differ}
@@ -19,6 +19,19 @@ apart_differ (true ∷ fs) (true ∷ gs) h = apart_differ fs gs (omega arith)
 apart_differ (true ∷ fs) (false ∷ gs) h = refl
 apart_differ (false ∷ fs) (true ∷ gs) h = refl
 apart_differ (false ∷ fs) (false ∷ gs) h = apart_differ fs gs (omega arith)
+
+-- and that against the six flags by their places
+pub apart_places : (f g : List Bool) → length f ≡ 6 → length g ≡ 6
+    → not (pointwise beq f (get_or g 0 false ∷ get_or g 1 false ∷ get_or g 2 false ∷ get_or g 3 false ∷ get_or g 4 false ∷ get_or g 5 false ∷ []))
+    ≡ any_differ f g
+apart_places f [] h k = absurd (omega arith)
+apart_places f (p ∷ []) h k = absurd (omega arith)
+apart_places f (p ∷ q ∷ []) h k = absurd (omega arith)
+apart_places f (p ∷ q ∷ r ∷ []) h k = absurd (omega arith)
+apart_places f (p ∷ q ∷ r ∷ s ∷ []) h k = absurd (omega arith)
+apart_places f (p ∷ q ∷ r ∷ s ∷ t ∷ []) h k = absurd (omega arith)
+apart_places f (p ∷ q ∷ r ∷ s ∷ t ∷ u ∷ []) h k = apart_differ f (p ∷ q ∷ r ∷ s ∷ t ∷ u ∷ []) (omega arith)
+apart_places f (p ∷ q ∷ r ∷ s ∷ t ∷ u ∷ v ∷ g) h k = absurd (omega arith)
 
 same_none : (f : List Bool) → any_differ f f ≡ false
 unfolding any_differ

@@ -3,7 +3,7 @@ use Rattle.std.proofs.Common.{Result, Ok, Err, IfOk}
 use Rattle.refusal.specs.declared.Refusal.{Refusal}
 use mathlib.Core.Path.{◌≡◌, refl, sym, ap, ap₂, ◌∙◌}
 use mathlib.Core.Bool.{Bool, true, false, cond, ◌&&◌}
-use mathlib.Core.List.{List, [], ◌∷◌, map}
+use mathlib.Core.List.{List, [], ◌∷◌, ◌++◌, map}
 use mathlib.Core.Logic.{inl, inr}
 use Prim.Native.Nat.{ℕ, suc, ◌+◌, ◌-◌, ◌*◌, ◌/◌, ◌%◌, ◌≤◌, ◌<◌, min}
 use native.Mathlib.Omega.{arith}
@@ -14,16 +14,17 @@ use borrow.Author.Tests.{eq-eqb, ne_eqb}
 use Rattle.std.specs.Prelude.{Option, Some, None, unwrap_or, MatchOption}
 use lib.Pointwise.{pointwise}
 use denote.Ref.{Bor}
+use Rattle.std.proofs.lemmas.List.{take_min, drop_min}
 use Rattle.octets.specs.Octets.{last_of, place_of}
 use Rattle.octets.proofs.Rest.{rest}
-use Rattle.refusal.specs.Answer.{state_after, Hands}
+use Rattle.refusal.specs.Answer.{Answer, state_after, Hands}
 use Rattle.refusal.proofs.Answers.{hands-is}
 use Rattle.limits.specs.Limits.{limit_least}
 use Rattle.frame.specs.Decode.{decoded}
 use Rattle.frame.specs.Write.{written}
 use Rattle.receiver.specs.declared.Received.{Received}
 use Rattle.receiver.specs.Held.{Held}
-use Rattle.receiver.specs.Call.{received, held_by, Receives}
+use Rattle.receiver.specs.Call.{Took, received, held_by, told_by, took_by, out_by, Receives}
 use Rattle.scan.specs.declared.Scan.{Scan}
 use Rattle.scan.specs.Scan.{probed, reported}
 use Rattle.script.specs.declared.Asked.{Asked}
@@ -31,8 +32,11 @@ use Rattle.script.specs.Words.{spelled, first_of, behind_first, word_at}
 use Rattle.script.specs.Commands as command
 use Rattle.bus.specs.declared.Row.{Row}
 use Rattle.drives.specs.declared.Response.{Response}
-use Rattle.drives.specs.Drives.{After, Obeys, obeyed}
-use Rattle.bench.specs.Bench.{hex_in, value_in, lent_of, row_driven, scan_after}
+use Rattle.drives.specs.Drives.{After, Came, Obeys, obeyed}
+use Rattle.bench.specs.declared.Driven.{Driven}
+use Rattle.bench.specs.declared.ear.Ear.{Ear}
+use Rattle.bench.specs.Bench.{hex_in, value_in, lent_of, row_says, row_driven, scan_after}
+use Rattle.bench.specs.Said.{back_in, Drives, Calls}
 use Rattle.bench.specs.Bench.{fresh_ear, ear_call, ear_after}
 use Rattle.bench.specs.Bench.{is_decode, is_limited, limit_in, octet_in, coded, hands_out, room_at}
 use Rattle.bench.specs.Written.{digit_of, hexed}
@@ -174,12 +178,26 @@ module _ (c : ℕ) (s : Scan) (a : Asked) (room : ℕ) {o o' : List ℕ} {r : Re
 
 -- ---- the row
 
-pub driven-is : (c : ℕ) (row : Row) (a : Asked) {os o o' : List ℕ} {w : Row} {r : Response} → os ≡ hex_in a
-    → o ≡ lent_of (value_in a 3) → Obeys (obeyed c row a.values os o) w r o' → w ≡ row_driven c row a
+pub driven-said : (c : ℕ) (row : Row) (a : Asked) {os o' : List ℕ} {w : Row} {r : Response} {n : ℕ} → os ≡ hex_in a
+    → n ≡ min (value_in a 3) 600 → Obeys (obeyed c row a.values os (take n (replicate 600 0xA5))) w r o'
+    → Drives (row_says c row a) (value_in a 3) (record { row = w; answer = r; lent = o' ++ drop n (replicate 600 0xA5) })
+unfolding lent_of
+driven-said c row a {os} {o'} {w} {r} {n} e f h = record { after = h.after ∙ ap (λ (x : Came). x.after) same; lent = whole }
+  where
+    filled : take n (replicate 600 0xA5) ≡ lent_of (value_in a 3)
+    filled = rw f (take_min (value_in a 3) (replicate 600 0xA5))
+
+    same : obeyed c row a.values os (take n (replicate 600 0xA5)) ≡ row_says c row a
+    same = ap₂ (λ (os o : List ℕ). obeyed c row a.values os o) e filled
+
+    whole : o' ++ drop n (replicate 600 0xA5) ≡ back_in (value_in a 3) (row_says c row a).lent
+    whole =
+        ap₂ (λ (x y : List ℕ). x ++ y) (h.lent ∙ ap (λ (x : Came). x.lent) same)
+        (rw f (drop_min (value_in a 3) (replicate 600 0xA5)))
+
+pub driven-row : (c : ℕ) (row : Row) (a : Asked) {n : ℕ} {d : Driven} → Drives (row_says c row a) n d → d.row ≡ row_driven c row a
 unfolding row_driven
-driven-is c row a e f h =
-    ap (λ (x : After). x.row) h.after
-    ∙ ap₂ (λ (os o : List ℕ). (obeyed c row a.values os o).after.row) e f
+driven-row c row a h = ap (λ (x : After). x.row) h.after
 
 -- ---- the scan by hand
 
@@ -200,11 +218,30 @@ unfolding lent_of
 lent-room room h = omega (arith, h, length-take {A = ℕ} room (replicate 600 0xA5))
 
 -- "the octets are lent to the receiver, with .. an output of ROOM octets"
-pub ear-held : (h : Held) (a : Asked) {os o o' : List ℕ} {g : Held} {r : Result Received Refusal} → os ≡ hex_in a → o ≡ lent_of (value_in a 3)
-    → Receives (received (value_in a 1) h os (length o)) h o r g o' → g ≡ held_by (ear_call h a) h
-unfolding ear_call
-ear-held h a e f t =
-    t.held ∙ ap₂ (λ (os o : List ℕ). held_by (received (value_in a 1) h os (length o)) h) e f
+module _ (h : Held) (a : Asked) {os o' : List ℕ} {g : Held} {r : Result Received Refusal} {n : ℕ} (e : os ≡ hex_in a)
+    (f : n ≡ min (value_in a 3) 600)
+    (t : Receives (received (value_in a 1) h os (length {A = ℕ} (take n (replicate 600 0xA5)))) h (take n (replicate 600 0xA5)) r g o') where
+  filled : take n (replicate 600 0xA5) ≡ lent_of (value_in a 3)
+  unfolding lent_of
+  filled = rw f (take_min (value_in a 3) (replicate 600 0xA5))
+
+  same : received (value_in a 1) h os (length {A = ℕ} (take n (replicate 600 0xA5))) ≡ ear_call h a
+  unfolding ear_call
+  same = ap₂ (λ (os o : List ℕ). received (value_in a 1) h os (length o)) e filled
+
+  pub ear-held : g ≡ held_by (ear_call h a) h
+  ear-held = t.held ∙ ap (λ (x : Answer Took). held_by x h) same
+
+  pub ear-said : (ear : Ear) → Calls (ear_call h a) (value_in a 3)
+      (record { ear = ear; heard = r; lent = o' ++ drop n (replicate 600 0xA5) })
+  ear-said ear = record {
+    answer = t.answer ∙ ap told_by same;
+    count = t.count ∙ ap took_by same;
+    lent =
+        ap₂ (λ (x y : List ℕ). x ++ y)
+        (t.octets ∙ ap₂ (λ (x : Answer Took) (o : List ℕ). out_by x o) same filled)
+        (rw f (drop_min (value_in a 3) (replicate 600 0xA5)));
+  }
 
 module _ (c : ℕ) (h : Held) (a : Asked) where
   pub ear-fresh : c ≡ command.listen → fresh_ear ≡ ear_after c h a

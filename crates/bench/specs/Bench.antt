@@ -4,7 +4,8 @@
 --   hex_in a           == the octets of the HEX words of a; value_in a n == what its word n stands for
 --   lent_of room       == a lent output of so many octets
 --   is_driven c        == the command c is to the row or to one of its devices
---   row_driven c row a == the row after such a command; row_after c row a == after any
+--   row_says c row a   == the row, the answer and the lent output after such a command; row_driven c row a == the row alone;
+--                         row_after c row a == the row after any
 --   scan_after c s v   == the scan by hand after any command with the value v
 --   ear_of e           == the receiver's record and store in e; fresh_ear == before any octet
 --   ear_call h a       == the answer to one call; ear_after c h a == the receiver after any command
@@ -27,7 +28,7 @@ use Rattle.script.specs.declared.Asked.{Asked}
 use Rattle.script.specs.Commands as command
 use Rattle.bus.specs.declared.Row.{Row}
 use Rattle.bus.specs.Cable.{row_most}
-use Rattle.drives.specs.Drives.{for_device, obeyed}
+use Rattle.drives.specs.Drives.{Came, for_device, obeyed}
 use Rattle.mast.specs.Mast.{swept}
 use Rattle.bench.specs.declared.ear.Ear.{Ear}
 
@@ -45,8 +46,11 @@ hex_in a = take a.len a.octets
 unfoldable pub lent_of : ℕ → List ℕ
 lent_of room = take room (replicate 600 0xA5)
 
+abbrev pub row_says : ℕ → Row → Asked → Came
+row_says c row a = obeyed c row a.values (hex_in a) (lent_of (value_in a 3))
+
 unfoldable pub row_driven : ℕ → Row → Asked → Row
-row_driven c row a = (obeyed c row a.values (hex_in a) (lent_of (value_in a 3))).after.row
+row_driven c row a = (row_says c row a).after.row
 
 -- the commands for one device, and `device`
 unfoldable pub is_driven : ℕ → Bool

@@ -1,4 +1,5 @@
 -- What the bench does with a line, beside what it writes.
 pub mod Bench
+pub mod Said
 pub mod Written
 pub mod Input

@@ -1,10 +1,11 @@
 // `listen` and `octets`: the bench's one receiver of the live line. Assumes nothing of the caller.
 ghost use Rattle.std.specs.Prelude.{◌≡◌, IfOk};
 ghost use Rattle.receiver.specs.Call.{held_by};
-ghost use Rattle.bench.specs.Bench.{ear_of, fresh_ear, ear_call, ear_after};
+ghost use Rattle.bench.specs.Bench.{value_in, ear_of, fresh_ear, ear_call, ear_after};
+ghost use Rattle.bench.specs.Said.{Calls};
 
+use crate::answers;
 use crate::answers::{FILL, ROOM};
-use crate::{answers, rows};
 use receiver::{PLACES, Received, Receiver};
 use refusal::Refusal;
 use script::Asked;
@@ -63,20 +64,16 @@ struct Called {
 
 // One call; octets that it did not take are forgotten.
 fn call(ear: Ear, asked: Asked) -> Called
-    ensures { ear_of result.ear ≡ held_by (ear_call (ear_of ear) asked) (ear_of ear) }
+    ensures ear { ear_of result.ear ≡ held_by (ear_call (ear_of ear) asked) (ear_of ear) }
+    ensures said { Calls (ear_call (ear_of ear) asked) (value_in asked 3) result }
 {
     let mut receiver = ear.receiver;
     let mut store = ear.store;
     let values = asked.values;
     let mut lent = [FILL; ROOM];
     let run = octets::part(&asked.octets, 0, asked.len as usize);
-    let heard = receiver::receive(
-        &mut receiver,
-        values[1],
-        run,
-        &mut store,
-        rows::front(&mut lent, values[3]),
-    );
+    let room = values[3].min(ROOM);
+    let heard = receiver::receive(&mut receiver, values[1], run, &mut store, &mut lent[..room]);
     Called {
         ear: Ear { receiver, store },
         heard,

@@ -17,7 +17,8 @@ mod scans;
 mod shown;
 
 ghost use Rattle.std.specs.Prelude.{◌≡◌, IfOk};
-ghost use Rattle.bench.specs.Bench.{no_devices, is_driven, row_driven, row_after};
+ghost use Rattle.bench.specs.Bench.{value_in, no_devices, is_driven, row_says, row_driven, row_after};
+ghost use Rattle.bench.specs.Said.{Drives};
 
 use bus::{MOST, Row};
 use drives::Response;
@@ -69,14 +70,15 @@ struct Driven {
 
 // The commands of `drives`: to a device, and `device`.
 fn drive(row: Row, asked: Asked) -> Driven
-    ensures { result.row ≡ row_driven asked.command row asked }
+    ensures row { result.row ≡ row_driven asked.command row asked }
+    ensures said { Drives (row_says asked.command row asked) (value_in asked 3) result }
 {
     let values = asked.values;
     let mut lent = [answers::FILL; answers::ROOM];
     let hex = octets::part(&asked.octets, 0, asked.len as usize);
-    let front = rows::front(&mut lent, values[3]);
+    let room = values[3].min(answers::ROOM);
     let mut row = row;
-    let answer = drives::obey(&mut row, asked.command, values, hex, front);
+    let answer = drives::obey(&mut row, asked.command, values, hex, &mut lent[..room]);
     Driven { row, answer, lent }
 }
 

@@ -16,7 +16,7 @@ use Rattle.refusal.specs.declared.Refusal.{Refusal}
 use Rattle.receiver.specs.declared.Receiver.{Receiver}
 use Rattle.receiver.specs.declared.Received.{Received}
 use Rattle.receiver.specs.Held.{Held, held_of, places}
-use Rattle.receiver.specs.Call.{Took, heard_of, count_of, told_by, took_by, out_by}
+use Rattle.receiver.specs.Call.{Took, heard_of, code_took, told_by, took_by, out_by}
 
 abbrev pub marks_size : ℕ
 marks_size = 7
@@ -63,6 +63,6 @@ block_after (refuses k) b = b
 -- as `Receives` of receiver/specs/Call, with the block for the record
 pub record Blocks (right : Answer Took) (b o : List ℕ) (r : Result Received Refusal) (b' o' : List ℕ) : Type 0 where
   pub answer : heard_of r ≡ told_by right
-  pub count : count_of r ≡ took_by right
+  pub count : code_took r ≡ took_by right
   pub block : b' ≡ block_after right b
   pub octets : o' ≡ out_by right o

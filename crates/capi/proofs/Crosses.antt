@@ -12,7 +12,7 @@ use Rattle.refusal.specs.Numbers.{number_of}
 use Rattle.refusal.specs.Answer.{Answer, gives, refuses, answer_of, counted, out_after, Hands}
 use Rattle.refusal.specs.declared.Refusal.{Refusal}
 use Rattle.refusal.proofs.Answers.{gives-not-refuses}
-use Rattle.receiver.specs.Call.{Took, handed_of, heard_of, count_of, told_by, took_by}
+use Rattle.receiver.specs.Call.{Took, handed_of, heard_of, code_took, told_by, took_by}
 use Rattle.receiver.specs.declared.Received.{Received}
 use Rattle.block.specs.Block.{Blocks}
 use Rattle.capi.specs.Crossing.{refusals, crossed, Crosses, heard_crossed, taken_after, Hears}
@@ -48,7 +48,7 @@ module _ {o o' : List ℕ} {r : ℕ} where
 -- the code's answer to a call of the receiver, by its cases: nothing was handed out, or something, or the call is refused
 module _ {b o b' o' : List ℕ} {t : ℕ} where
   pub hears-none : (x : Answer Took) {w : Received} → Blocks x b o (Ok w) b' o' → w.handed ≡ None → Hears x b o t 0 b' o' w.taken
-  unfolding heard_crossed heard_of handed_of count_of told_by took_by taken_after
+  unfolding heard_crossed heard_of handed_of code_took told_by took_by taken_after
   hears-none (gives u) c e =
       record {
         number = ap (λ (h : Option (Result ℕ Refusal)). heard_crossed (gives (handed_of h))) (sym e) ∙ ap heard_crossed c.answer;
@@ -60,7 +60,7 @@ module _ {b o b' o' : List ℕ} {t : ℕ} where
 
   pub hears-handed : (x : Answer Took) {w : Received} {a : Result ℕ Refusal} {r : ℕ} → Blocks x b o (Ok w) b' o' → w.handed ≡ Some a
       → r ≡ crossed (answer_of a) → Hears x b o t r b' o' w.taken
-  unfolding heard_crossed heard_of handed_of count_of told_by took_by taken_after
+  unfolding heard_crossed heard_of handed_of code_took told_by took_by taken_after
   hears-handed (gives u) c e f =
       record {
         number = f ∙ ap (λ (h : Option (Result ℕ Refusal)). heard_crossed (gives (handed_of h))) (sym e) ∙ ap heard_crossed c.answer;

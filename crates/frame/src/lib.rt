@@ -107,6 +107,8 @@ fn decode_in<const PLACES: usize>(
 // Decodes what lies between two flags, with the frame limit `limit`: address, control and payload to the start of `out`.
 // More octets than a line has stand for more than its limit, so that a store has room for what is left, and no octet asks
 // for it.
+// Inlined: else no caller's limit is a constant there, and each pays for the long store's stack.
+#[inline(always)]
 pub fn decode(limit: usize, src: &[u8], out: &mut [u8]) -> Result<usize, Refusal>
     ensures { Hands (decoded limit src.now (length out.old))
         out.old result out.new }

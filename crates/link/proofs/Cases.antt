@@ -21,7 +21,7 @@ use Rattle.record.specs.Allowed.{identity_of, limit_of}
 use Rattle.record.specs.Changes.{ended_as, limited_to}
 use Rattle.control.specs.declared.AskedFor.{AskedFor}
 use Rattle.std.specs.Prelude.{Ok, Err}
-use Rattle.negotiation.specs.Negotiation.{Offer, agrees_on, offer_of}
+use Rattle.negotiation.specs.Negotiation.{OfferRead, agrees_on, offer_of}
 use Rattle.negotiation.proofs.Exactly.{offer-malformed}
 use Rattle.session.specs.Session.{good_number}
 use Rattle.xid.specs.Match.{read_of}
@@ -180,7 +180,7 @@ module _ (d : Device) (f : List ℕ) (P : Turn → Type 0)
   linked-cases o w AddressAssigned e = assigned-cases o w e
   linked-cases o w (Connected s) e = connected-cases s o w e
 
-  offer-cases : OwnXid d f → (x : Offer) → offer_of (limit_of d) (drop 2 f) ≡ x → P (agreed_by d x)
+  offer-cases : OwnXid d f → (x : OfferRead) → offer_of (limit_of d) (drop 2 f) ≡ x → P (agreed_by d x)
   unfolding agreed_by
   offer-cases w (Err x) e =
       silent

@@ -19,7 +19,7 @@ use Rattle.record.specs.declared.Link.TheVariants.{NoAddress, AddressAssigned, C
 use Rattle.record.specs.declared.Device.{Device}
 use Rattle.record.specs.Allowed.{identity_of, limit_of}
 use Rattle.record.specs.Changes.{ended_as, limited_to}
-use Rattle.negotiation.specs.Negotiation.{Offer, offer_of}
+use Rattle.negotiation.specs.Negotiation.{OfferRead, offer_of}
 use Rattle.xid.specs.Match.{read_of}
 use Rattle.xid.specs.declared.Xid as xids
 use Rattle.station.specs.declared.Say.{Say}
@@ -51,7 +51,7 @@ has_address (Connected s) = true
 
 -- 02 (iv): "the device answers with its own limit where that is lower"; "'own address, XID: silence' now holds for other
 -- groups and malformed ones"
-unfoldable pub agreed_by : Device → Offer → Turn
+unfoldable pub agreed_by : Device → OfferRead → Turn
 agreed_by d (Err e) = mute d
 agreed_by d (Ok x) = saying (limited_to d x.limit) (Say.Negotiated x.asked)
 

@@ -29,7 +29,7 @@ use Rattle.frame.specs.Decode.{body, right_check, decode_rows}
 use Rattle.frame.proofs.Checks.{split-two, check-exactly}
 use Rattle.receiver.specs.Held.{Held, Usable, places, after_flag, after_octet, closes, stretch_says}
 use Rattle.receiver.specs.Call.{Told, nothing, handed, Took, further, takes, receive_rows, received}
-use Rattle.receiver.specs.Call.{handed_of, heard_of, count_of, told_counted, told_by, took_by, held_by, out_told, out_by, Receives}
+use Rattle.receiver.specs.Call.{handed_of, heard_of, code_took, told_counted, told_by, took_by, held_by, out_told, out_by, Receives}
 use Rattle.receiver.proofs.After.{by-test}
 use Rattle.receiver.proofs.Refusals.{in_order}
 use Rattle.receiver.proofs.Only.{nothing-not-handed}
@@ -355,7 +355,7 @@ module _ (N : ℕ) (h : Held) (s o : List ℕ) (g : Held) (o' : List ℕ) where
 module _ (N : ℕ) (h : Held) (s o : List ℕ) {g : Held} {o' : List ℕ} where
   pub receives-tells : {r : Result Received Refusal} → Receives (received N h s (length o)) h o r g o'
       → CallTells (received N h s (length o)) h s o r g o'
-  unfolding heard_of count_of told_by took_by held_by out_by
+  unfolding heard_of code_took told_by took_by held_by out_by
   receives-tells {r} = go (received N h s (length o)) r refl
     where
       go : (x : Answer Took) (r : Result Received Refusal) → received N h s (length o) ≡ x → Receives x h o r g o' → CallTells x h s o r g o'
@@ -368,14 +368,14 @@ module _ (N : ℕ) (h : Held) (s o : List ℕ) {g : Held} {o' : List ℕ} where
   -- what a caller reads, how far it goes on, and with which record
   pub call-reads : {r : Result Received Refusal} → Receives (received N h s (length o)) h o r g o'
       → (read_out r o' ≡ outs_by (received N h s (length o)))
-      × (count_of r ≡ took_by (received N h s (length o)))
+      × (code_took r ≡ took_by (received N h s (length o)))
       × (g ≡ held_by (received N h s (length o)) h)
   call-reads {r} w =
       (read-tells N h s o g o' (received N h s (length o)) r (receives-tells w), w.count, w.held)
 
   -- a call that is not refused and has octets takes at least one, and no more than it was lent
   pub call-takes : is_limit N ≡ true → Usable h → frame_most N ≤ length o → {r : Result Received Refusal}
-      → Receives (received N h s (length o)) h o r g o' → (0 < length s → 0 < count_of r) × (count_of r ≤ length s)
+      → Receives (received N h s (length o)) h o r g o' → (0 < length s → 0 < code_took r) × (code_took r ≤ length s)
   unfolding took_by
   call-takes l u fits w =
       let count = w.count ∙ ap took_by (not-refused N h s (length o) l u fits) in (

@@ -8,7 +8,7 @@ use lib.ListN.{length, take, drop}
 use Rattle.refusal.specs.Answer.{Answer}
 use Rattle.limits.specs.Limits.{is_limit}
 use Rattle.receiver.specs.Held.{Held, Usable, places}
-use Rattle.receiver.specs.Call.{Took, received, count_of}
+use Rattle.receiver.specs.Call.{Took, received, code_took}
 use Rattle.live.specs.Stretches.{heard_line}
 use Rattle.live.specs.Calls.{after_all, Worked, outs_by, with_outs, offers, Roomy}
 use Rattle.live.specs.Calls.{read_out, Round, played, Kept, round_offers}
@@ -27,7 +27,7 @@ module _ (N : ℕ) where
   played-offers h s (c ∷ cs) kept =
       let x : Answer Took = received N h (take c.octets s) (length c.output) in
       let (read, count, held) = call-reads N h (take c.octets s) c.output kept.0 in
-      let rest : List ℕ = drop (count_of c.answer) s in
+      let rest : List ℕ = drop (code_took c.answer) s in
       let more : Held → List ℕ → Worked = λ f q. offers N f q (round_offers cs) in
       ap (with_outs (read_out c.answer c.after)) (played-offers c.held rest cs kept.1)
       ∙ ap (λ (l : List (Answer (List ℕ))). with_outs l (more c.held rest)) read

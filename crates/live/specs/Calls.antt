@@ -26,7 +26,7 @@ use Rattle.refusal.specs.declared.Refusal.{Refusal}
 use Rattle.limits.specs.Limits.{frame_most}
 use Rattle.receiver.specs.Held.{Held, after_octet, closes, stretch_says}
 use Rattle.receiver.specs.declared.Received.{Received}
-use Rattle.receiver.specs.Call.{Told, nothing, handed, Took, received, count_of, took_by, held_by, Receives}
+use Rattle.receiver.specs.Call.{Told, nothing, handed, Took, received, code_took, took_by, held_by, Receives}
 
 unfoldable pub after_all : Held → List ℕ → Held
 after_all h [] = h
@@ -126,13 +126,13 @@ pub record Round : Type 0 where
 unfoldable pub played : Held → List ℕ → List Round → Worked
 played h s [] = record { held = h; left = s; outs = [] }
 played h s (c ∷ cs) =
-    with_outs (read_out c.answer c.after) (played c.held (drop (count_of c.answer) s) cs)
+    with_outs (read_out c.answer c.after) (played c.held (drop (code_took c.answer) s) cs)
 
 unfoldable pub Kept : ℕ → Held → List ℕ → List Round → Type 0
 Kept N h s [] = Unit {0}
 Kept N h s (c ∷ cs) =
     Receives (received N h (take c.octets s) (length c.output)) h c.output c.answer c.held c.after
-    × Kept N c.held (drop (count_of c.answer) s) cs
+    × Kept N c.held (drop (code_took c.answer) s) cs
 
 unfoldable pub round_offers : List Round → List Offer
 round_offers [] = []

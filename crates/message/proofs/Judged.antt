@@ -21,7 +21,7 @@ use Rattle.message.specs.declared.Procedure.{Procedure}
 use Rattle.message.specs.declared.ReturnCode.{ReturnCode}
 use Rattle.message.specs.declared.Carried.{Carried}
 use Rattle.message.specs.Messages.{code_of, asked_of, own_checks, drive_checks, checks, check_number, code_for, code_number}
-use Rattle.message.specs.Carried.{unanswered, answer_of, done_by, carried_of}
+use Rattle.message.specs.Carried.{unanswered, carried_answer, done_by, carried_of}
 
 -- rows before others: where none of them holds the others decide, and where one does its number is given
 module _ {A : Type 0} (more : List TestRow) (a : A) where
@@ -54,22 +54,22 @@ module _ (n : Antenna) (told : Alarms) (sub : Bool) (p : Plate) (t : Angle) wher
   -- in the words of the code: a refusal is told by its return code, and a movement that starts has none
   pub refused-is : {why : Unaimed} {x : Antenna} (r : Result Carried ReturnCode) → Aims (aimed_at n t) n (Err why) x
       → IsErrAnd r (λ e. aim_number (Err why) ≡ refuses (code_number e))
-      → answer_of r ≡ answered (drive_checks n 0x33 t) (done_by p n told sub 0x33 t)
-  unfolding answer_of
+      → carried_answer r ≡ answered (drive_checks n 0x33 t) (done_by p n told sub 0x33 t)
+  unfolding carried_answer
   refused-is (Ok d) a w = absurd w
   refused-is (Err e) a w = sym (set-refused (refused-told a refl w))
 
   pub started-is : {u : Unit {0}} {x : Antenna} {d : Carried} → Aims (aimed_at n t) n (Ok u) x → d ≡ unanswered x told sub
-      → answer_of (Ok d) ≡ answered (drive_checks n 0x33 t) (done_by p n told sub 0x33 t)
-  unfolding answer_of
+      → carried_answer (Ok d) ≡ answered (drive_checks n 0x33 t) (done_by p n told sub 0x33 t)
+  unfolding carried_answer
   started-is a e = ap gives e ∙ sym (set-started (started-told a refl))
 
 -- a message's own checks, by what the code says of them, and then the drive's
 module _ (n : Antenna) (told : Alarms) (sub : Bool) (p : Plate) (m : List ℕ) where
   pub attempt-failed : (why : ReturnCode) (r : Result Carried ReturnCode)
       → check_number (Err why) ≡ answered (own_checks m) tt → IsErrAnd r (λ e. e ≡ why)
-      → answer_of r ≡ answered (checks n m) (done_by p n told sub (code_of m) (asked_of m))
-  unfolding checks check_number answer_of
+      → carried_answer r ≡ answered (checks n m) (done_by p n told sub (code_of m) (asked_of m))
+  unfolding checks check_number carried_answer
   attempt-failed why (Ok d) own w = absurd w
   attempt-failed why (Err e) own w = rw w (sym (failed-on _ _ (own_checks m) (sym own)))
 

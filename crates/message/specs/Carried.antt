@@ -5,7 +5,7 @@
 --   payload_in c           == the payload of the answer in c; nothing lies in it where there is none
 --   quieted n              == the antenna n with no alarm raised
 --   done_by p n told sub c t == what the table says of the code c, whose data asks the tilt t, where no check fails
---   answer_of r            == the paper's return code, or what is done, for each case of the code's answer
+--   carried_answer r       == the paper's return code, or what is done, for each case of the code's answer
 --   outcome n told sub c x == what comes of the checks' answer x
 --   carried_of p n told sub m == the message m, carried out by a device with the plate p
 -- Assumes nothing.
@@ -59,9 +59,9 @@ done_by p n told sub c t =
     (cond (eqb c 0x34) (replies (success_of 0x34 (tilt_octets n.drive.tilt)) n told sub) (unanswered n told sub))))))
 
 -- what is done has no return code
-unfoldable pub answer_of : Result Carried ReturnCode → Answer Carried
-answer_of (Ok done) = gives done
-answer_of (Err why) = refuses (code_number why)
+unfoldable pub carried_answer : Result Carried ReturnCode → Answer Carried
+carried_answer (Ok done) = gives done
+carried_answer (Err why) = refuses (code_number why)
 
 -- "A failure answers code, 2, 0, 0x0B, return code."
 unfoldable pub outcome : Antenna → Alarms → Bool → ℕ → Answer Carried → Carried

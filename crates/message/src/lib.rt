@@ -12,7 +12,7 @@ ghost use Rattle.antenna.specs.Motions.{aim_number};
 ghost use Rattle.record.specs.declared.Plate.{Plate};
 ghost use Rattle.message.specs.Messages.{unsupported, asked_of, own_checks, check_number, drive_checks};
 ghost use Rattle.message.specs.Messages.{checks, code_of, table, taken_by, code_for, code_number, Named};
-ghost use Rattle.message.specs.Carried.{replied_of, unanswered, quieted, answer_of, done_by, carried_of};
+ghost use Rattle.message.specs.Carried.{replied_of, unanswered, quieted, carried_answer, done_by, carried_of};
 
 use antenna::{Alarms, Angle, Antenna, Unaimed};
 use record::{Payload, Plate};
@@ -205,7 +205,7 @@ fn quiet(mut antenna: Antenna) -> Antenna
 }
 
 fn set_tilt(heeded: Heeded, t: Angle) -> Result<Carried, ReturnCode>
-    ensures { (p : Plate) → answer_of result
+    ensures { (p : Plate) → carried_answer result
         ≡ answered (drive_checks heeded.antenna 0x33 t) (done_by p heeded.antenna heeded.told heeded.subscribed 0x33 t) }
 {
     let mut antenna = heeded.antenna;
@@ -213,9 +213,9 @@ fn set_tilt(heeded: Heeded, t: Angle) -> Result<Carried, ReturnCode>
     Ok(Heeded { antenna, ..heeded }.silent())
 }
 
-#[tactic(auto, unfolding(crate::specs::Messages::drive_checks, crate::specs::Carried::done_by, crate::specs::Carried::answer_of, crate::specs::Carried::replies, crate::specs::Messages::code_number, refusal::specs::Answer::answered))]
+#[tactic(auto, unfolding(crate::specs::Messages::drive_checks, crate::specs::Carried::done_by, crate::specs::Carried::carried_answer, crate::specs::Carried::replies, crate::specs::Messages::code_number, refusal::specs::Answer::answered))]
 fn get_tilt(heeded: Heeded) -> Result<Carried, ReturnCode>
-    ensures { (p : Plate) (t : Angle) → answer_of result
+    ensures { (p : Plate) (t : Angle) → carried_answer result
         ≡ answered (drive_checks heeded.antenna 0x34 t) (done_by p heeded.antenna heeded.told heeded.subscribed 0x34 t) }
 {
     if antenna::busy(heeded.antenna.motion) {
@@ -225,14 +225,14 @@ fn get_tilt(heeded: Heeded) -> Result<Carried, ReturnCode>
 }
 
 // What the table says of a procedure, if the drive lets it.
-#[tactic(auto, unfolding(crate::specs::Messages::drive_checks, crate::specs::Messages::code_for, crate::specs::Carried::done_by, crate::specs::Carried::answer_of, crate::specs::Carried::replies, refusal::specs::Answer::answered))]
+#[tactic(auto, unfolding(crate::specs::Messages::drive_checks, crate::specs::Messages::code_for, crate::specs::Carried::done_by, crate::specs::Carried::carried_answer, crate::specs::Carried::replies, refusal::specs::Answer::answered))]
 fn perform(
     plate: Plate,
     heeded: Heeded,
     procedure: Procedure,
     t: Angle,
 ) -> Result<Carried, ReturnCode>
-    ensures { answer_of result ≡ answered (drive_checks heeded.antenna (code_for procedure) t)
+    ensures { carried_answer result ≡ answered (drive_checks heeded.antenna (code_for procedure) t)
         (done_by plate heeded.antenna heeded.told heeded.subscribed (code_for procedure) t) }
 {
     match procedure {
@@ -261,7 +261,7 @@ fn perform(
 // A message of 3 octets or more: what it asks is done, or its return code.
 fn attempt(plate: Plate, heeded: Heeded, m: &[u8]) -> Result<Carried, ReturnCode>
     requires { 3 ≤ length m.now }
-    ensures { answer_of result ≡ answered (checks heeded.antenna m.now)
+    ensures { carried_answer result ≡ answered (checks heeded.antenna m.now)
         (done_by plate heeded.antenna heeded.told heeded.subscribed (code_of m.now) (asked_of m.now)) }
 {
     let procedure = checked(m)?;
@@ -269,7 +269,7 @@ fn attempt(plate: Plate, heeded: Heeded, m: &[u8]) -> Result<Carried, ReturnCode
 }
 
 // A message is checked and carried out.
-#[tactic(auto, unfolding(crate::specs::Carried::carried_of, crate::specs::Carried::answer_of, crate::specs::Carried::outcome, crate::specs::Carried::replies))]
+#[tactic(auto, unfolding(crate::specs::Carried::carried_of, crate::specs::Carried::carried_answer, crate::specs::Carried::outcome, crate::specs::Carried::replies))]
 pub fn carry(plate: Plate, antenna: Antenna, told: Alarms, subscribed: bool, m: &[u8]) -> Carried
     ensures { result ≡ carried_of plate antenna told subscribed m.now }
 {

@@ -9,11 +9,11 @@ use Rattle.params.specs.Field.{opened, triples_after, before, checked, all_right
 use Rattle.params.specs.Field.{none_twice, params_of, value_for, given}
 use Rattle.control.specs.declared.AskedFor.{AskedFor}
 use Rattle.negotiation.specs.Negotiation.{bits_from, smaller_of, limit_for, limit_asked, agreed_limit, asked_in}
-use Rattle.negotiation.specs.Negotiation.{Offer, agrees_on, no_offer, offered, offer_of}
+use Rattle.negotiation.specs.Negotiation.{OfferRead, agrees_on, no_offer, offered, offer_of}
 
 infix 70 ◌gets◌
 pub data Row : Type 0 where
-  ◌gets◌ : List ℕ → Offer → Row
+  ◌gets◌ : List ℕ → OfferRead → Row
 
 -- which of 5, 6, 7 and 8 are asked
 abbrev pub asks : Bool → Bool → Bool → Bool → AskedFor

@@ -8,7 +8,7 @@
 --   limit_asked N b == the frame limit after N where the length b is asked, or none
 --   agreed_limit N ps == the frame limit after N by the parameters ps
 --   asked_in ps     == which identifiers ps have
---   Offer           == what a payload comes to: agrees_on N a == the frame limit N, where a was asked; no_offer == it
+--   OfferRead       == what a payload comes to: agrees_on N a == the frame limit N, where a was asked; no_offer == it
 --                      is no negotiation
 --   offered N x     == what comes of the parameters x, where there are such; offer_of N m == of the payload m
 -- Assumes nothing.
@@ -89,19 +89,19 @@ asked_in ps =
       receiving = given (value_for receiving_id ps);
     }
 
-abbrev pub Offer : Type 0
-Offer = Result Agreed Malformed
+abbrev pub OfferRead : Type 0
+OfferRead = Result Agreed Malformed
 
-abbrev pub agrees_on : ℕ → AskedFor → Offer
+abbrev pub agrees_on : ℕ → AskedFor → OfferRead
 agrees_on N a = Ok (record { limit = N; asked = a })
 
-abbrev pub no_offer : Offer
+abbrev pub no_offer : OfferRead
 no_offer = Err (record {})
 
 -- "'own address, XID: silence' now holds for other groups and malformed ones"
-unfoldable pub offered : ℕ → Option (List Param) → Offer
+unfoldable pub offered : ℕ → Option (List Param) → OfferRead
 offered N none = no_offer
 offered N (some ps) = agrees_on (agreed_limit N ps) (asked_in ps)
 
-unfoldable pub offer_of : ℕ → List ℕ → Offer
+unfoldable pub offer_of : ℕ → List ℕ → OfferRead
 offer_of N m = offered N (params_of negotiating m)

@@ -29,9 +29,11 @@ pub fn fewer(a: usize, b: usize) -> usize
 pub fn put_all(out: &mut [u8], at: usize, s: &[u8])
     ensures { out.new ≡ sets out.old at s.now }
 {
-    let start = at.min(out.len());
-    let count = s.len().min(out.len() - start);
-    out[start..start + count].copy_from_slice(&s[..count]);
+    let count = s.len().min(out.len().saturating_sub(at));
+    // By an index: copied as one run, the archive for C would ask for memmove, which a small board's C library may not have.
+    for i in 0..count {
+        out[at + i] = s[i];
+    }
 }
 
 // The place of the first `octet` in `s`; its length where there is none.

@@ -10,7 +10,7 @@ use native.Mathlib.Omega.{arith}
 use lib.ListN.{length, get_or, set, take, drop, drop_of_length-le, length-drop}
 use lib.Seq.{drop-drop, length-take-le}
 use Rattle.octets.proofs.Rest.{rest}
-use Rattle.reader.specs.Read.{end, broken, triple}
+use Rattle.reader.specs.Read.{end, cut_short, triple}
 use Rattle.reader.proofs.Steps.{Means, next-two}
 use Rattle.params.specs.Field.{Param, ◌is◌, before, triples_after, triples_of}
 use Rattle.params.specs.Walk.{place_in, Part, part, Found, unformed}
@@ -35,7 +35,7 @@ module _ (m : List ℕ) (at : ℕ) where
   unfolding triples_after
   triples-end h = rw (drop_of_length-le m h)
 
-  pub triples-broken : Means m at broken → triples_of (drop at m) ≡ none
+  pub triples-broken : Means m at cut_short → triples_of (drop at m) ≡ none
   unfolding triples_after before
   triples-broken h =
       ⊎_elim
@@ -77,7 +77,7 @@ module _ (t : List Identifier) (f : List Part) (m : List ℕ) (at : ℕ) {w : Fo
   unfolding kept_from kept
   turn_end h = rw (triples-end m at h) at v
 
-  pub turn-broken : Means m at broken → unformed ≡ w
+  pub turn-broken : Means m at cut_short → unformed ≡ w
   unfolding kept_from
   turn-broken h = rw (triples-broken m at h) at v
 

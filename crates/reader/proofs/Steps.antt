@@ -12,7 +12,7 @@ use lib.ListN.{length, get_or, drop, drop_of_length-le, length-drop}
 use lib.Seq.{get_or-drop}
 use Rattle.octets.proofs.Rest.{rest}
 use Rattle.std.specs.Prelude.{Some, None, Ok, Err}
-use Rattle.reader.specs.Read.{Stands, end, broken, triple, stands_in, stands_at, behind, step_at}
+use Rattle.reader.specs.Read.{Stands, end, cut_short, triple, stands_in, stands_at, behind, step_at}
 use Rattle.reader.specs.Read.{reader_of, next_in, reader_after}
 use Rattle.reader.specs.declared.Reader.{Reader}
 use Rattle.reader.specs.declared.Step.{Step}
@@ -23,7 +23,7 @@ module _ (s : List ℕ) (at : ℕ) where
   unfolding stands_at stands_in
   stands-end h = rw (drop_of_length-le s h)
 
-  pub stands_one : at < length s → length s - at < 2 → broken ≡ stands_at s at
+  pub stands_one : at < length s → length s - at < 2 → cut_short ≡ stands_at s at
   unfolding stands_at stands_in
   stands_one h k = rw (rest s at h, drop_of_length-le s {i = at + 1} (omega arith))
 
@@ -35,7 +35,7 @@ module _ (s : List ℕ) (at : ℕ) where
       (rest s (at + 1) (omega arith) ∙ ap (λ (j : ℕ). get_or s (at + 1) 0 ∷ drop j s) n)
 
   module _ (inside : at < length s) (two : 2 ≤ length s - at) (n : ℕ) (e : n ≡ get_or s (at + 1) 0) where
-    pub stands-short : length s - at - 2 < n → broken ≡ stands_at s at
+    pub stands-short : length s - at - 2 < n → cut_short ≡ stands_at s at
     unfolding stands_at stands_in
     stands-short h =
         let past = lt-leb n (length (drop (at + 2) s)) (rw length-drop (omega arith)) in
@@ -75,7 +75,7 @@ means m at = go (drop at m) refl
         second : k ≡ get_or m (at + 1) 0
         second = sym (ap (λ (l : List ℕ). get_or l 1 0) e) ∙ get_or-drop at m 1 0
 
-        fits : (b : Bool) → leb k (length xs) ≡ b → Means m at (cond b (triple n (at + 2) k) broken)
+        fits : (b : Bool) → leb k (length xs) ≡ b → Means m at (cond b (triple n (at + 2) k) cut_short)
         fits true f =
             let h = leb-true k (length xs) f in
             (omega (arith, long), first, refl, second)

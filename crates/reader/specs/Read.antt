@@ -1,5 +1,5 @@
 -- The parameter reader: the frame's slice and the cursor, a place in it.
---   Stands         == what may stand at a place: `end`, the end of the field; `broken`, less than a triple; `triple`
+--   Stands         == what may stand at a place: `end`, the end of the field; `cut_short`, less than a triple; `triple`
 --   stands_in at s == what stands at the place `at`, where the octets from there on are s
 --   stands_at s at == what stands at the place `at` of s
 --   behind at x    == the place behind what stands at `at`: behind a triple; the end, and less than a triple, stay
@@ -22,8 +22,8 @@ Stands = Result (Option Triple) Malformed
 abbrev pub end : Stands
 end = Ok None
 
-abbrev pub broken : Stands
-broken = Err (record {})
+abbrev pub cut_short : Stands
+cut_short = Err (record {})
 
 abbrev pub triple : ℕ → ℕ → ℕ → Stands
 triple n from len = Ok (Some (record { id = n; from = from; len = len }))
@@ -31,8 +31,8 @@ triple n from len = Ok (Some (record { id = n; from = from; len = len }))
 -- "triples of identifier, length, value": an identifier, a length, and as many octets as it says
 unfoldable pub stands_in : ℕ → List ℕ → Stands
 stands_in at [] = end
-stands_in at (n ∷ []) = broken
-stands_in at (n ∷ k ∷ xs) = cond (leb k (length xs)) (triple n (at + 2) k) broken
+stands_in at (n ∷ []) = cut_short
+stands_in at (n ∷ k ∷ xs) = cond (leb k (length xs)) (triple n (at + 2) k) cut_short
 
 unfoldable pub stands_at : List ℕ → ℕ → Stands
 stands_at s at = stands_in at (drop at s)

@@ -14,7 +14,7 @@ use Rattle.refusal.proofs.Answers.{answered-here, answered-later}
 use Rattle.frame.specs.Line.{flag}
 use Rattle.frame.specs.Decode.{framed}
 use Rattle.receiver.specs.Held.{Held, Usable, held_of, places, open_marks, after_flag, after_octet, stretched, closes, stretch_says}
-use Rattle.receiver.specs.Call.{handed, takes, Receives, handed_of, heard_of, count_of, told_by, took_by, held_by, out_by, told_counted, out_told}
+use Rattle.receiver.specs.Call.{handed, takes, Receives, handed_of, heard_of, code_took, told_by, took_by, held_by, out_by, told_counted, out_told}
 use Rattle.receiver.specs.Pieces.{further_by, Passes}
 use Rattle.receiver.specs.declared.Receiver.{Receiver}
 
@@ -39,7 +39,7 @@ place-free h u n = omega (arith, u.0, u.1, n)
 module _ (N : ℕ) (h g : Held) (s o : List ℕ) {k : ℕ} (p : Passes h s k g) where
   pub all-taken : length s ≤ k → Receives (gives (takes N (length o) h s)) h o
       (Ok (record { taken = k; handed = None })) g o
-  unfolding takes further_by handed_of heard_of count_of told_by took_by held_by out_by told_counted out_told
+  unfolding takes further_by handed_of heard_of code_took told_by took_by held_by out_by told_counted out_told
   all-taken e =
       let over = p.same N (length o) ∙ ap (λ (t : List ℕ). further_by k (takes N (length o) g t)) (drop_of_length-le s e) in
       rw over
@@ -50,7 +50,7 @@ module _ (N : ℕ) (h g : Held) (s o : List ℕ) {k : ℕ} (p : Passes h s k g) 
       → Hands (stretch_says N (length o) g) o a o'
       → Receives (gives (takes N (length o) h s)) h o
       (Ok (record { taken = k + 1; handed = Some a })) (held_of open_marks g.store) o'
-  unfolding takes further_by handed_of heard_of count_of told_by took_by held_by out_by told_counted out_told after_octet after_flag closes
+  unfolding takes further_by handed_of heard_of code_took told_by took_by held_by out_by told_counted out_told after_octet after_flag closes
   flag-closes i e f w =
       let here : drop k s ≡ flag ∷ drop (k + 1) s = rest s k i ∙ ap (λ (x : ℕ). x ∷ drop (k + 1) s) e in
       let over = p.same N (length o) ∙ ap (λ (t : List ℕ). further_by k (takes N (length o) g t)) here in

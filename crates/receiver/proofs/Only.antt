@@ -9,7 +9,7 @@ use Rattle.refusal.specs.Answer.{Answer}
 use Rattle.refusal.proofs.Answers.{gives_same, gives-not-refuses, refuses-same}
 use Rattle.refusal.proofs.Only.{number-apart, answer-apart}
 use Rattle.receiver.specs.Held.{Held, held_of}
-use Rattle.receiver.specs.Call.{nothing, handed, Took, handed_of, heard_of, count_of, Receives}
+use Rattle.receiver.specs.Call.{nothing, handed, Took, handed_of, heard_of, code_took, Receives}
 use Rattle.receiver.specs.declared.Received.{Received}
 use Rattle.refusal.specs.declared.Refusal.{Refusal}
 use Rattle.receiver.proofs.new.Reads as new-reads
@@ -30,8 +30,8 @@ handed-apart (Some a) None e = absurd (nothing-not-handed (sym e))
 handed-apart (Some a) (Some b) e = ap Some (answer-apart a b (handed-same e))
 
 -- what was heard and how many octets were taken is the whole answer
-pub heard-apart : (r q : Result Received Refusal) → heard_of r ≡ heard_of q → count_of r ≡ count_of q → r ≡ q
-unfolding heard_of count_of
+pub heard-apart : (r q : Result Received Refusal) → heard_of r ≡ heard_of q → code_took r ≡ code_took q → r ≡ q
+unfolding heard_of code_took
 heard-apart (Ok c) (Ok d) e f =
     ap₂ (λ (k : ℕ) (a : Option (Result ℕ Refusal)). Ok (record { taken = k; handed = a })) f
     (handed-apart c.handed d.handed (gives_same e))

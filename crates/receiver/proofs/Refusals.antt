@@ -13,7 +13,7 @@ use Rattle.refusal.proofs.Answers.{answered-here, answered-later}
 use Rattle.refusal.proofs.Exactly.{exactly-given}
 use Rattle.limits.specs.Limits.{is_limit, frame_most}
 use Rattle.receiver.specs.Held.{Held, places}
-use Rattle.receiver.specs.Call.{Took, takes, receive_rows, received, heard_of, count_of, told_by, took_by, held_by, out_by, Receives}
+use Rattle.receiver.specs.Call.{Took, takes, receive_rows, received, heard_of, code_took, told_by, took_by, held_by, out_by, Receives}
 use Rattle.receiver.specs.declared.Received.{Received}
 
 module _ (N : ℕ) (h : Held) (s : List ℕ) (room : ℕ) where
@@ -60,7 +60,7 @@ module _ (N : ℕ) (h : Held) (s : List ℕ) (room : ℕ) where
 -- nothing is taken, and nothing is changed
 pub refused-call : {x : Answer Took} {h : Held} {o : List ℕ} (k : Refusal) → x ≡ refuses (number_of k)
     → Receives x h o (Err k) h o
-unfolding heard_of count_of told_by took_by held_by out_by
+unfolding heard_of code_took told_by took_by held_by out_by
 refused-call k e = rw e (record { answer = refl; count = refl; held = refl; octets = refl })
 
 -- the same answer, written otherwise

@@ -7,7 +7,7 @@
 --   receive_rows N h room == the rows of the numbers for a call that takes nothing
 --   received N h s room == the answer to the call
 --   handed_of q, heard_of r == what the code tells, in the paper's numbers; told_counted, told_by == what it should tell
---   count_of r       == how many octets the code took: of a refused call none
+--   code_took r       == how many octets the code took: of a refused call none
 --   took_by x, held_by x h, out_told, out_by x o == how many octets are taken, the record and the output after the
 --                                                   answer x
 --   Receives x h o r g o' == the code's answer r, the record g and the output o', of a call with the record h and the output
@@ -63,9 +63,9 @@ unfoldable pub heard_of : Result Received Refusal → Answer (Told ℕ)
 heard_of (Ok c) = gives (handed_of c.handed)
 heard_of (Err r) = refuses (number_of r)
 
-unfoldable pub count_of : Result Received Refusal → ℕ
-count_of (Ok c) = c.taken
-count_of (Err r) = 0
+unfoldable pub code_took : Result Received Refusal → ℕ
+code_took (Ok c) = c.taken
+code_took (Err r) = 0
 
 unfoldable pub told_counted : Told (List ℕ) → Told ℕ
 told_counted nothing = nothing
@@ -96,6 +96,6 @@ out_by (refuses k) o = o
 
 pub record Receives (right : Answer Took) (h : Held) (o : List ℕ) (r : Result Received Refusal) (g : Held) (o' : List ℕ) : Type 0 where
   pub answer : heard_of r ≡ told_by right
-  pub count : count_of r ≡ took_by right
+  pub count : code_took r ≡ took_by right
   pub held : g ≡ held_by right h
   pub octets : o' ≡ out_by right o

@@ -14,7 +14,7 @@ use Rattle.limits.specs.Limits.{is_limit, limit_most, frame_most}
 use Rattle.limits.proofs.Exactly.{is-limit-exactly}
 use Rattle.frame.specs.Line.{flag}
 use Rattle.receiver.specs.Held.{Held, held_of, after_flag, after_octet, stretched, closes, stretch_says}
-use Rattle.receiver.specs.Call.{nothing, handed, Took, further, takes, received, handed_of, heard_of, count_of, told_counted, told_by, took_by, held_by}
+use Rattle.receiver.specs.Call.{nothing, handed, Took, further, takes, received, handed_of, heard_of, code_took, told_counted, told_by, took_by, held_by}
 use Rattle.receiver.specs.Call.{Receives}
 use Rattle.receiver.specs.Pieces.{further_by}
 use Rattle.receiver.proofs.After.{after-flag, closes-other}
@@ -24,10 +24,9 @@ use Rattle.receiver.specs.declared.Receiver.{Receiver}
 use Rattle.receiver.specs.declared.Received.{Received}
 use Rattle.salvage.specs.Holding.{Holding, holding_of, receiver_in, Workable, raw_most, add64, grown_by, with_octet}
 use Rattle.salvage.specs.Holding.{said_verdict, verdict_of, past_flag}
-use Rattle.salvage.specs.Pieces.{with_all, up_to, gathered_in, verdict_in, Gathers, handed_verdict, passed_verdict, heard_verdict}
+use Rattle.salvage.specs.Pieces.{with_all, up_to, gathered_in, verdict_in, Gathered, Gathers, handed_verdict, passed_verdict, heard_verdict}
 use Rattle.salvage.specs.declared.OpenStretch.{OpenStretch}
 use Rattle.salvage.specs.declared.Totals.{Totals}
-use Rattle.salvage.specs.declared.Gathered.{Gathered}
 use Rattle.salvage.specs.declared.Verdict.{Verdict}
 use Rattle.salvage.specs.declared.Verdict.TheVariants.{Still, Dropped}
 
@@ -238,7 +237,7 @@ module _ (N : ℕ) (c : Holding) (q : List ℕ) (limit : is_limit N ≡ true) (f
     heeds = record { answer = gives_same (rw not-refused at took.answer); held = rw not-refused at took.held }
 
     pub heeds-count : r.taken ≡ (takes N (frame_most limit_most) (receiver_in c) q).count
-    unfolding count_of took_by
+    unfolding code_took took_by
     heeds-count = rw not-refused at took.count
 
 -- the octets up to the next flag, and the flag

@@ -20,10 +20,11 @@ use Rattle.salvage.specs.Holding.{Holding, holding_of, receiver_in, Workable, gr
 use Rattle.salvage.specs.Holding.{onward_from, flag_counted, stretch_over, behind_flag, past_flag, behind_flag_in, closed_by, first_flag, kept_octets}
 use Rattle.salvage.specs.Work.{a_stretch, Progress, in_front, at_flag, works, spare_most, stretch_of}
 use Rattle.salvage.specs.Work.{dropping_of, listing_of, taken_of, written_of, left_by, taken_by, wrote_by, holding_by, Salvages}
-use Rattle.salvage.specs.Pieces.{with_all, up_to, gathered_in, verdict_in, written_by, joined, Gathers, GathersAny}
+use Rattle.salvage.specs.Pieces.{with_all, up_to, gathered_in, verdict_in, written_by, joined, Gathered, gathered_with, Gathers, GathersAny}
 use Rattle.salvage.specs.Pieces.{followed, begun_by, flags_added, counted_by, settled_by, listed_by, goes_until}
 use Rattle.salvage.specs.declared.Salvage.{Salvage}
-use Rattle.salvage.specs.declared.Gathered.{Gathered}
+use Rattle.salvage.specs.declared.Touched.{Touched}
+use Rattle.receiver.specs.declared.Receiver.{Receiver}
 use Rattle.salvage.specs.declared.Verdict.{Verdict}
 use Rattle.salvage.specs.declared.Verdict.TheVariants.{Still, Empty, Kept, Dropped}
 use Rattle.salvage.specs.declared.Stretch.{Stretch}
@@ -481,8 +482,11 @@ module _ {N : ℕ} {c₀ : Holding} {s o₀ : List ℕ} {at put : ℕ} {c : Hold
     pub rest_some : 0 < length (take (length s - at) (drop at s))
     rest_some = rw (take_rest at s) (omega (arith, length-drop at s, going.2))
 
-    module _ {r : Gathered} {m w : List ℕ}
-        (any : GathersAny N c.salvage.receiver c.salvage.stretch c.store c.raw (take (length s - at) (drop at s)) (Ok r) m w) where
+    module _ {x : Touched} {q : Receiver} {m w : List ℕ}
+        (any : GathersAny N c.salvage.receiver c.salvage.stretch c.store c.raw (take (length s - at) (drop at s)) (Ok x) q m w) where
+      abbrev pub r : Gathered
+      r = gathered_with q x
+
       these : Gathers N c (drop at s) r m w
       these = rw (take_rest at s) at (any c.salvage.begun c.salvage.totals)
 

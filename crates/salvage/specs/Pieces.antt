@@ -3,7 +3,7 @@
 --   up_to s          == the octets before the first flag of s
 --   gathered_in c s, verdict_in N c s == what is carried after them and the receiver behind the flag; what becomes of
 --                       the open stretch: it stays open where s has no flag
---   joined v r       == v with what the octets touched;
+--   joined v r       == v with what the octets touched, gathered_with q x == that of the receiver q and the code's x;
 --                       holding_with, parts_of == a record of which only that is of interest
 --   Gathers N c s r m w == the code's answer r, and the stores m and w, are that, over the octets s up to and with a flag;
 --                       GathersAny == whatever else the record holds; no call is refused
@@ -32,7 +32,7 @@ use Rattle.salvage.specs.declared.Totals.{Totals}
 use Rattle.salvage.specs.declared.Salvage.{Salvage}
 use Rattle.salvage.specs.declared.Verdict.{Verdict}
 use Rattle.salvage.specs.declared.Verdict.TheVariants.{Still, Empty, Kept, Dropped}
-use Rattle.salvage.specs.declared.Gathered.{Gathered}
+use Rattle.salvage.specs.declared.Touched.{Touched}
 use Rattle.salvage.specs.declared.Stretch.{Stretch}
 
 unfoldable pub with_all : Holding → List ℕ → Holding
@@ -48,6 +48,13 @@ gathered_in c s = cond (holds flag s) (past_flag (with_all c (up_to s))) (with_a
 unfoldable pub verdict_in : ℕ → Holding → List ℕ → Verdict
 verdict_in N c s = cond (holds flag s) (verdict_of N (with_all c (up_to s))) Still
 
+-- what the octets touched, the receiver's record with the rest
+pub record Gathered : Type 0 where
+  pub receiver : Receiver
+  pub stretch : OpenStretch
+  pub taken : ℕ
+  pub verdict : Verdict
+
 -- v with what the octets touched
 abbrev pub joined : Salvage → Gathered → Salvage
 joined v r = record { receiver = r.receiver; stretch = r.stretch; begun = v.begun; totals = v.totals }
@@ -62,9 +69,12 @@ abbrev pub holding_with : Bool → Totals → Receiver → OpenStretch → List 
 holding_with b t r o m w = holding_of (record { receiver = r; stretch = o; begun = b; totals = t }) m w
 
 -- whatever else the record holds
-abbrev pub GathersAny : ℕ → Receiver → OpenStretch → List ℕ → List ℕ → List ℕ → Result Gathered Refusal → List ℕ → List ℕ → Type 0
-GathersAny N r₀ o m₀ w₀ s (Ok r) m w = (b : Bool) (t : Totals) → Gathers N (holding_with b t r₀ o m₀ w₀) s r m w
-GathersAny N r₀ o m₀ w₀ s (Err k) m w = ⊥
+abbrev pub gathered_with : Receiver → Touched → Gathered
+gathered_with r x = record { receiver = r; stretch = x.stretch; taken = x.taken; verdict = x.verdict }
+
+abbrev pub GathersAny : ℕ → Receiver → OpenStretch → List ℕ → List ℕ → List ℕ → Result Touched Refusal → Receiver → List ℕ → List ℕ → Type 0
+GathersAny N r₀ o m₀ w₀ s (Ok x) r m w = (b : Bool) (t : Totals) → Gathers N (holding_with b t r₀ o m₀ w₀) s (gathered_with r x) m w
+GathersAny N r₀ o m₀ w₀ s (Err k) r m w = ⊥
 
 abbrev pub parts_of : Receiver → OpenStretch → List ℕ → List ℕ → Holding
 parts_of = holding_with false no_totals

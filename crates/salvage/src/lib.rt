@@ -87,10 +87,9 @@ pub enum Verdict {
     Dropped(u8),
 }
 
-// The octets up to and with the next flag, or all: what they touch, how many, and what becomes of the stretch.
+// The octets up to and with the next flag, or all: the stretch with them, how many, and what becomes of it.
 #[derive(Clone, Copy)]
-pub struct Gathered {
-    receiver: Receiver,
+pub struct Touched {
     stretch: OpenStretch,
     taken: usize,
     verdict: Verdict,
@@ -184,23 +183,14 @@ fn tally(totals: Totals, length: u64, verdict: Verdict, n: u64) -> Totals
     }
 }
 
-// The record behind an open stretch, whatever becomes of it, and `n` flags behind it.
+// The record behind an open stretch, whatever becomes of it, and `n` flags behind it: the receiver stays.
 #[tactic(auto, unfolding(crate::specs::Pieces::settled_by))]
-fn settle(
-    salvage: Salvage,
-    receiver: Receiver,
-    stretch: OpenStretch,
-    verdict: Verdict,
-    n: u64,
-) -> Salvage
-    ensures { result ≡ settled_by n verdict receiver stretch salvage }
+fn settle(salvage: &mut Salvage, stretch: OpenStretch, verdict: Verdict, n: u64)
+    ensures { salvage.new ≡ settled_by n verdict salvage.old.receiver stretch salvage.old }
 {
-    Salvage {
-        receiver,
-        stretch: follow(stretch, verdict, n),
-        begun: begin(salvage.begun, verdict),
-        totals: tally(salvage.totals, stretch.length, verdict, n),
-    }
+    salvage.stretch = follow(stretch, verdict, n);
+    salvage.begun = begin(salvage.begun, verdict);
+    salvage.totals = tally(salvage.totals, stretch.length, verdict, n);
 }
 
 // What becomes of a stretch of which the receiver handed something out.
@@ -224,10 +214,10 @@ fn pass(length: u64) -> Verdict
 }
 
 // What becomes of the open stretch, by what was handed out at a flag, or before one.
-fn decide(handed: Option<Result<usize, Refusal>>, closed: bool, length: u64) -> Verdict
-    ensures { result ≡ heard_verdict handed closed length }
+fn decide(handed: &Option<Result<usize, Refusal>>, closed: bool, length: u64) -> Verdict
+    ensures { result ≡ heard_verdict handed.now closed length }
 {
-    match handed {
+    match *handed {
         None => {
             if closed {
                 return pass(length);
@@ -274,34 +264,27 @@ fn without_flag(run: &[u8], taken: usize) -> usize
 
 // Takes the octets up to and with the next flag, or all, and holds the raw ones before it.
 fn gather(
-    mut receiver: Receiver,
+    receiver: &mut Receiver,
     stretch: OpenStretch,
     limit: usize,
     run: &[u8],
     store: &mut [u8],
     raw: &mut [u8],
     frame: &mut [u8; LONGEST_FRAME],
-) -> Result<Gathered, Refusal>
-    requires { Workable (parts_of receiver stretch store.old raw.old) × (is_limit limit ≡ true) × (0 < length run.now) }
-    ensures { GathersAny limit receiver stretch store.old raw.old run.now result
-        store.new raw.new }
+) -> Result<Touched, Refusal>
+    requires { Workable (parts_of receiver.old stretch store.old raw.old) × (is_limit limit ≡ true) × (0 < length run.now) }
+    ensures { GathersAny limit receiver.old stretch store.old raw.old run.now result
+        receiver.new store.new raw.new }
 {
-    let lent = reach(receiver, run);
-    let received = receiver::receive_in(
-        &mut receiver,
-        limit,
-        octets::part(run, 0, lent),
-        store,
-        frame,
-    )?;
+    let lent = reach(*receiver, run);
+    let received = receiver::receive_in(receiver, limit, octets::part(run, 0, lent), store, frame)?;
     let taken = received.taken;
     let n = without_flag(run, taken);
     let grown = hold(stretch, octets::part(run, 0, n), raw);
-    Ok(Gathered {
-        receiver,
+    Ok(Touched {
         stretch: grown,
         taken,
-        verdict: decide(received.handed, n < taken, grown.length),
+        verdict: decide(&received.handed, n < taken, grown.length),
     })
 }
 
@@ -391,14 +374,16 @@ fn work(
         (holding_of salvage.new store.new raw.new) out.new }
 {
     let mut frame = [0u8; LONGEST_FRAME];
+    // A copy, which the compiler keeps at hand: what is lent would be stored anew behind every flag.
+    let mut held = *salvage;
     let mut left_out = None;
     let mut end = run.len();
     let mut at = 0;
     let mut put = 0;
     while at < end {
         let gathered = gather(
-            salvage.receiver,
-            salvage.stretch,
+            &mut held.receiver,
+            held.stretch,
             limit,
             &run[at..],
             store,
@@ -407,11 +392,12 @@ fn work(
         )?;
         let verdict = gathered.verdict;
         at += gathered.taken;
-        put = write_kept(verdict, salvage.begun, gathered.stretch.held, raw, out, put);
+        put = write_kept(verdict, held.begun, gathered.stretch.held, raw, out, put);
         left_out = list(gathered.stretch, verdict);
         end = until(verdict, at, end);
-        *salvage = settle(*salvage, gathered.receiver, gathered.stretch, verdict, 1);
+        settle(&mut held, gathered.stretch, verdict, 1);
     }
+    *salvage = held;
     Ok(Salvaged {
         taken: at,
         written: put,
@@ -469,7 +455,10 @@ fn emptied(salvage: Salvage, verdict: Verdict) -> Salvage
     requires { verdict ≡ end_verdict salvage }
     ensures { result ≡ emptied verdict salvage }
 {
-    settle(salvage, receiver::new(), salvage.stretch, verdict, 0)
+    let mut left = salvage;
+    left.receiver = receiver::new();
+    settle(&mut left, salvage.stretch, verdict, 0);
+    left
 }
 
 // The last call, behind all octets: what stands behind the last flag, or the whole where there is none, is left out.

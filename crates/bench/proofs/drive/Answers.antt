@@ -1,10 +1,9 @@
--- `drive` meets its promise: the row of the command. Assumes nothing.
-use Rattle.bench.specs.Bench.{lent_of}
-use Rattle.bench.proofs.Laws.{driven-is}
+-- `drive` meets its promise: what `drives` promises, of the octets that the line has. Assumes nothing.
+use Rattle.bench.proofs.Laws.{driven-said, driven-row}
 use Rattle.bench.proofs.drive.Goals as goal
 
 pub returns : goal.returns
-unfolding lent_of
 returns c =
     let a = c.args in
-    driven-is a.asked.command a.row a.asked c.part-hex.ensures c.front-front.ensures c.obey-answer.ensures
+    let said = driven-said a.asked.command a.row a.asked c.part-hex.ensures c.min-room.ensures c.obey-answer.ensures in
+    record { row = driven-row a.asked.command a.row a.asked said; said = said }

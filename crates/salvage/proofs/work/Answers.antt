@@ -1,5 +1,6 @@
 -- `salvage::work` meets its promise: up to the place where it stands nothing was left out. Assumes nothing.
 use Rattle.std.proofs.Common.{arith}
+use Rattle.salvage.specs.Pieces.{settled_by}
 use Rattle.salvage.proofs.Going.{turns-none, turns-over, going, inside, rest_some, turn-few, turn-less, turn-held, turn-fits, turn_on}
 use Rattle.salvage.proofs.work.Goals as goal
 
@@ -31,6 +32,7 @@ pub loop-at-smaller : goal.loop-at-smaller
 loop-at-smaller c = turn-less c.loop-at.invariant c.loop-at-test.true (rw c.in_ok-gathered.was at c.gather.ensures)
 
 pub loop-at-preserved : goal.loop-at-preserved
+unfolding settled_by
 loop-at-preserved c =
     turn_on c.loop-at.invariant c.loop-at-test.true (rw c.in_ok-gathered.was at c.gather.ensures) c.write_kept-put.ensures
     c.list-left_out.ensures c.until-end.ensures c.settle.ensures

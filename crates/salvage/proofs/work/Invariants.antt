@@ -7,7 +7,7 @@ use Rattle.salvage.proofs.work.Given as goal
 abbrev pub invariant-loop-at : goal.invariant-loop-at
 invariant-loop-at l =
     Turns l.limit (holding_of l.initial.salvage l.initial.store l.initial.raw) l.run l.initial.out l.at l.put
-    (holding_of l.salvage l.store l.raw) l.out l.left_out l.end
+    (holding_of l.held l.store l.raw) l.out l.left_out l.end
 
 abbrev pub decreases-loop-at : goal.decreases-loop-at
 decreases-loop-at l = length l.run - l.at
