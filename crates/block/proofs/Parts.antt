@@ -1,12 +1,16 @@
 -- Octets that fill a part of the block, and what the parts make of the whole. Assumes nothing.
-use mathlib.Core.Path.{◌≡◌, sym, ap, ap₂, ◌∙◌}
+use mathlib.Core.Path.{◌≡◌, refl, sym, ap, ap₂, ◌∙◌}
+use mathlib.Core.Bool.{Bool, true, false}
+use mir.Val.{bool_byte}
 use Rattle.std.proofs.Common.{Ok, Err}
 use mathlib.Core.List.{List, ◌++◌, append-nil}
 use Prim.Native.Nat.{ℕ, ◌-◌}
 use native.Mathlib.Omega.{arith}
 use borrow.Rule.Slice.PartMut.{put_mid}
 use lib.ListN.{length, take, drop, drop_of_length-le, length-append, length-drop, take-append-drop}
-use lib.Seq.{take-append_seam, drop-append_seam}
+use lib.Seq.{sets, take-append_seam, drop-append_seam}
+use Rattle.octets.specs.Octets.{◌at_start_of◌}
+use Rattle.octets.proofs.Stores.{sets-start}
 use Rattle.octets.proofs.Takes.{take_rest}
 use Rattle.refusal.specs.Answer.{Answer, gives, refuses}
 use Rattle.refusal.specs.declared.Refusal.{Refusal}
@@ -15,7 +19,21 @@ use Rattle.receiver.specs.declared.Receiver.{Receiver}
 use Rattle.receiver.specs.declared.Received.{Received}
 use Rattle.receiver.specs.Held.{Held, held_of, places}
 use Rattle.receiver.specs.Call.{Took, heard_of, told_by, held_by, Receives}
-use Rattle.block.specs.Block.{block_size, marks_in, marks_octets, held_in, block_after, Blocks}
+use Rattle.block.specs.Block.{block_size, marks_in, yes_octet, marks_octets, held_in, block_after, Blocks}
+
+-- the octet of a yes or a no, as the library writes it
+pub yes_byte : (b : Bool) → bool_byte b ≡ yes_octet b
+unfolding yes_octet
+yes_byte true = refl
+yes_byte false = refl
+
+-- as many octets as there are places
+pub sets-whole : (b o : List ℕ) → length b ≡ length o → sets o 0 b ≡ b
+unfolding ◌at_start_of◌
+sets-whole b o e =
+    sets-start b o (omega arith)
+    ∙ ap (λ (l : List ℕ). b ++ l) (drop_of_length-le o {i = length b} (omega arith))
+    ∙ append-nil b
 
 -- the record that the block holds, as the code lends its parts
 pub held-parts : (b : List ℕ) {r : Receiver} → r ≡ marks_in (take (length b - places) (drop places b))
