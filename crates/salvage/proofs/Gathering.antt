@@ -24,7 +24,7 @@ use Rattle.receiver.specs.declared.Receiver.{Receiver}
 use Rattle.receiver.specs.declared.Received.{Received}
 use Rattle.salvage.specs.Holding.{Holding, holding_of, receiver_in, Workable, raw_most, add64, grown_by, with_octet}
 use Rattle.salvage.specs.Holding.{said_verdict, verdict_of, past_flag}
-use Rattle.salvage.specs.Pieces.{with_all, up_to, gathered_in, verdict_in, Gathered, Gathers, handed_verdict, passed_verdict, heard_verdict}
+use Rattle.salvage.specs.Pieces.{with_all, up_to, gathered_in, verdict_in, Touched, Gathers, handed_verdict, passed_verdict, heard_verdict}
 use Rattle.salvage.specs.declared.OpenStretch.{OpenStretch}
 use Rattle.salvage.specs.declared.Totals.{Totals}
 use Rattle.salvage.specs.declared.Verdict.{Verdict}
@@ -210,7 +210,7 @@ holding-is : {r r' : Receiver} {t t' : OpenStretch} {b b' : Bool} {u u' : Totals
 holding-is er et eb eu em ew = rw (er, et, eb, eu, em, ew)
 
 -- what the code makes of what the receiver said
-abbrev pub code-says : Receiver → OpenStretch → ℕ → Verdict → Gathered
+abbrev pub code-says : Receiver → OpenStretch → ℕ → Verdict → Touched
 code-says r t k f = record { receiver = r; stretch = t; taken = k; verdict = f }
 
 -- what a call of the receiver tells, and what it leaves, where it is not refused

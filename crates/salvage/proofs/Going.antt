@@ -20,10 +20,10 @@ use Rattle.salvage.specs.Holding.{Holding, holding_of, receiver_in, Workable, gr
 use Rattle.salvage.specs.Holding.{onward_from, flag_counted, stretch_over, behind_flag, past_flag, behind_flag_in, closed_by, first_flag, kept_octets}
 use Rattle.salvage.specs.Work.{a_stretch, Progress, in_front, at_flag, works, spare_most, stretch_of}
 use Rattle.salvage.specs.Work.{dropping_of, listing_of, taken_of, written_of, left_by, taken_by, wrote_by, holding_by, Salvages}
-use Rattle.salvage.specs.Pieces.{with_all, up_to, gathered_in, verdict_in, written_by, joined, Gathered, gathered_with, Gathers, GathersAny}
+use Rattle.salvage.specs.Pieces.{with_all, up_to, gathered_in, verdict_in, written_by, joined, Touched, gathered_with, Gathers, GathersAny}
 use Rattle.salvage.specs.Pieces.{followed, begun_by, flags_added, counted_by, settled_by, listed_by, goes_until}
 use Rattle.salvage.specs.declared.Salvage.{Salvage}
-use Rattle.salvage.specs.declared.Touched.{Touched}
+use Rattle.salvage.specs.declared.Gathered.{Gathered}
 use Rattle.receiver.specs.declared.Receiver.{Receiver}
 use Rattle.salvage.specs.declared.Verdict.{Verdict}
 use Rattle.salvage.specs.declared.Verdict.TheVariants.{Still, Empty, Kept, Dropped}
@@ -113,7 +113,7 @@ empty-open : Empty ≡ Still → ⊥
 empty-open e = let w : ◌≡◌ {A = ℕ} 1 0 = ap (tag_of the_type) e in omega arith
 
 -- what was gathered, and what is made of it
-module _ (N : ℕ) (c : Holding) (u : List ℕ) {r : Gathered} {m w : List ℕ} (g : Gathers N c u r m w) where
+module _ (N : ℕ) (c : Holding) (u : List ℕ) {r : Touched} {m w : List ℕ} (g : Gathers N c u r m w) where
   taken-still : holds flag u ≡ false → (r.taken ≡ length u) × (r.verdict ≡ Still) × (holding_of (joined c.salvage r) m w ≡ with_all c (up_to u))
   unfolding verdict_in gathered_in
   taken-still f = (
@@ -257,7 +257,7 @@ pub record Weighs (c : Holding) (n : ℕ) (h : Holding) : Type 0 where
   pub begun : h.salvage.begun ≡ c.salvage.begun
   pub held : h.salvage.stretch.held ≤ c.salvage.stretch.held + n
 
-module _ (N : ℕ) (c : Holding) (u : List ℕ) {r : Gathered} {m w : List ℕ} (g : Gathers N c u r m w) (fits : Workable c) where
+module _ (N : ℕ) (c : Holding) (u : List ℕ) {r : Touched} {m w : List ℕ} (g : Gathers N c u r m w) (fits : Workable c) where
   all-weighs : Weighs c (place_of flag u) (with_all c (up_to u))
   all-weighs =
       let long : length (up_to u) ≤ place_of flag u = omega (arith, length-take (place_of flag u) u) in
@@ -324,7 +324,7 @@ out-length {o₀ = o₀} gone = ap length gone.puts.octets ∙ length-sets o₀ 
 
 -- what was gathered from the place at on
 module _ {N : ℕ} {c₀ : Holding} {s o₀ : List ℕ} {at put : ℕ} {c : Holding} {o : List ℕ} (gone : Gone N c₀ s o₀ at put c o)
-    {r : Gathered} {m w : List ℕ} (g : Gathers N c (drop at s) r m w) where
+    {r : Touched} {m w : List ℕ} (g : Gathers N c (drop at s) r m w) where
   left-length : length (drop at s) ≡ length s - at
   left-length = length-drop at s
 
@@ -437,7 +437,7 @@ gone-all {N} {s = s} {o₀ = o₀} {at = at} {c = c} gone all =
     })
 
 -- the record that the code puts together
-settled_is : (f : Verdict) (v : Salvage) (r : Gathered) → settled_by 1 f r.receiver r.stretch v ≡ behind_flag f (joined v r)
+settled_is : (f : Verdict) (v : Salvage) (r : Touched) → settled_by 1 f r.receiver r.stretch v ≡ behind_flag f (joined v r)
 unfolding settled_by followed begun_by counted_by flags_added behind_flag stretch_over flag_counted
 settled_is Still v r = refl
 settled_is Empty v r = refl
@@ -482,9 +482,9 @@ module _ {N : ℕ} {c₀ : Holding} {s o₀ : List ℕ} {at put : ℕ} {c : Hold
     pub rest_some : 0 < length (take (length s - at) (drop at s))
     rest_some = rw (take_rest at s) (omega (arith, length-drop at s, going.2))
 
-    module _ {x : Touched} {q : Receiver} {m w : List ℕ}
+    module _ {x : Gathered} {q : Receiver} {m w : List ℕ}
         (any : GathersAny N c.salvage.receiver c.salvage.stretch c.store c.raw (take (length s - at) (drop at s)) (Ok x) q m w) where
-      abbrev pub r : Gathered
+      abbrev pub r : Touched
       r = gathered_with q x
 
       these : Gathers N c (drop at s) r m w

@@ -32,7 +32,7 @@ use Rattle.salvage.specs.declared.Totals.{Totals}
 use Rattle.salvage.specs.declared.Salvage.{Salvage}
 use Rattle.salvage.specs.declared.Verdict.{Verdict}
 use Rattle.salvage.specs.declared.Verdict.TheVariants.{Still, Empty, Kept, Dropped}
-use Rattle.salvage.specs.declared.Touched.{Touched}
+use Rattle.salvage.specs.declared.Gathered.{Gathered}
 use Rattle.salvage.specs.declared.Stretch.{Stretch}
 
 unfoldable pub with_all : Holding → List ℕ → Holding
@@ -49,17 +49,17 @@ unfoldable pub verdict_in : ℕ → Holding → List ℕ → Verdict
 verdict_in N c s = cond (holds flag s) (verdict_of N (with_all c (up_to s))) Still
 
 -- what the octets touched, the receiver's record with the rest
-pub record Gathered : Type 0 where
+pub record Touched : Type 0 where
   pub receiver : Receiver
   pub stretch : OpenStretch
   pub taken : ℕ
   pub verdict : Verdict
 
 -- v with what the octets touched
-abbrev pub joined : Salvage → Gathered → Salvage
+abbrev pub joined : Salvage → Touched → Salvage
 joined v r = record { receiver = r.receiver; stretch = r.stretch; begun = v.begun; totals = v.totals }
 
-pub record Gathers (N : ℕ) (c : Holding) (s : List ℕ) (r : Gathered) (m w : List ℕ) : Type 0 where
+pub record Gathers (N : ℕ) (c : Holding) (s : List ℕ) (r : Touched) (m w : List ℕ) : Type 0 where
   pub count : r.taken ≡ min (place_of flag s + 1) (length s)
   pub verdict : r.verdict ≡ verdict_in N c s
   pub holding : holding_of (joined c.salvage r) m w ≡ gathered_in c s
@@ -69,10 +69,10 @@ abbrev pub holding_with : Bool → Totals → Receiver → OpenStretch → List 
 holding_with b t r o m w = holding_of (record { receiver = r; stretch = o; begun = b; totals = t }) m w
 
 -- whatever else the record holds
-abbrev pub gathered_with : Receiver → Touched → Gathered
+abbrev pub gathered_with : Receiver → Gathered → Touched
 gathered_with r x = record { receiver = r; stretch = x.stretch; taken = x.taken; verdict = x.verdict }
 
-abbrev pub GathersAny : ℕ → Receiver → OpenStretch → List ℕ → List ℕ → List ℕ → Result Touched Refusal → Receiver → List ℕ → List ℕ → Type 0
+abbrev pub GathersAny : ℕ → Receiver → OpenStretch → List ℕ → List ℕ → List ℕ → Result Gathered Refusal → Receiver → List ℕ → List ℕ → Type 0
 GathersAny N r₀ o m₀ w₀ s (Ok x) r m w = (b : Bool) (t : Totals) → Gathers N (holding_with b t r₀ o m₀ w₀) s (gathered_with r x) m w
 GathersAny N r₀ o m₀ w₀ s (Err k) r m w = ⊥
 

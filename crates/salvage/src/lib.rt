@@ -89,7 +89,7 @@ pub enum Verdict {
 
 // The octets up to and with the next flag, or all: the stretch with them, how many, and what becomes of it.
 #[derive(Clone, Copy)]
-pub struct Touched {
+pub struct Gathered {
     stretch: OpenStretch,
     taken: usize,
     verdict: Verdict,
@@ -271,7 +271,7 @@ fn gather(
     store: &mut [u8],
     raw: &mut [u8],
     frame: &mut [u8; LONGEST_FRAME],
-) -> Result<Touched, Refusal>
+) -> Result<Gathered, Refusal>
     requires { Workable (parts_of receiver.old stretch store.old raw.old) × (is_limit limit ≡ true) × (0 < length run.now) }
     ensures { GathersAny limit receiver.old stretch store.old raw.old run.now result
         receiver.new store.new raw.new }
@@ -281,7 +281,7 @@ fn gather(
     let taken = received.taken;
     let n = without_flag(run, taken);
     let grown = hold(stretch, octets::part(run, 0, n), raw);
-    Ok(Touched {
+    Ok(Gathered {
         stretch: grown,
         taken,
         verdict: decide(&received.handed, n < taken, grown.length),
