@@ -178,22 +178,25 @@ module _ (c : ℕ) (s : Scan) (a : Asked) (room : ℕ) {o o' : List ℕ} {r : Re
 
 -- ---- the row
 
+-- a row of 600 of which so many octets as ROOM says are lent: what they hold, and the row with what stands in them now
+module _ (a : Asked) {n : ℕ} (f : n ≡ min (value_in a 3) 600) where
+  lent-filled : take n (replicate 600 0xA5) ≡ lent_of (value_in a 3)
+  unfolding lent_of
+  lent-filled = rw f (take_min (value_in a 3) (replicate 600 0xA5))
+
+  lent-back : {o r : List ℕ} → o ≡ r → o ++ drop n (replicate 600 0xA5) ≡ back_in (value_in a 3) r
+  lent-back e = ap₂ (λ (x y : List ℕ). x ++ y) e (rw f (drop_min (value_in a 3) (replicate 600 0xA5)))
+
 pub driven-said : (c : ℕ) (row : Row) (a : Asked) {os o' : List ℕ} {w : Row} {r : Response} {n : ℕ} → os ≡ hex_in a
     → n ≡ min (value_in a 3) 600 → Obeys (obeyed c row a.values os (take n (replicate 600 0xA5))) w r o'
     → Drives (row_says c row a) (value_in a 3) (record { row = w; answer = r; lent = o' ++ drop n (replicate 600 0xA5) })
-unfolding lent_of
-driven-said c row a {os} {o'} {w} {r} {n} e f h = record { after = h.after ∙ ap (λ (x : Came). x.after) same; lent = whole }
+driven-said c row a {os} {n = n} e f h = record {
+  after = h.after ∙ ap (λ (x : Came). x.after) same;
+  lent = lent-back a f (h.lent ∙ ap (λ (x : Came). x.lent) same);
+}
   where
-    filled : take n (replicate 600 0xA5) ≡ lent_of (value_in a 3)
-    filled = rw f (take_min (value_in a 3) (replicate 600 0xA5))
-
     same : obeyed c row a.values os (take n (replicate 600 0xA5)) ≡ row_says c row a
-    same = ap₂ (λ (os o : List ℕ). obeyed c row a.values os o) e filled
-
-    whole : o' ++ drop n (replicate 600 0xA5) ≡ back_in (value_in a 3) (row_says c row a).lent
-    whole =
-        ap₂ (λ (x y : List ℕ). x ++ y) (h.lent ∙ ap (λ (x : Came). x.lent) same)
-        (rw f (drop_min (value_in a 3) (replicate 600 0xA5)))
+    same = ap₂ (λ (os o : List ℕ). obeyed c row a.values os o) e (lent-filled a f)
 
 pub driven-row : (c : ℕ) (row : Row) (a : Asked) {n : ℕ} {d : Driven} → Drives (row_says c row a) n d → d.row ≡ row_driven c row a
 unfolding row_driven
@@ -221,13 +224,9 @@ lent-room room h = omega (arith, h, length-take {A = ℕ} room (replicate 600 0x
 module _ (h : Held) (a : Asked) {os o' : List ℕ} {g : Held} {r : Result Received Refusal} {n : ℕ} (e : os ≡ hex_in a)
     (f : n ≡ min (value_in a 3) 600)
     (t : Receives (received (value_in a 1) h os (length {A = ℕ} (take n (replicate 600 0xA5)))) h (take n (replicate 600 0xA5)) r g o') where
-  filled : take n (replicate 600 0xA5) ≡ lent_of (value_in a 3)
-  unfolding lent_of
-  filled = rw f (take_min (value_in a 3) (replicate 600 0xA5))
-
   same : received (value_in a 1) h os (length {A = ℕ} (take n (replicate 600 0xA5))) ≡ ear_call h a
   unfolding ear_call
-  same = ap₂ (λ (os o : List ℕ). received (value_in a 1) h os (length o)) e filled
+  same = ap₂ (λ (os o : List ℕ). received (value_in a 1) h os (length o)) e (lent-filled a f)
 
   pub ear-held : g ≡ held_by (ear_call h a) h
   ear-held = t.held ∙ ap (λ (x : Answer Took). held_by x h) same
@@ -237,10 +236,7 @@ module _ (h : Held) (a : Asked) {os o' : List ℕ} {g : Held} {r : Result Receiv
   ear-said ear = record {
     answer = t.answer ∙ ap told_by same;
     count = t.count ∙ ap took_by same;
-    lent =
-        ap₂ (λ (x y : List ℕ). x ++ y)
-        (t.octets ∙ ap₂ (λ (x : Answer Took) (o : List ℕ). out_by x o) same filled)
-        (rw f (drop_min (value_in a 3) (replicate 600 0xA5)));
+    lent = lent-back a f (t.octets ∙ ap₂ (λ (x : Answer Took) (o : List ℕ). out_by x o) same (lent-filled a f));
   }
 
 module _ (c : ℕ) (h : Held) (a : Asked) where

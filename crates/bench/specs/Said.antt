@@ -1,7 +1,7 @@
 -- What is handed on to be said of a command to the row, and of a call of the receiver.
 --   back_in room o   == the whole of a row of which so many octets were lent, with what stands in them now
---   Drives right n d == the row, the answer and the lent output of d are what is right, of n octets lent
---   Calls right n c  == what the call told and the lent output of c are what is right, of n octets lent
+--   Drives right n d == the row, the answer and the lent output of d are what is right, of n octets lent, 600 at most
+--   Calls right n c  == what the call told and the lent output of c are what is right, of n octets lent, 600 at most
 -- Assumes nothing.
 use Rattle.std.specs.Prelude.{◌≡◌, ℕ, List, ◌++◌, drop, replicate}
 use Rattle.refusal.specs.Answer.{Answer}

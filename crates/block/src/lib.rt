@@ -46,7 +46,7 @@ fn put_marks(receiver: Receiver, t: &mut [u8])
     ensures { t.new ≡ marks_octets receiver }
 {
     let [low, high, ..] = receiver.count.to_le_bytes();
-    // One by one: as one row, they are put together in memory first, and a run of one octet takes half as long again.
+    // One by one: as one row, they are put together in memory first, and a run of one octet takes a quarter longer or more.
     t[0] = low;
     t[1] = high;
     t[2] = yes_octet(receiver.more);
